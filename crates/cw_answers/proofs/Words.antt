@@ -6,7 +6,7 @@ use Rattle.std.specs.Char.{is_ascii_digit}
 use Rattle.std.specs.Fmt.{signed_decimal}
 use Rattle.std.proofs.Math.Facts.{to_z-of_z}
 use Rattle.std.proofs.lemmas.Bool.{false≢true, and_parts, and_from}
-use Rattle.std.proofs.lemmas.List.Elements.{All-nil, All-cons}
+use Rattle.std.proofs.lemmas.List.Elements.{All-nil}
 use Rattle.cw_core.specs.Ranges.{is_spelling_byte}
 use Rattle.cw_certs.specs.declared.moves.Move.{Move}
 use Rattle.cw_certs.specs.declared.moves.Move.TheVariants.{Skip, Try, Grant, Refuse, On, Left, Right, Opened, Failed, Stop}
@@ -19,6 +19,7 @@ use Rattle.cw_text.proofs.Free.{free_from_test}
 use Rattle.cw_text_lines.specs.Lines.{StartsWith, Tell, AreTold}
 use Rattle.cw_text_lines.proofs.Starts.{starts_like, starts_unlike, starts_nowhere}
 use Rattle.cw_text_lines.proofs.Telling.{words_or_not, same_by, told_by}
+use Rattle.cw_text_lines.proofs.Separated.{more_free}
 use Rattle.cw_value.specs.Shown.{IsAnswer}
 use Rattle.cw_answers.specs.AnswerLines as line
 use Rattle.cw_answers.specs.AnswerLines.{AnswerLine, line_words, FitsValue, FitsLine}
@@ -59,9 +60,6 @@ record Parts (mark : ℕ) : Type 0 where
   sign : eqb 45 mark ≡ false
   spelling : is_spelling_byte mark ≡ false
   name : is_name_byte mark ≡ false
-
-more_free : (mark : ℕ) (a : List ℕ) (rest : List (List ℕ)) → IsFree mark a → All (IsFree mark) rest → All (IsFree mark) (a ∷ rest)
-more_free mark a rest h k = All-cons (IsFree mark) a rest h k
 
 none_free : (mark : ℕ) → All (IsFree mark) []
 none_free mark = All-nil (IsFree mark)

@@ -12,6 +12,7 @@ use Rattle.cw_certs.specs.declared.moves.Move.{Move}
 use Rattle.cw_audit_table.specs.declared.table.Group.{Group}
 use Rattle.cw_audit_table.specs.Tables.{AreFew, PlainGroup, Audit, row_of, group_of}
 use Rattle.cw_text.specs.Lines.{states_line, end_line}
+use Rattle.cw_text_lines.proofs.Starts.{line_end}
 use Rattle.cw_audit_text.specs.declared.text_line.TextLine.{TextLine}
 use Rattle.cw_audit_text.specs.declared.text_line.TextLine.TheVariants.{Head, States, Go, In, At, End}
 use Rattle.cw_audit_text.specs.declared.fault.AuditTextFault.TheVariants.{Line}
@@ -19,7 +20,6 @@ use Rattle.cw_audit_text.specs.TextLines.{line_text, whole_line, FitsLine}
 use Rattle.cw_audit_text.specs.AuditText.{head_line, verdict_line, row_line, group_lines, body_of, whole_lines, audit_text, FitsDistance, HasNoMoves, Spells}
 use Rattle.cw_audit_text.specs.Faults.{StartsWith, Begins, MayFollow, IsFault, no_line, no_end, IsCause, verdict_of}
 use Rattle.cw_audit_text.specs.Reading.{NoGroup, NoRow, StopsAt, StopsMoves}
-use Rattle.cw_audit_text.proofs.Lines.{line_end}
 use Rattle.cw_audit_text.proofs.Puts.{lines_two, lines_one, lines_none, lines_more}
 
 pub shorter : (text rest : List ℕ) (l : TextLine) → StartsWith text l rest → length rest < length text

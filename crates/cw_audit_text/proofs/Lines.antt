@@ -1,19 +1,17 @@
 -- A line's words, and which line has them.
-use Rattle.std.proofs.Common.{◌≡◌, ℕ, ◌^◌, ◌<◌, cond, List, [], ◌∷◌, ◌++◌, length, true, false, refl, sym, ap, ◌∙◌, subst, arith, append_assoc}
+use Rattle.std.proofs.Common.{◌≡◌, ℕ, cond, List, [], ◌∷◌, ◌++◌, length, refl, sym, ap, ◌∙◌, subst, arith}
 use Rattle.std.specs.Prelude.{None, Some, Option, codes, bytes_eq}
-use Rattle.std.specs.List.{All, list_all}
+use Rattle.std.specs.List.{All}
 use Rattle.std.specs.Char.{is_ascii_digit}
 use Rattle.std.specs.Fmt.{decimal}
-use Rattle.std.proofs.lemmas.Fmt.{decimal_injective}
-use Rattle.std.proofs.lemmas.List.Elements.{All-nil, All-cons}
-use Rattle.cw_core.specs.Ranges.{is_spelling_byte}
-use Rattle.cw_certs.specs.declared.moves.Move.{Move}
 use Rattle.cw_certs.specs.declared.moves.Move.TheVariants.{Skip, Try, Grant, Refuse, On, Left, Right, Opened, Failed, Stop}
-use Rattle.cw_text.specs.Lines.{IsFree, line, joined, words_of, Reads}
-use Rattle.cw_text.specs.Moves.{move_name, IsEnvironments}
+use Rattle.cw_text.specs.Lines.{IsFree, joined, words_of, Reads}
+use Rattle.cw_text.specs.Moves.{move_name}
 use Rattle.cw_text.proofs.Names.{move_of}
 use Rattle.cw_text.proofs.Cuts.{words-joined, joined-words}
-use Rattle.cw_text.proofs.Free.{free_from_test, one_line, no_line, decimal_free, joined_free}
+use Rattle.cw_text.proofs.Free.{free_from_test, one_line, no_line, joined_free}
+use Rattle.cw_text_lines.proofs.Separated.{Separates, space, lf, name_free, number_free, move_free, one_free, more_free, one_number}
+use Rattle.cw_text_lines.proofs.Starts.{line_end}
 use Rattle.cw_audit_text.specs.declared.text_line.TextLine.{TextLine}
 use Rattle.cw_audit_text.specs.declared.text_line.TextLine.TheVariants.{Head, States, Meets, Violates, Go, In, At, End}
 use Rattle.cw_audit_text.specs.declared.text_line.Kind.{Kind}
@@ -111,40 +109,6 @@ of_kind whole word rest k (Some l) e named reads = record {
 
 -- ---- words without the mark
 
-pub record Separates (mark : ℕ) : Type 0 where
-  pub digit : is_ascii_digit mark ≡ false
-  pub letter : is_spelling_byte mark ≡ false
-
-pub space : Separates 32
-space = record { digit = refl; letter = refl }
-
-pub lf : Separates 10
-lf = record { digit = refl; letter = refl }
-
-name_free : (mark : ℕ) → Separates mark → (name : List ℕ) → list_all is_spelling_byte name ≡ true → IsFree mark name
-name_free mark s name all = free_from_test is_spelling_byte mark name s.letter all
-
-number_free : (mark : ℕ) → Separates mark → (n : ℕ) → n < 2 ^ 32 → IsFree mark (decimal n)
-number_free mark s n small = decimal_free mark n s.digit (omega (arith, small))
-
-move_free : (mark : ℕ) → Separates mark → (by : Move) → IsEnvironments by → IsFree mark (move_name by)
-move_free mark s Grant fits = name_free mark s (codes "grant") refl
-move_free mark s Refuse fits = name_free mark s (codes "refuse") refl
-move_free mark s On fits = name_free mark s (codes "on") refl
-move_free mark s Left fits = name_free mark s (codes "left") refl
-move_free mark s Right fits = name_free mark s (codes "right") refl
-move_free mark s Opened fits = name_free mark s (codes "opened") refl
-move_free mark s Failed fits = name_free mark s (codes "failed") refl
-move_free mark s Skip fits = absurd fits
-move_free mark s Try fits = absurd fits
-move_free mark s Stop fits = absurd fits
-
-one_free : (mark : ℕ) (a : List ℕ) → IsFree mark a → All (IsFree mark) (a ∷ [])
-one_free mark a h = All-cons (IsFree mark) a [] h (All-nil (IsFree mark))
-
-more_free : (mark : ℕ) (a : List ℕ) (rest : List (List ℕ)) → IsFree mark a → All (IsFree mark) rest → All (IsFree mark) (a ∷ rest)
-more_free mark a rest h k = All-cons (IsFree mark) a rest h k
-
 pub words_free : (mark : ℕ) → Separates mark → (l : TextLine) → FitsLine l → All (IsFree mark) (line_words l)
 words_free mark s Head fits =
     more_free mark (codes "capweave") (codes "audit" ∷ codes "1" ∷ []) (name_free mark s (codes "capweave") refl)
@@ -181,9 +145,6 @@ from_words text words (Some l) e reads = record { some = (reads.some.0, ap (join
 
 -- ---- the text begins with a line
 
-pub line_end : (a rest : List ℕ) → line a ++ rest ≡ a ++ (10 ∷ rest)
-line_end a rest = append_assoc a (codes "\n") rest
-
 -- the text begins with this line, and this is behind it
 pub starts : (text l rest : List ℕ) (said : TextLine) → text ≡ l ++ (10 ∷ rest) → Reads FitsLine line_text l (Some said) → StartsWith text said rest
 starts text l rest said e reads = record {
@@ -197,10 +158,6 @@ starts_nowhere text more said free s = no_line 10 text (line_text said) more fre
 pub starts_otherwise : (text l rest more : List ℕ) (said : TextLine) → text ≡ l ++ (10 ∷ rest) → IsFree 10 l → Reads FitsLine line_text l None → StartsWith text said more → ⊥
 starts_otherwise text l rest more said e free reads s =
     reads.none said s.fits (sym (one_line 10 l (line_text said) rest more free (text_free said s.fits) (sym e ∙ s.spelled ∙ line_end (line_text said) more)).0)
-
--- two lines with which a text begins are one
-one_number : (a b : ℕ) → a < 2 ^ 32 → b < 2 ^ 32 → decimal a ≡ decimal b → a ≡ b
-one_number a b small also e = decimal_injective a b (omega (arith, small)) (omega (arith, also)) e
 
 one_rest : (a b : TextLine) → FitsLine a → FitsLine b → kind_in a ≡ kind_in b → rest_words a ≡ rest_words b → a ≡ b
 unfolding first others
@@ -222,6 +179,7 @@ one_rest (At p x a) (At p2 x2 a2) fits also k e =
 one_rest End End fits also k e = refl
 one_rest _ _ fits also k e = absurd (cc)
 
+-- two lines with which a text begins are one
 pub one_start : (text rest more : List ℕ) (a b : TextLine) → StartsWith text a rest → StartsWith text b more → (a ≡ b) × (rest ≡ more)
 one_start text rest more a b s t =
     let l = one_line 10 (line_text a) (line_text b) rest more (text_free a s.fits) (text_free b t.fits)

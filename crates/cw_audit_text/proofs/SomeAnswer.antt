@@ -1,18 +1,19 @@
 -- Each text is that of an audit or has a fault: what decides it, line by line.
-use Rattle.std.proofs.Common.{◌≡◌, ◌≢◌, ℕ, zero, suc, ◌+◌, ◌^◌, ◌<◌, ◌⊎◌, Bool, true, false, eqb, List, [], ◌∷◌, ◌++◌, length, map, Option, Some, None}
+use Rattle.std.proofs.Common.{◌≡◌, ◌≢◌, ℕ, zero, suc, ◌+◌, ◌^◌, ◌<◌, ◌⊎◌, Bool, true, false, List, [], ◌∷◌, ◌++◌, length, map, Option, Some, None}
 use Rattle.std.proofs.Common.{refl, sym, ap, ◌∙◌, subst, arith, append-nil, append_assoc, inl, inr}
 use Rattle.std.specs.Prelude.{Result, Ok, Err, bytes_eq}
 use Rattle.std.specs.List.{flat_map, All}
-use Rattle.std.proofs.lemmas.Bool.{cases_eq, false≢true, ne_eqb}
+use Rattle.std.proofs.lemmas.Bool.{cases_eq, false≢true}
 use Rattle.std.proofs.lemmas.Slice.Eq.{bytes_eq-Decides}
 use Rattle.std.proofs.lemmas.List.{map-append}
-use Rattle.std.proofs.lemmas.List.Elements.{All-nil, All-cons, All-push}
+use Rattle.std.proofs.lemmas.List.Elements.{All-nil, All-push}
 use Rattle.cw_certs.specs.declared.moves.Move.{Move}
 use Rattle.cw_certs.specs.declared.moves.Move.TheVariants.{Skip, Try, Grant, Refuse, On, Left, Right, Opened, Failed, Stop}
-use Rattle.cw_text.specs.Lines.{IsFree, states_line}
+use Rattle.cw_text.specs.Lines.{states_line}
 use Rattle.cw_text.specs.Moves.{IsEnvironments}
 use Rattle.cw_text.proofs.Names.{move_of, told}
 use Rattle.cw_audit_table.specs.Tables.{PlainRow, PlainGroup, Audit}
+use Rattle.cw_text_lines.proofs.Starts.{first_line, line_end}
 use Rattle.cw_audit_text.specs.declared.text_line.TextLine.{TextLine}
 use Rattle.cw_audit_text.specs.declared.text_line.TextLine.TheVariants.{Head, States, Meets, Violates, Go, In, At, End}
 use Rattle.cw_audit_text.specs.declared.fault.AuditTextFault.{AuditTextFault}
@@ -20,7 +21,7 @@ use Rattle.cw_audit_text.specs.declared.fault.AuditTextFault.TheVariants.{Line}
 use Rattle.cw_audit_text.specs.TextLines.{line_text, whole_line, FitsLine}
 use Rattle.cw_audit_text.specs.AuditText.{head_line, verdict_line, row_line, group_lines, body_of, whole_lines, audit_text, HasNoMoves}
 use Rattle.cw_audit_text.specs.Faults.{StartsWith, Begins, MayFollow, IsAnswer, no_head, no_states, no_verdict, no_line, no_end, verdict_of}
-use Rattle.cw_audit_text.proofs.Lines.{line_end, one_start, starts_nowhere, starts_otherwise}
+use Rattle.cw_audit_text.proofs.Lines.{one_start, starts_nowhere, starts_otherwise}
 use Rattle.cw_audit_text.proofs.Behind.{begun, is_end, line_more, no_lines, shorter}
 
 -- ---- what can be decided
@@ -49,17 +50,6 @@ same_text a b = by_test (bytes_eq a b) refl
 nothing_left : (xs : List ℕ) → Decided (xs ≡ [])
 nothing_left [] = inl refl
 nothing_left (x ∷ xs) = inr (λ e. omega (arith, ap length e))
-
-first_line : (text : List ℕ) → ((l : List ℕ) × (rest : List ℕ) × (text ≡ l ++ (10 ∷ rest)) × IsFree 10 l) ⊎ IsFree 10 text
-first_line [] = inr (All-nil (λ (b : ℕ). eqb b 10 ≡ false))
-first_line (x ∷ text) =
-    elim (cases_eq x 10) [
-      | inl e ↦ inl ([], text, rw e refl, All-nil (λ (b : ℕ). eqb b 10 ≡ false))
-      | inr differs ↦ elim (first_line text) [
-        | inl p ↦ inl (x ∷ p.0, p.1, ap (λ (t : List ℕ). x ∷ t) p.2, All-cons (λ (b : ℕ). eqb b 10 ≡ false) x p.0 (ne_eqb x 10 differs) p.3)
-        | inr free ↦ inr (All-cons (λ (b : ℕ). eqb b 10 ≡ false) x text (ne_eqb x 10 differs) free)
-      ]
-    ]
 
 -- ---- lines
 

@@ -1,58 +1,23 @@
 -- The words of the lines of a strategy's text, and lines as words.
-use Rattle.std.proofs.Common.{◌≡◌, ℕ, ◌+◌, ◌^◌, ◌<◌, true, false, eqb, List, [], ◌∷◌, ◌++◌, map, refl, sym, ap, ◌∙◌, arith, append_assoc}
+use Rattle.std.proofs.Common.{◌≡◌, ℕ, ◌+◌, ◌^◌, ◌<◌, List, [], ◌∷◌, ◌++◌, map, refl, sym, ap, ◌∙◌, arith}
 use Rattle.std.specs.Prelude.{codes}
-use Rattle.std.specs.Char.{is_ascii_digit}
 use Rattle.std.specs.Fmt.{decimal}
-use Rattle.std.specs.List.{All, list_all}
+use Rattle.std.specs.List.{All}
 use Rattle.std.proofs.lemmas.Fmt.{decimal_injective}
 use Rattle.std.proofs.lemmas.List.Elements.{All-nil, All-cons}
-use Rattle.cw_core.specs.Ranges.{is_spelling_byte}
-use Rattle.cw_certs.specs.declared.moves.Move.{Move}
-use Rattle.cw_certs.specs.declared.moves.Move.TheVariants.{Skip, Try, Grant, Refuse, On, Left, Right, Opened, Failed, Stop}
 use Rattle.cw_certs.specs.Strategies.{How, Bad, Out, Both, Go, Into, Row}
 use Rattle.cw_text.specs.Lines.{IsFree, line, joined, words_of, set_text, states_line}
-use Rattle.cw_text.specs.Moves.{move_name, IsEnvironments}
+use Rattle.cw_text.specs.Moves.{move_name}
 use Rattle.cw_text.proofs.Cuts.{words-joined, joined-words}
-use Rattle.cw_text.proofs.Free.{free_from_test, one_line, no_line, decimal_free, set_text_free, joined_free}
+use Rattle.cw_text.proofs.Free.{one_line, no_line, set_text_free, joined_free}
+use Rattle.cw_text_lines.proofs.Separated.{Separates, space, lf, name_free, number_free, move_free, one_free}
+use Rattle.cw_text_lines.proofs.Starts.{line_end}
 use Rattle.cw_strategy_text.specs.StrategyText.{back_word, how_words, row_words, head_line, AreBacks, FitsHow, FitsRow}
-
--- a byte that isn't in any word of a line
-pub record Separates (mark : ℕ) : Type 0 where
-  pub digit : is_ascii_digit mark ≡ false
-  pub letter : is_spelling_byte mark ≡ false
-  pub equals : eqb 61 mark ≡ false
-
-pub space : Separates 32
-space = record { digit = refl; letter = refl; equals = refl }
-
-pub lf : Separates 10
-lf = record { digit = refl; letter = refl; equals = refl }
 
 -- ---- words without the mark
 
-pub name_free : (mark : ℕ) → Separates mark → (name : List ℕ) → list_all is_spelling_byte name ≡ true → IsFree mark name
-name_free mark s name all = free_from_test is_spelling_byte mark name s.letter all
-
-pub number_free : (mark : ℕ) → Separates mark → (n : ℕ) → n < 2 ^ 32 → IsFree mark (decimal n)
-number_free mark s n small = decimal_free mark n s.digit (omega (arith, small))
-
-pub move_free : (mark : ℕ) → Separates mark → (by : Move) → IsEnvironments by → IsFree mark (move_name by)
-move_free mark s Grant fits = name_free mark s (codes "grant") refl
-move_free mark s Refuse fits = name_free mark s (codes "refuse") refl
-move_free mark s On fits = name_free mark s (codes "on") refl
-move_free mark s Left fits = name_free mark s (codes "left") refl
-move_free mark s Right fits = name_free mark s (codes "right") refl
-move_free mark s Opened fits = name_free mark s (codes "opened") refl
-move_free mark s Failed fits = name_free mark s (codes "failed") refl
-move_free mark s Skip fits = absurd fits
-move_free mark s Try fits = absurd fits
-move_free mark s Stop fits = absurd fits
-
-one : (mark : ℕ) (a : List ℕ) → IsFree mark a → All (IsFree mark) (a ∷ [])
-one mark a free = All-cons (IsFree mark) a [] free (All-nil (IsFree mark))
-
 two : (mark : ℕ) (a b : List ℕ) → IsFree mark a → IsFree mark b → All (IsFree mark) (a ∷ b ∷ [])
-two mark a b free also = All-cons (IsFree mark) a (b ∷ []) free (one mark b also)
+two mark a b free also = All-cons (IsFree mark) a (b ∷ []) free (one_free mark b also)
 
 pub back_free : (mark : ℕ) → Separates mark → (back : ℕ × ℕ) → back.0 < 2 ^ 16 → back.1 < 2 ^ 32 → IsFree mark (back_word back)
 back_free mark s back state row =
@@ -63,8 +28,8 @@ backs_free mark s low [] fits = All-nil (IsFree mark)
 backs_free mark s low (back ∷ backs) fits = All-cons (IsFree mark) (back_word back) (map back_word backs) (back_free mark s back fits.1 fits.2) (backs_free mark s (back.0 + 1) backs fits.3)
 
 pub how_free : (mark : ℕ) → Separates mark → (how : How) → FitsHow how → All (IsFree mark) (how_words how)
-how_free mark s Bad fits = one mark (codes "bad") (name_free mark s (codes "bad") refl)
-how_free mark s Out fits = one mark (codes "out") (name_free mark s (codes "out") refl)
+how_free mark s Bad fits = one_free mark (codes "bad") (name_free mark s (codes "bad") refl)
+how_free mark s Out fits = one_free mark (codes "out") (name_free mark s (codes "out") refl)
 how_free mark s (Both skip tried) fits =
     All-cons (IsFree mark) (codes "both") (decimal skip ∷ decimal tried ∷ []) (name_free mark s (codes "both") refl)
     (two mark (decimal skip) (decimal tried) (number_free mark s skip fits.0) (number_free mark s tried fits.1))
@@ -81,9 +46,6 @@ row_free mark s format number r small fits =
     (All-cons (IsFree mark) (set_text format r.aim) (how_words r.how) (set_text_free mark format r.aim s.letter fits.aim) (how_free mark s r.how fits.how))))
 
 -- ---- lines as words
-
-pub line_end : (a rest : List ℕ) → line a ++ rest ≡ a ++ (10 ∷ rest)
-line_end a rest = append_assoc a (codes "\n") rest
 
 -- a line that has these words
 pub to_line : (text l rest : List ℕ) (words : List (List ℕ)) → text ≡ l ++ (10 ∷ rest) → words_of 32 l ≡ words → text ≡ line (joined 32 words) ++ rest

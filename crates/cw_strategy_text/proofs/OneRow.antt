@@ -2,19 +2,20 @@
 use Rattle.std.proofs.Common.{◌≡◌, ℕ, ◌+◌, ◌^◌, ◌<◌, List, [], ◌∷◌, ◌++◌, length, map, refl, sym, ap, ◌∙◌, arith}
 use Rattle.std.specs.Prelude.{codes}
 use Rattle.std.specs.Fmt.{decimal}
-use Rattle.std.proofs.lemmas.Fmt.{decimal_injective}
 use Rattle.std.proofs.lemmas.List.{append_cancel_left}
 use Rattle.cw_certs.specs.Strategies.{How, Bad, Out, Both, Go, Into, Row}
 use Rattle.cw_text.specs.Lines.{joined, words_of, states_line, end_line}
 use Rattle.cw_text.proofs.Free.{one_line, joined_free}
 use Rattle.cw_text.proofs.Cuts.{words-joined}
 use Rattle.cw_text.proofs.OneSet.{one_set_text}
+use Rattle.cw_text_lines.proofs.Separated.{space, lf, one_number}
+use Rattle.cw_text_lines.proofs.Starts.{line_end}
 use Rattle.cw_strategy_text.specs.StrategyText.{back_word, how_words, row_words, AreBacks, FitsHow, FitsRow}
 use Rattle.cw_strategy_text.specs.Words.{kind_of_how, kind_word, rest_words, row_text, FitsNamed}
 use Rattle.cw_strategy_text.specs.Faults.{HasRow}
 use Rattle.cw_strategy_text.proofs.Backs.{one_back}
 use Rattle.cw_strategy_text.proofs.Hows.{one_kind, first_word, how_words-kind}
-use Rattle.cw_strategy_text.proofs.LineWords.{space, lf, states_free, states_words, is_states_line, line_end}
+use Rattle.cw_strategy_text.proofs.LineWords.{states_free, states_words, is_states_line}
 use Rattle.cw_strategy_text.proofs.RowLines.{words_of_row, line_of_row, line_of_end, row_text_free, end_free}
 
 head : List (List ℕ) → List ℕ
@@ -24,9 +25,6 @@ head (x ∷ xs) = x
 tail : List (List ℕ) → List (List ℕ)
 tail [] = []
 tail (x ∷ xs) = xs
-
-one_number : (a b : ℕ) → a < 2 ^ 32 → b < 2 ^ 32 → decimal a ≡ decimal b → a ≡ b
-one_number a b small also e = decimal_injective a b (omega (arith, small)) (omega (arith, also)) e
 
 one_backs : (low high : ℕ) (xs ys : List (ℕ × ℕ)) → AreBacks low xs → AreBacks high ys → map back_word xs ≡ map back_word ys → xs ≡ ys
 unfolding head tail

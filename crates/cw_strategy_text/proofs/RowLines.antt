@@ -7,11 +7,12 @@ use Rattle.cw_certs.specs.Strategies.{How, Row}
 use Rattle.cw_text.specs.Lines.{IsFree, line, joined, words_of, set_text, IsSetIn, Reads, end_line}
 use Rattle.cw_text.proofs.Cuts.{words-joined, joined-words}
 use Rattle.cw_text.proofs.Free.{one_line, joined_free}
+use Rattle.cw_text_lines.proofs.Separated.{space, lf, name_free}
 use Rattle.cw_strategy_text.specs.StrategyText.{how_words, row_words, row_line, FitsHow}
 use Rattle.cw_strategy_text.specs.Words.{row_text, FitsNamed}
 use Rattle.cw_strategy_text.specs.Faults.{HasRow}
 use Rattle.cw_strategy_text.specs.Steps.{HasNone}
-use Rattle.cw_strategy_text.proofs.LineWords.{space, lf, name_free, row_free, from_none}
+use Rattle.cw_strategy_text.proofs.LineWords.{row_free, from_none}
 
 pub words_of_row : (format : ℕ) (named : ℕ × Row) (text : List ℕ) → FitsNamed format named → row_text format named ≡ text → words_of 32 text ≡ row_words format named.0 named.1
 unfolding row_text

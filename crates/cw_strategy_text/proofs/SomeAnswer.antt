@@ -2,9 +2,8 @@
 use Rattle.std.proofs.Common.{◌≡◌, ◌≢◌, ℕ, zero, suc, ◌+◌, ◌^◌, ◌<◌, ◌≤◌, ◌⊎◌, Bool, true, false, cond, eqb, List, [], ◌∷◌, ◌++◌, length, map, refl, sym, ap, ◌∙◌, subst, arith, append-nil, inl, inr}
 use Rattle.std.specs.Prelude.{Result, Ok, Err, Option, None, Some, codes, bytes_eq}
 use Rattle.std.specs.Fmt.{decimal}
-use Rattle.std.proofs.lemmas.Bool.{cases_eq, false≢true, ne_eqb}
+use Rattle.std.proofs.lemmas.Bool.{cases_eq, false≢true}
 use Rattle.std.proofs.lemmas.Slice.Eq.{bytes_eq-Decides}
-use Rattle.std.proofs.lemmas.List.Elements.{All-nil, All-cons}
 use Rattle.cw_lemmas.proofs.Texts.{begins_or_not}
 use Rattle.cw_core.specs.StateSet.{IsBelow}
 use Rattle.cw_core.proofs.Sets.{IsBelow-lt, IsBelow_from_lt}
@@ -16,6 +15,7 @@ use Rattle.cw_text.specs.declared.fault.TextFault.TheVariants.{Line, Order, Limi
 use Rattle.cw_text.specs.Lines.{IsFree, words_of, set_text, IsSetIn, Reads, states_line, end_line}
 use Rattle.cw_text.specs.Moves.{move_name, IsEnvironments}
 use Rattle.cw_text.proofs.Names.{move_of, told}
+use Rattle.cw_text_lines.proofs.Starts.{first_line}
 use Rattle.cw_strategy_text.specs.declared.kind.RowKind.{RowKind}
 use Rattle.cw_strategy_text.specs.declared.kind.RowKind.TheVariants as kind
 use Rattle.cw_strategy_text.specs.StrategyText.{head_line, back_word, how_words, rows_in, row_count, AreBacks, FitsHow, Fits}
@@ -58,17 +58,6 @@ first_byte (x ∷ xs) = x
 other_bytes : List ℕ → List ℕ
 other_bytes [] = []
 other_bytes (x ∷ xs) = xs
-
-first_line : (text : List ℕ) → ((l : List ℕ) × (rest : List ℕ) × (text ≡ l ++ (10 ∷ rest)) × IsFree 10 l) ⊎ IsFree 10 text
-first_line [] = inr (All-nil (λ (b : ℕ). eqb b 10 ≡ false))
-first_line (x ∷ text) =
-    elim (cases_eq x 10) [
-      | inl e ↦ inl ([], text, rw e refl, All-nil (λ (b : ℕ). eqb b 10 ≡ false))
-      | inr differs ↦ elim (first_line text) [
-        | inl p ↦ inl (x ∷ p.0, p.1, ap (λ (t : List ℕ). x ∷ t) p.2, All-cons (λ (b : ℕ). eqb b 10 ≡ false) x p.0 (ne_eqb x 10 differs) p.3)
-        | inr free ↦ inr (All-cons (λ (b : ℕ). eqb b 10 ≡ false) x text (ne_eqb x 10 differs) free)
-      ]
-    ]
 
 -- ---- words
 

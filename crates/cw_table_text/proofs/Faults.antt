@@ -14,6 +14,7 @@ use Rattle.cw_text.specs.declared.fault.TextFault.{TextFault}
 use Rattle.cw_text.specs.declared.fault.TextFault.TheVariants.{Line, Order, Limit, NoMemory}
 use Rattle.cw_text.proofs.Free.{one_line, no_line}
 use Rattle.cw_text.specs.LimitsText.{limits_line}
+use Rattle.cw_text_lines.proofs.Starts.{line_end}
 use Rattle.cw_table_text.specs.declared.row.Row.{Row}
 use Rattle.cw_table_text.specs.declared.row.Row.TheVariants.{Memory, Live, Try, At, Opened, Closed, Into, Back}
 use Rattle.cw_table_text.specs.Rows.{rows_of, row_words}
@@ -28,18 +29,15 @@ use Rattle.cw_table_text.proofs.Same.{rows_split, rows_have_no_end}
 
 -- ---- a line in front of a text
 
-pub line_is : (l rest : List ℕ) → line l ++ rest ≡ l ++ (10 ∷ rest)
-line_is l rest = append_assoc l (10 ∷ []) rest
-
 -- the line with which a text goes on
 pub the_line : (text a rest l : List ℕ) → IsFree 10 a → text ≡ a ++ (10 ∷ rest) → GoesOn text l → l ≡ a
-the_line text a rest l free is g = (one_line 10 l a g.0 rest g.1 free (sym (line_is l g.0) ∙ sym g.2 ∙ is)).0
+the_line text a rest l free is g = (one_line 10 l a g.0 rest g.1 free (sym (line_end l g.0) ∙ sym g.2 ∙ is)).0
 
 pub goes_on : (text a rest : List ℕ) → IsFree 10 a → text ≡ a ++ (10 ∷ rest) → GoesOn text a
-goes_on text a rest free is = (rest, free, is ∙ sym (line_is a rest))
+goes_on text a rest free is = (rest, free, is ∙ sym (line_end a rest))
 
 pub no_more : (text l : List ℕ) → IsFree 10 text → GoesOn text l → ⊥
-no_more text l free g = no_line 10 text l g.0 free (g.2 ∙ line_is l g.0)
+no_more text l free g = no_line 10 text l g.0 free (g.2 ∙ line_end l g.0)
 
 -- ---- an empty table
 
@@ -161,7 +159,7 @@ pub head_is : (policy : PlainPolicy) (text first rest a after : List ℕ) (state
     → first ≡ limits_line policy ++ rest → rest ≡ a ++ (10 ∷ after)
     → table_words policy.format states start ≡ a → text ≡ text_of (head_lines policy states start) ++ after
 head_is policy text first rest a after states start is then_is cut words =
-    is ∙ ap (λ t. line header ++ t) (then_is ∙ ap (λ x. x ++ rest) (limits_is policy) ∙ ap (λ t. line (limits_words policy) ++ t) (cut ∙ sym (line_is a after) ∙ ap (λ x. line x ++ after) (sym words)))
+    is ∙ ap (λ t. line header ++ t) (then_is ∙ ap (λ x. x ++ rest) (limits_is policy) ∙ ap (λ t. line (limits_words policy) ++ t) (cut ∙ sym (line_end a after) ∙ ap (λ x. line x ++ after) (sym words)))
     ∙ rw (append-nil (line (table_words policy.format states start)))
     (ap (λ t. line header ++ t) (sym (append_assoc (line (limits_words policy)) (line (table_words policy.format states start)) after))
     ∙ sym (append_assoc (line header) (line (limits_words policy) ++ line (table_words policy.format states start)) after))

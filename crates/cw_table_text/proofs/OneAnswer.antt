@@ -11,6 +11,7 @@ use Rattle.cw_text.specs.Lines.{line, joined, IsFree}
 use Rattle.cw_text.specs.declared.fault.TextFault.{TextFault}
 use Rattle.cw_text.specs.declared.fault.TextFault.TheVariants.{Line, Order, Limit, NoMemory}
 use Rattle.cw_text.proofs.Free.{one_line, free_from_test, joined_free}
+use Rattle.cw_text_lines.proofs.Starts.{line_end}
 use Rattle.cw_table_text.specs.declared.row.Row.{Row}
 use Rattle.cw_table_text.specs.Rows.{rows_of, row_words, name_of, fields_of}
 use Rattle.cw_table_text.specs.TablesText.{header, limits_words, table_words, head_lines, tables_lines, tables_text, text_of, done}
@@ -18,7 +19,7 @@ use Rattle.cw_table_text.specs.Grammar.{Fits, IsTable, Spells, BeginsAny, Begins
 use Rattle.cw_table_text.specs.Working.{FitsHead, head_fields}
 use Rattle.cw_table_text.proofs.Adding.{mems_are, live_are, tries_are, ats_are, opened_are, closed_are, into_are, back_are, picked, mems_in, live_in, tries_in, ats_in, opened_in}
 use Rattle.cw_table_text.proofs.Adding.{closed_in, into_in, back_in}
-use Rattle.cw_table_text.proofs.Faults.{line_is, the_line, first_of, second_of, third_of}
+use Rattle.cw_table_text.proofs.Faults.{the_line, first_of, second_of, third_of}
 use Rattle.cw_table_text.proofs.HeadLines.{head_parts, head_line, head_name_free, head_fields_free, words_are, words_at}
 use Rattle.cw_table_text.proofs.RowLines.{line_feed, name_free, fields_free, row_line}
 use Rattle.cw_table_text.proofs.Same.{rows_same}
@@ -114,7 +115,7 @@ lines_split (x ∷ a) (y ∷ b) r s p q e =
     with_line x y a b r s both.0 (lines_split a b r s p.1 q.1 both.1)
   where
     first : (l t u : List ℕ) → (line l ++ t) ++ u ≡ l ++ (10 ∷ (t ++ u))
-    first l t u = append_assoc (line l) t u ∙ line_is l (t ++ u)
+    first l t u = append_assoc (line l) t u ∙ line_end l (t ++ u)
 
 -- ---- what begins a table's text goes on as is due
 
@@ -178,7 +179,7 @@ fewer : (policy : PlainPolicy) (a more : List (List ℕ)) (l : List ℕ) → Beg
 fewer policy a more l b = (b.0, more ++ b.1, b.2, b.3 ∙ append_assoc a (l ∷ more) b.1 ∙ sym (append_assoc a (l ∷ []) (more ++ b.1)))
 
 same_next : (text l k : List ℕ) → GoesOn text l → GoesOn text k → k ≡ l
-same_next text l k g h = the_line text l g.0 k g.1 (g.2 ∙ line_is l g.0) h
+same_next text l k g h = the_line text l g.0 k g.1 (g.2 ∙ line_end l g.0) h
 
 -- where something is wrong no table's text goes on
 no_longer : (policy : PlainPolicy) (before : List (List ℕ)) (rest l : List ℕ) (fault : TextFault) → IsWrong policy before rest fault → GoesOn rest l → Begins policy (before ++ l ∷ []) → ⊥

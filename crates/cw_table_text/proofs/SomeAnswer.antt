@@ -1,8 +1,7 @@
 -- Each text is that of a table or has a fault: what decides it, field by field and line by line.
 use Rattle.std.proofs.Common.{◌≡◌, ◌≢◌, ℕ, zero, suc, ◌+◌, ◌^◌, ◌<◌, ◌⊎◌, inl, inr, Bool, true, false, eqb, List, [], ◌∷◌, ◌++◌, length, refl, sym, ap, ◌∙◌, arith, length-append}
 use Rattle.std.specs.Prelude.{Option, None, Some, codes}
-use Rattle.std.proofs.lemmas.Bool.{cases_eq, ne_eqb}
-use Rattle.std.proofs.lemmas.List.Elements.{All-nil, All-cons}
+use Rattle.std.proofs.lemmas.Bool.{cases_eq}
 use Rattle.cw_lemmas.proofs.Texts.{bytes_or_not, begins_or_not}
 use Rattle.cw_core.specs.StateSet.{IsBelow}
 use Rattle.cw_core.specs.declared.ids.StateId.{StateId}
@@ -14,13 +13,14 @@ use Rattle.cw_text.specs.Lines.{line, IsFree, IsSetIn}
 use Rattle.cw_text.specs.declared.fault.TextFault.{TextFault}
 use Rattle.cw_text.specs.declared.fault.TextFault.TheVariants.{Line, Order, Limit, NoMemory}
 use Rattle.cw_text.specs.LimitsText.{limits_line}
+use Rattle.cw_text_lines.proofs.Starts.{first_line, line_end}
 use Rattle.cw_table_text.specs.declared.row.Row.{Row}
 use Rattle.cw_table_text.specs.declared.row.Row.TheVariants.{Memory, Live, Try, At, Opened, Closed, Into, Back}
 use Rattle.cw_table_text.specs.Grammar.{IsAnswer, Fits, Spells, IsFault}
 use Rattle.cw_table_text.specs.Rows.{rows_of, row_words}
 use Rattle.cw_table_text.specs.TablesText.{table_words, head_lines, text_of, done}
 use Rattle.cw_table_text.specs.Working.{FitsHead, IsGood, IsRowLine, IsWrongRow, AreRead, AreWrong, is_next, with_row, row_lines}
-use Rattle.cw_table_text.proofs.Faults.{line_is, goes_on, no_more, empty, is_empty, fault_1, fault_2, fault_3_missing, fault_3_misspelled, head_is, start_good, start_text}
+use Rattle.cw_table_text.proofs.Faults.{goes_on, no_more, empty, is_empty, fault_1, fault_2, fault_3_missing, fault_3_misspelled, head_is, start_good, start_text}
 use Rattle.cw_table_text.proofs.Faults.{next_text, next_good, same_states, same_start, no_row, a_fault, reads_table, behind_fault}
 use Rattle.cw_table_text.proofs.Same.{mem_of, pos_of, state_of, at_row, open_row, into_row, back_row, try_row}
 
@@ -214,17 +214,6 @@ row_sought format l = by_memory (memory_kind format l) (live_kind format l) (try
 
 -- ---- lines
 
-first_line : (text : List ℕ) → ((l : List ℕ) × (rest : List ℕ) × (text ≡ l ++ (10 ∷ rest)) × IsFree 10 l) ⊎ IsFree 10 text
-first_line [] = inr (All-nil (λ (b : ℕ). eqb b 10 ≡ false))
-first_line (x ∷ text) =
-    elim (cases_eq x 10) [
-      | inl e ↦ inl ([], text, rw e refl, All-nil (λ (b : ℕ). eqb b 10 ≡ false))
-      | inr differs ↦ elim (first_line text) [
-        | inl p ↦ inl (x ∷ p.0, p.1, ap (λ (t : List ℕ). x ∷ t) p.2, All-cons (λ (b : ℕ). eqb b 10 ≡ false) x p.0 (ne_eqb x 10 differs) p.3)
-        | inr free ↦ inr (All-cons (λ (b : ℕ). eqb b 10 ≡ false) x text (ne_eqb x 10 differs) free)
-      ]
-    ]
-
 other_bytes : List ℕ → List ℕ
 other_bytes [] = []
 other_bytes (x ∷ xs) = xs
@@ -273,7 +262,7 @@ rows_end format (suc fuel) text old t rest short s = by_line (λ u left low so. 
     by_room again l after row cut free fits is next (inl full) =
         fails format text old t rest (Limit (length (rows_of t) + 4)) s (λ e. absurd (cc)) (refl, l, row, goes_on rest l after free cut, fits, is, next, full)
     by_room again l after row cut free fits is next (inr room) =
-        let this : IsRowLine format t rest row after = record { is = cut ∙ sym (line_is l after) ∙ ap (λ x. line x ++ after) (sym is); fits = fits; next = next; few = room } in
+        let this : IsRowLine format t rest row after = record { is = cut ∙ sym (line_end l after) ∙ ap (λ x. line x ++ after) (sym is); fits = fits; next = next; few = room } in
         again (with_row t row) after (omega (arith, short, ap length cut, length-append l (10 ∷ after))) (record {
           is = next_text format text rest after t row s.is this;
           good = next_good format rest after t row s.good this;
@@ -299,7 +288,7 @@ rows_end format (suc fuel) text old t rest short s = by_line (λ u left low so. 
       new = t;
       rest = after;
       read = record {
-        is = s.is ∙ ap (λ x. text_of (row_lines format (rows_of t)) ++ x) (cut ∙ sym (line_is l after) ∙ ap (λ x. line x ++ after) e);
+        is = s.is ∙ ap (λ x. text_of (row_lines format (rows_of t)) ++ x) (cut ∙ sym (line_end l after) ∙ ap (λ x. line x ++ after) e);
         good = s.good;
         count_is = refl;
         states = s.states;

@@ -1,4 +1,5 @@
 -- The proofs.
+pub mod Separated
 pub mod Starts
 pub mod Fronts
 pub mod Telling
