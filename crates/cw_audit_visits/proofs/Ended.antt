@@ -4,6 +4,7 @@ use Rattle.std.specs.Prelude.{Option, Some, slice_get}
 use Rattle.std.proofs.lemmas.Option.{none-some, same_Some, slice_get_within}
 use Rattle.std.proofs.lemmas.Bool.Decides.{leb_tells}
 use Rattle.std.proofs.lemmas.Map.Entries.{place_from_lookup}
+use Rattle.cw_lemmas.proofs.Options.{option_map_some}
 use Rattle.cw_product.specs.Product.{Held}
 use Rattle.cw_audit_store.specs.declared.lists.Lists.{Lists}
 use Rattle.cw_audit_store.specs.declared.place.Entrance.{Entrance}
@@ -17,7 +18,6 @@ use Rattle.cw_audit_visits.specs.declared.met.Calling.{Calling}
 use Rattle.cw_audit_visits.specs.declared.under_way.Search.{Search}
 use Rattle.cw_audit_visits.specs.Searching.{AreEnds, AreEndsOf, AreEndsTold, AreEndsUpTo, IsEndIn, IsEndPut, IsEndTold, IsIn, IsReturnTold, end_of, entrance}
 use Rattle.cw_audit_visits.proofs.Oks.{by_truth}
-use Rattle.cw_audit_visits.proofs.Proposed.{behind}
 
 ahead : (ns : List ℕ) (n i m : ℕ) → slice_get ns i ≡ Some m → slice_get (ns ++ n ∷ []) i ≡ Some m
 ahead [] n i m e = absurd (none-some m e)
@@ -84,7 +84,7 @@ pub returns_told : (h : Held) (s : Search) (call : Calling) (ns : List ℕ) (man
     → (y : ℕ) → IsReturnTold h s call.met.place call.callee call.back.0 y
 returns_told h s call ns many are is told y = λ r a e er ea ee.
     let end = end_of h call y in
-    let row = behind (λ (x : Row). x.inside) (row_at s.store end) e ee in
+    let row = option_map_some (λ (x : Row). x.inside) (row_at s.store end) e ee in
     let found = place_from_lookup (place_eq end) s.store.rows.entries row.0 row.1 in
     let same : end ≡ found.1 = equal_places end found.1 found.3 in
     let there : slice_get s.store.rows.entries found.0 ≡ Some (end, row.0) = found.2 ∙ ap (λ (p : Place). Some (p, row.0)) (sym same) in

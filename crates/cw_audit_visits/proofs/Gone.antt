@@ -2,6 +2,7 @@
 use Rattle.std.proofs.Common.{◌≡◌, ℕ, ◌+◌, ◌∙◌, ◌≤◌, ◌<◌, length, Bool, true, false, Some, refl, sym, ap, subst, arith}
 use Rattle.std.specs.Prelude.{option_map, cond, ◌||◌}
 use Rattle.std.proofs.lemmas.Option.{same_Some}
+use Rattle.cw_lemmas.proofs.Options.{option_map_some}
 use Rattle.cw_game.specs.Games.{Game}
 use Rattle.cw_product.specs.Product.{Held, game_of}
 use Rattle.cw_audit_store.specs.declared.place.Entrance.{Entrance}
@@ -120,7 +121,3 @@ tells_both a b c false y h k = record {
   same = λ e. ((k.same e).0 ∙ (h.same refl).0, (k.same e).1 ∙ (h.same refl).1);
   less = λ e. let z = (h.same refl).1 in omega (arith, z, k.less e);
 }
-
-pub neither : (x y : Bool) → (x || y) ≡ false → (x ≡ false) × (y ≡ false)
-neither true y e = cc
-neither false y e = (refl, e)

@@ -1,9 +1,9 @@
 -- A proposal is told of where nothing changes; and what is set keeps the search sound.
-use Rattle.std.proofs.Common.{◌≡◌, ℕ, ◌+◌, ◌∙◌, ◌≤◌, Bool, true, false, Option, Some, None, refl, sym, ap, subst, arith}
+use Rattle.std.proofs.Common.{◌≡◌, ℕ, ◌+◌, ◌∙◌, ◌≤◌, Bool, true, false, Some, sym, ap, subst, arith}
 use Rattle.std.specs.Prelude.{option_map, slice_get}
-use Rattle.std.proofs.lemmas.Option.{none-some, same_Some}
 use Rattle.std.proofs.Math.Nat.{min-le_right}
 use Rattle.cw_lemmas.proofs.Truths.{not_both}
+use Rattle.cw_lemmas.proofs.Options.{option_map_some}
 use Rattle.cw_game.specs.Games.{Game, bad_in}
 use Rattle.cw_product.specs.Product.{Held, game_of}
 use Rattle.cw_audit_store.specs.declared.place.Place.{Place}
@@ -79,7 +79,7 @@ module _ (h : Held) (s : Search) (at : Place) (n p : ℕ) (is : p ≡ skipped (g
         let set2 = row_number s.store s2.store f q (skipped g at.pos.0) at.state.0 row there in
         let falls2 : (a : ℕ) → (found_of s.store).number f q (skipped g at.pos.0) at.state.0 ≡ Some a → n ≤ a =
         λ a e. subst (λ p. (found_of s.store).number f q p at.state.0 ≡ Some a → n ≤ a) is
-        (λ e. let r = behind (λ (r : Row). r.inside) (row_at s.store (at_rest at p)) a e in subst (λ m. n ≤ m) r.2 (falls r.0 r.1)) e in
+        (λ e. let r = option_map_some (λ (r : Row). r.inside) (row_at s.store (at_rest at p)) a e in subst (λ m. n ≤ m) r.2 (falls r.0 r.1)) e in
         let x = at.state.0 in
         let fallen = number_falls g (functions_of h) fair (found_of s.store) (found_of s2.store) kept.sound f q at.pos.0 x n set2 falls2 in
         record {
@@ -98,7 +98,7 @@ module _ (h : Held) (s : Search) (at : Place) (n p : ℕ) (is : p ≡ skipped (g
         let set2 = hit_best s.store s2.store (record { distance = d; entrance = at.entrance; way = by }) set in
         let hit = proposal_hits g (functions_of h) fair (found_of s.store) kept.sound f q at.pos.0 at.state.0 n reach due.proposal er (sym (ap bad_at is) ∙ bad) in
         let fallen = best_falls g (functions_of h) fair (found_of s.store) (found_of s2.store) kept.sound d set2
-        (λ a e. let r = behind (λ (h : Hit). h.distance) s.store.hit a e in subst (λ m. d ≤ m) r.2 (falls r.0 r.1)) in
+        (λ a e. let r = option_map_some (λ (h : Hit). h.distance) s.store.hit a e in subst (λ m. d ≤ m) r.2 (falls r.0 r.1)) in
         let to : Hit = record { distance = d; entrance = at.entrance; way = by } in
         record {
           kept = record {

@@ -4,6 +4,7 @@ use Rattle.std.specs.Prelude.{Option, option_map, slice_get}
 use Rattle.std.proofs.lemmas.Option.{same_Some, slice_get_within}
 use Rattle.std.proofs.lemmas.Bool.Decides.{leb_tells}
 use Rattle.std.proofs.lemmas.Map.Entries.{place_from_lookup}
+use Rattle.cw_lemmas.proofs.Options.{option_map_some}
 use Rattle.cw_core.specs.declared.ids.PosId.{PosId}
 use Rattle.cw_product.specs.Product.{Held, game_of}
 use Rattle.cw_audit_search.specs.Searches.{is_row}
@@ -22,7 +23,6 @@ use Rattle.cw_audit_visits.specs.declared.met.Met.{Met}
 use Rattle.cw_audit_visits.specs.declared.under_way.Search.{Search}
 use Rattle.cw_audit_visits.specs.Searching.{entrance, place, found_of, functions_of, AreBegun, AreBegunUpTo, AreEnds, IsBegunAt, IsEntryTold, IsKept, IsThere}
 use Rattle.cw_audit_visits.specs.Searching.{IsTold, IsUnknown, IsVisited, IsSettledAt, IsNumberSettled, AreSettledAt, AreSettledBelow}
-use Rattle.cw_audit_visits.proofs.Proposed.{behind}
 
 -- each group has a number
 pub begun_more : (h : Held) (s s1 : Search) (n : ℕ) → s1.store ≡ s.store → AreBegunUpTo h s n → IsBegunAt h s1 n → AreBegunUpTo h s (n + 1)
@@ -34,7 +34,7 @@ begun_more h s s1 n same before now = λ i l. elim (leb_tells n i) [
 
 pub all_begun : (h : Held) (s : Search) (count : ℕ) → count ≡ length s.store.groups.entries → AreBegunUpTo h s count → AreBegun h s
 all_begun h s count is each = λ f q r er.
-    let e = behind (λ (e : Entered). e.reach) (group_at s.store (entrance f q)) r er in
+    let e = option_map_some (λ (e : Entered). e.reach) (group_at s.store (entrance f q)) r er in
     let there = place_from_lookup (entrance_eq (entrance f q)) s.store.groups.entries e.0 e.1 in
     let at = there.1 in
     let few : there.0 < count = omega (arith, is, slice_get_within s.store.groups.entries there.0 (at, e.0) there.2) in
@@ -74,7 +74,7 @@ no_begun h s number o is none = λ at e there. absurd (none (at, e) (is ∙ ther
 -- each row has a number
 pub all_settled : (h : Held) (s : Search) (bound count : ℕ) → count ≡ length s.store.rows.entries → AreSettledAt h s bound count → AreSettledBelow h s bound
 all_settled h s bound count is each f q p x = λ r a er ea low.
-    let row = behind (λ (r : Row). r.inside) (row_at s.store (place f q p x)) a ea in
+    let row = option_map_some (λ (r : Row). r.inside) (row_at s.store (place f q p x)) a ea in
     let there = place_from_lookup (place_eq (place f q p x)) s.store.rows.entries row.0 row.1 in
     let at = there.1 in
     let few : there.0 < count = omega (arith, is, slice_get_within s.store.rows.entries there.0 (at, row.0) there.2) in

@@ -1,10 +1,11 @@
 use Rattle.std.proofs.Common.{◌∙◌, sym, ap, subst}
 use Rattle.std.proofs.lemmas.Option.{none-some, same_Some}
+use Rattle.std.proofs.lemmas.Bool.{or_parts}
 use Rattle.cw_audit_table.specs.Runs.{is_step}
 use Rattle.cw_audit_visits.specs.Searching.{spot_at, IsStepTold}
 use Rattle.cw_audit_visits.proofs.Turns.{first_step, second_step}
 use Rattle.cw_product.specs.Product.{game_of}
-use Rattle.cw_audit_visits.proofs.Gone.{gone_trans, neither, placed_position, there_placed}
+use Rattle.cw_audit_visits.proofs.Gone.{gone_trans, placed_position, there_placed}
 use Rattle.cw_audit_visits.proofs.Proposed.{reach_same}
 use Rattle.cw_audit_visits.proofs.Stepping.{step_later, steps_due, row_good, row_low, moves_told, told_same}
 use Rattle.cw_audit_visits.proofs.steps.steps.Goals as goal
@@ -68,7 +69,7 @@ returns-in_ok-other-in-Some-clause-goes_on c =
 pub returns-in_ok-other-in-Some-clause-told : goal.returns-in_ok-other-in-Some-clause-told
 returns-in_ok-other-in-Some-clause-told c = λ b.
     let h = c.args.game.now in
-    let n = neither c.in_ok-one.one c.in_ok-other-in-Some.other b in
+    let n = or_parts c.in_ok-one.one c.in_ok-other-in-Some.other b in
     moves_told h c.args.search.now c.args.met.place c.args.met.row.inside c.requires.inner
     (subst (IsStepTold h c.args.search.now c.args.met.place c.args.met.row.inside) c.moves-first.ensures.first (c.in_ok-one.ensures.told n.0))
     (λ m e. subst (IsStepTold h c.args.search.now c.args.met.place c.args.met.row.inside) (same_Some c.in-Some.by m (sym c.in-Some.is ∙ c.moves-first.ensures.second ∙ e))
