@@ -7,12 +7,12 @@ use Rattle.cw_model.specs.Boards.{Problem, problem_of}
 use Rattle.cw_model.specs.Runs.{Sound}
 use Rattle.cw_game.specs.Games.{Game}
 use Rattle.cw_game.specs.Conditions.{TableFault, table_fault, IsGoodTable}
-use Rattle.cw_policy.specs.Answer.{Spells}
 use Rattle.cw_commands.specs.declared.outcome.Reply.TheVariants.{Yes, No}
 use Rattle.cw_commands.specs.Outcomes.{Due, Told}
 use Rattle.cw_stages.specs.Games.{WhereWovenFits}
-use Rattle.cw_stages.specs.Refusals.{yes, IsPolicyRefusal}
+use Rattle.cw_stages.specs.Refusals.{yes}
 use Rattle.cw_stages.specs.Tables.{told, WithWoven}
+use Rattle.cw_stages.specs.Reading.{BehindPolicy}
 
 -- The table meets the conditions of the game, and is sound; or the first row that fails one.
 abbrev pub IsChecked : Problem → Game → Table → Due → Type 0
@@ -28,6 +28,5 @@ AfterWoven source whole file t = WhereWovenFits (λ g due. IsChecked (problem_of
 abbrev pub AfterPolicy : (text : List ℕ) → PlainPolicy → Due → Type 0
 AfterPolicy text whole = WithWoven (λ source file t due. AfterWoven source whole file t due) text whole
 
--- The policy is read first.
 abbrev pub IsCheckDue : (policy text : List ℕ) → Due → Type 0
-IsCheckDue policy text due = IsPolicyRefusal policy due ⊎ ((whole : PlainPolicy) × Spells policy whole × AfterPolicy text whole due)
+IsCheckDue policy text = BehindPolicy (AfterPolicy text) policy

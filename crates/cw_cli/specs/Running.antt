@@ -41,6 +41,5 @@ AfterWoven tape source whole file t = WithTape (λ moves. WhereWovenFits (IsRunS
 abbrev pub AfterPolicy : (text tape : List ℕ) → PlainPolicy → Due → Type 0
 AfterPolicy text tape whole = WithWoven (λ source file t. AfterWoven tape source whole file t) text whole
 
--- The policy is read first.
 abbrev pub IsRunDue : (policy text tape : List ℕ) → Due → Type 0
-IsRunDue policy text tape due = IsPolicyRefusal policy due ⊎ ((whole : PlainPolicy) × Spells policy whole × AfterPolicy text tape whole due)
+IsRunDue policy text tape = BehindPolicy (AfterPolicy text tape) policy

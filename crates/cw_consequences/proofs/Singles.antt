@@ -31,7 +31,7 @@ use Rattle.cw_commands.specs.declared.outcome.Cause.TheVariants.{Policy, Source}
 use Rattle.cw_commands.specs.Outcomes.{Due, Refused}
 use Rattle.cw_stages.specs.Fitting.{fit_line, IsFitRefusal}
 use Rattle.cw_stages.specs.Games.{game_refusal, WhereFits, WhereWovenFits, WithGame, WithGraph}
-use Rattle.cw_stages.specs.Reading.{AfterReading, IsSourceUnread, WithSource}
+use Rattle.cw_stages.specs.Reading.{AfterReading, IsSourceUnread, WithSource, BehindPolicy}
 use Rattle.cw_stages.specs.Refusals.{descriptor_line, policy_refusal, source_refusal, IsPolicyRefusal}
 use Rattle.cw_stages.specs.Strategies.{strategy_refusal, WithStrategy}
 use Rattle.cw_stages.specs.Tapes.{tape_refusal, WithTape}
@@ -72,7 +72,7 @@ one_refusal policy due answer (f, is, ne, a) (g, other, nor, b) = a ∙ ap polic
 
 -- the policy is read first
 module _ (policy : List ℕ) (Next : PlainPolicy → Due → Type 0) (one : (p : PlainPolicy) → Spells policy p → IsOne (Next p)) where
-  pub one_behind : IsOne (λ due. IsPolicyRefusal policy due ⊎ ((p : PlainPolicy) × Spells policy p × Next p due))
+  pub one_behind : IsOne (BehindPolicy Next policy)
   one_behind due answer (inl a) (inl b) = one_refusal policy due answer a b
   one_behind due answer (inl a) (inr (p, spells, after)) = absurd (never_spelled policy p due a spells)
   one_behind due answer (inr (p, spells, after)) (inl b) = absurd (never_spelled policy p answer b spells)
@@ -80,7 +80,7 @@ module _ (policy : List ℕ) (Next : PlainPolicy → Due → Type 0) (one : (p :
       one p spells due answer after (subst (λ (z : PlainPolicy). Next z answer) (one_policy policy q p other spells) behind)
 
 module _ (policy source : List ℕ) (Next : PlainPolicy → File → Due → Type 0) (one : (p : PlainPolicy) (file : File) → IsOne (Next p file)) where
-  split : (due : Due) → AfterReading Next policy source due → IsPolicyRefusal policy due ⊎ ((p : PlainPolicy) × Spells policy p × WithSource (Next p) source p due)
+  split : (due : Due) → AfterReading Next policy source due → BehindPolicy (λ p. WithSource (Next p) source p) policy due
   split due (inl (inl refusal)) = inl refusal
   split due (inl (inr (p, spells, unread))) = inr (p, spells, inl unread)
   split due (inr (p, file, are, after)) = inr (p, are.spelled, inr (file, are.reads, are.descriptors, after))

@@ -18,9 +18,13 @@ pub record AreRead (policy source : List ℕ) (whole : PlainPolicy) (file : File
 abbrev pub IsSourceUnread : List ℕ → PlainPolicy → Due → Type 0
 IsSourceUnread source whole due = IsSourceRefusal source due ⊎ IsDescriptorRefusal source whole due
 
+-- The policy is read first: it is refused, or what is due under the policy that is spelled.
+abbrev pub BehindPolicy : (PlainPolicy → Due → Type 0) → List ℕ → Due → Type 0
+BehindPolicy Next policy due = IsPolicyRefusal policy due ⊎ ((whole : PlainPolicy) × Spells policy whole × Next whole due)
+
 -- The policy is refused, or it is spelled and the source is refused under it.
 abbrev pub IsUnread : List ℕ → List ℕ → Due → Type 0
-IsUnread policy source due = IsPolicyRefusal policy due ⊎ ((whole : PlainPolicy) × Spells policy whole × IsSourceUnread source whole due)
+IsUnread policy source = BehindPolicy (IsSourceUnread source) policy
 
 -- What is due: that, or what is due for the policy and the program that are read.
 abbrev pub AfterReading : (PlainPolicy → File → Due → Type 0) → List ℕ → List ℕ → Due → Type 0

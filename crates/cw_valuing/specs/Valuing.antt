@@ -5,7 +5,6 @@ use Rattle.cw_syntax.specs.Trees.{File}
 use Rattle.cw_certs.specs.Tables.{Table}
 use Rattle.cw_game.specs.Games.{Game}
 use Rattle.cw_game.specs.Conditions.{TableFault, table_fault, IsGoodTable}
-use Rattle.cw_policy.specs.Answer.{Spells}
 use Rattle.cw_value.specs.declared.values.Stop.{Stop}
 use Rattle.cw_value.specs.declared.values.Stop.TheVariants.{Ended}
 use Rattle.cw_value.specs.Shown.{Answers, Values}
@@ -16,7 +15,7 @@ use Rattle.cw_commands.specs.declared.outcome.Reply.{Reply}
 use Rattle.cw_commands.specs.declared.outcome.Reply.TheVariants.{Yes, No}
 use Rattle.cw_commands.specs.Outcomes.{Due, Told}
 use Rattle.cw_stages.specs.Tables.{told, WithWoven}
-use Rattle.cw_stages.specs.Refusals.{IsPolicyRefusal}
+use Rattle.cw_stages.specs.Reading.{BehindPolicy}
 use Rattle.cw_valuing.specs.Refusals.{WithAnswers, WhereFormed}
 
 -- status 0 where the run ended, and 1 where it stopped
@@ -49,6 +48,5 @@ AfterWoven answers source whole file t = WithAnswers (λ a. WhereFormed (IsValue
 abbrev pub AfterPolicy : (text answers : List ℕ) → PlainPolicy → Due → Type 0
 AfterPolicy text answers whole = WithWoven (λ source file t. AfterWoven answers source whole file t) text whole
 
--- The policy is read first.
 abbrev pub IsValuesDue : (policy text answers : List ℕ) → Due → Type 0
-IsValuesDue policy text answers due = IsPolicyRefusal policy due ⊎ ((whole : PlainPolicy) × Spells policy whole × AfterPolicy text answers whole due)
+IsValuesDue policy text answers = BehindPolicy (AfterPolicy text answers) policy

@@ -9,7 +9,6 @@ use Rattle.cw_certs.specs.Tables.{Table}
 use Rattle.cw_model.specs.Boards.{problem_of}
 use Rattle.cw_game.specs.Games.{Game}
 use Rattle.cw_game.specs.Conditions.{TableFault, table_fault, IsGoodTable}
-use Rattle.cw_policy.specs.Answer.{Spells}
 use Rattle.cw_trace.specs.Labels.{names_of as told_names}
 use Rattle.cw_steps.specs.declared.step.Step.{Step as StepData}
 use Rattle.cw_steps.specs.Steps.{Spells as SpellsSteps}
@@ -24,7 +23,7 @@ use Rattle.cw_commands.specs.declared.outcome.Reply.TheVariants.{Yes, No}
 use Rattle.cw_commands.specs.Outcomes.{Due, Told, Refused}
 use Rattle.cw_stages.specs.Games.{WhereWovenFits}
 use Rattle.cw_stages.specs.Tables.{told, WithWoven}
-use Rattle.cw_stages.specs.Refusals.{IsPolicyRefusal}
+use Rattle.cw_stages.specs.Reading.{BehindPolicy}
 
 -- the trace of a world, and behind it how the world ends: after all steps, with so many processes, or at the first that is none
 abbrev pub world_told : End → (lines : List ℕ) → Due
@@ -61,6 +60,5 @@ AfterWoven steps source whole file t = WithSteps (λ list. WhereWovenFits (IsWor
 abbrev pub AfterPolicy : (text steps : List ℕ) → PlainPolicy → Due → Type 0
 AfterPolicy text steps whole = WithWoven (λ source file t. AfterWoven steps source whole file t) text whole
 
--- The policy is read first.
 abbrev pub IsWorldDue : (policy text steps : List ℕ) → Due → Type 0
-IsWorldDue policy text steps due = IsPolicyRefusal policy due ⊎ ((whole : PlainPolicy) × Spells policy whole × AfterPolicy text steps whole due)
+IsWorldDue policy text steps = BehindPolicy (AfterPolicy text steps) policy
