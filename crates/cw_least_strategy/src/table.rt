@@ -18,6 +18,7 @@ use crate::named::Named;
 use crate::rows::rows_within;
 use cw_certs::EnvCert;
 use cw_core::StateSet;
+use cw_core::limits::ROWS;
 use cw_fixpoint::descended_up_to;
 use cw_product::Game;
 use cw_solve::{Solved, TableFault};
