@@ -25,7 +25,6 @@ use Rattle.cw_audit_visits.specs.Searching.{place, found_of, functions_of, left,
 use Rattle.cw_audit_visits.specs.Searching.{IsGroupFalling, IsGroupSet, IsCallAt, IsPlaced, IsReturnTold, IsDue, IsThere}
 use Rattle.cw_audit_visits.proofs.Sets.{group_reach, group_call}
 use Rattle.cw_audit_visits.proofs.Oks.{by_truth}
-use Rattle.cw_audit_visits.proofs.Proposed.{behind}
 use Rattle.cw_audit_visits.proofs.Waits.{waits_same, wait_trans}
 
 pub gone_trans : (h : Held) (a b c : Search) → IsGoneOn h a b → IsGoneOn h b c → IsGoneOn h a c
@@ -46,7 +45,7 @@ module _ (h : Held) (s s2 : Search) (at : Entrance) (entered : Entered) where
   group_gone_on fair kept arrival caller falls set rests =
       let set2 = group_reach s.store s2.store at.function at.state.0 entered set in
       let falls2 : (a : ℕ) → (found_of s.store).reach at.function at.state.0 ≡ Some a → entered.reach ≤ a =
-      λ a e. let r = behind (λ (e : Entered). e.reach) (group_at s.store at) a e in subst (λ m. entered.reach ≤ m) r.2 (falls r.0 r.1) in
+      λ a e. let r = option_map_some (λ (e : Entered). e.reach) (group_at s.store at) a e in subst (λ m. entered.reach ≤ m) r.2 (falls r.0 r.1) in
       let fallen = reach_falls g (functions_of h) fair (found_of s.store) (found_of s2.store) kept.sound at.function at.state.0 entered.reach set2 falls2 in
       record {
         kept = record {

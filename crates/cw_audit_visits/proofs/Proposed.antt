@@ -34,11 +34,6 @@ number_at : (s : Search) (at : Place) (r : Row) → row_at s.store at ≡ Some r
     → (found_of s.store).number at.entrance.function at.entrance.state.0 at.pos.0 at.state.0 ≡ Some r.inside
 number_at s at r e = ap (option_map (λ (r : Row). r.inside)) e
 
--- what a number stands for
-pub behind : {A : Type 0} (f : A → ℕ) (o : Option A) (a : ℕ) → option_map f o ≡ Some a → (r : A) × (o ≡ Some r) × (f r ≡ a)
-behind f None a e = absurd (none-some a e)
-behind f (Some r) a e = (r, refl, same_Some (f r) a e)
-
 -- the reach of a group is the same where the groups are
 pub reach_same : (s s2 : Search) (at : Place) (r : ℕ) → s2.store.groups ≡ s.store.groups → reach_of s at ≡ Some r → reach_of s2 at ≡ Some r
 reach_same s s2 at r groups e =

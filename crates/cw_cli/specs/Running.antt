@@ -9,15 +9,14 @@ use Rattle.cw_certs.specs.Tables.{Table}
 use Rattle.cw_model.specs.Boards.{problem_of}
 use Rattle.cw_game.specs.Games.{Game}
 use Rattle.cw_game.specs.Conditions.{TableFault, table_fault, IsGoodTable}
-use Rattle.cw_policy.specs.Answer.{Spells}
 use Rattle.cw_trace.specs.Labels.{names_of as told_names}
 use Rattle.cw_trace.specs.Steps.{Step, End, IsRunBy, run_trace}
 use Rattle.cw_commands.specs.declared.outcome.Reply.TheVariants.{No}
 use Rattle.cw_commands.specs.Outcomes.{Due, Told}
 use Rattle.cw_stages.specs.Games.{WhereWovenFits}
 use Rattle.cw_stages.specs.Tables.{told, WithWoven}
-use Rattle.cw_stages.specs.Refusals.{IsPolicyRefusal}
 use Rattle.cw_stages.specs.Tapes.{WithTape}
+use Rattle.cw_stages.specs.Reading.{BehindPolicy}
 pub use Rattle.cw_cli.specs.Telling.{run_told}
 
 -- There is a woven run by the tape, and its trace and its end are told.

@@ -10,11 +10,12 @@ use crate::checking::check_due;
 use crate::refuting::refute_due;
 use cw_commands::{Outcome, Reply};
 use cw_core::NoMemory;
+use cw_core::limits::FILE_BYTES_IN_FORMAT_2;
 use cw_io::{Sink, SinkFault, SureSink, Writer};
 use std::alloc::Global;
 
 /// Most bytes of a file.
-const FILE_BYTES: usize = 33_554_432;
+const FILE_BYTES: usize = FILE_BYTES_IN_FORMAT_2;
 
 /// Finishes a text in memory, which began with nothing.
 pub(crate) fn finished(writer: Writer<SureSink>, sink: &mut SureSink) -> Result<(), NoMemory>

@@ -14,6 +14,7 @@ use crate::aims::{small, whole};
 use crate::contexts::Entries;
 use crate::key::{Key, SmallKey};
 use cw_certs::{EnvRow, How};
+use cw_core::limits::ROWS;
 use cw_core::{PosId, StateId, StateSet};
 use cw_fixpoint::number_of;
 use cw_solve::Solved;
@@ -122,7 +123,7 @@ pub(crate) fn rows_within(
     ensures many { IfOk result (λ o. IfNone o (65536 < length keys.now + sum_by (backs_for (game_of solved.now.game) aims.now keys.now) keys.now)) }
 {
     let mut rows = Vec::new(alloc);
-    let mut left = 65536 - keys.len();
+    let mut left = ROWS - keys.len();
     for key in keys {
         let near = key.aim;
         let key = whole(aims, key);

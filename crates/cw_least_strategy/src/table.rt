@@ -72,7 +72,7 @@ fn strategy_within(alloc: Global, solved: &Solved) -> Result<Option<EnvCert>, Al
         entries,
         aims,
     };
-    match descended_up_to(alloc, &named, &[first], 65536)? {
+    match descended_up_to(alloc, &named, &[first], ROWS)? {
         None => Ok(None),
         Some(keys) => match rows_within(alloc, solved, &named.entries, aims, &keys)? {
             None => Ok(None),
