@@ -52,8 +52,10 @@ module _ (s s2 : Search) (at : Place) (row : Row) (reach m : ℕ)
   old_or_its false n q row2 is e = inl e
   old_or_its true n q row2 is e =
       let same = same_Some (at, row) (q, row2) e in
-      inr (ap (λ (p : Place × Row). p.0) (sym same),
-      subst (λ (r : Row). Waits s2 (reach + r.inside) n) (ap (λ (p : Place × Row). p.1) same) (subst (Waits s2 (reach + row.inside)) (sym (is refl)) its))
+      inr (
+        ap (λ (p : Place × Row). p.0) (sym same),
+        subst (λ (r : Row). Waits s2 (reach + r.inside) n) (ap (λ (p : Place × Row). p.1) same) (subst (Waits s2 (reach + row.inside)) (sym (is refl)) its),
+      )
 
   -- a row is set, and put
   pub row_put : IsPut s s2 at reach

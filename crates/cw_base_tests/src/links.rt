@@ -153,7 +153,13 @@ fn takes_the_last_under_the_least_key_whichever_is_near(rt: HostRuntime) {
         &rt,
         &mut queue,
         &[],
-        &[Some((6, 8)), Some((2, 9)), Some((3, 9)), Some((9, 1_000)), None],
+        &[
+            Some((6, 8)),
+            Some((2, 9)),
+            Some((3, 9)),
+            Some((9, 1_000)),
+            None,
+        ],
     );
 }
 

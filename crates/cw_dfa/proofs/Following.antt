@@ -103,6 +103,7 @@ goes_tabled r k e set table l h =
     let u : unite table 64 set ≡ unite (λ p. goes r k false (2 ^ p)) 64 set = unite_same table (λ p. goes r k false (2 ^ p)) 64 set (λ p m. h p m ∙ sym (goes_pow r k p)) in
     let b : goes r k false set ≡ unite (λ p. goes r k false (2 ^ p)) 64 set = ap (goes r k false) (sym (below_all set l)) ∙ goes_united r k 64 set in
     ap₂ bit_or (sym (goes_start r k e)) (u ∙ sym b) ∙ or_comm (goes r k e 0) (goes r k false set) ∙ sym (goes_apart r k e set)
+
 -- the literals that match a letter
 matching_within : (r : Tree) (k : ℕ) (c : Letter) (p : ℕ) → has (matching r k c) p ≡ true → (k ≤ p) × (p < k + count r)
 matching_within r k c p e = picked_within (λ l. fits l c) r k p e

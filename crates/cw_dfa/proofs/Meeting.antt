@@ -76,6 +76,7 @@ meets_pow set k = ap some (and_pow set k) ∙ by (nat_eq (bit_at set k) 1) refl
         let x : bit_at set k ≡ 0 = omega arith in
         let y : bit_at set k * 2 ^ k ≡ 0 = rw x (zero-mul (2 ^ k)) in
         ap some y
+
 pub pow_meets : (set p : ℕ) → meets (2 ^ p) set ≡ has set p
 pow_meets set p = ap some (and_comm (2 ^ p) set) ∙ meets_pow set p
 

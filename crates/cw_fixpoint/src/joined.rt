@@ -9,8 +9,8 @@ ghost use Rattle.cw_fixpoint.specs.Working.{join_of};
 ghost use Rattle.cw_fixpoint.specs.Searching.{Keeps, Searched};
 
 use crate::holds::{hold_in, met_by};
-use crate::indices::{Indices, NoIndices};
 use crate::indexed::{Seen, in_order, none_seen, see, see_all};
+use crate::indices::{Indices, NoIndices};
 use crate::joins::Joins;
 use std::alloc::{AllocError, Global};
 use std::collections::BTreeMap;

@@ -323,6 +323,7 @@ module _ (source form : List ℕ) where
         },
         subst (λ (l : List Lexeme). AreKept source form d l) words same.1,
       )
+
   abbrev Result : List Piece → List Lexeme → ℕ → ℕ → Bool → Type 0
   Result P xs at d f =
       (end : ℕ) × (h : Bool) × Lexed form (at + d) f (with_texts source at (spans_of P)) (map (moved d) xs ++ rights d P) end h [] × AreKept source form d xs × AreSame source form d P

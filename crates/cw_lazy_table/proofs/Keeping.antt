@@ -126,6 +126,7 @@ module _ (g : Game) (functions : ℕ) (routed : AreRouted g functions) (staged :
             ∙ or_from (Holds g n (p + 2) q (has e)) (Holds g n (p + 1) q (has e)) (later g functions routed l.0 n (p + 2) q (has e) (omega arith) s l.1)
             (later g functions routed k.0 n (p + 1) q (has e) (omega arith) s k.1),
       )
+
   module _ (first : IsState g g.states.start) (start : IsLost g (g.entry g.main) g.states.start (has (all_states g)) → ⊥) where
     -- the same function and promise at a target
     at_target : (p q e r x : ℕ) → IsSafe g functions p q e → Contains (targets p (slice_get g.spots p)) r → IsState g x → (IsLost g r x (has e) → ⊥) → IsSafe g functions r x e

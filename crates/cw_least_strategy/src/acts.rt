@@ -225,15 +225,7 @@ pub(crate) fn act_at(
             split,
             back,
         } => into(
-            alloc,
-            solved,
-            entries,
-            number,
-            key,
-            near,
-            callee,
-            back,
-            split,
+            alloc, solved, entries, number, key, near, callee, back, split,
         ),
         Turn::Environment => match best(solved, number, key) {
             None => Ok(Act::Bad),

@@ -78,13 +78,7 @@ fn home_of(game: &Game, runs: &[Divisor], table: &Table, near: usize, place: usi
 
 /// Has the context near that has a place.
 #[inline(always)]
-pub(crate) fn approach(
-    game: &Game,
-    runs: &[Divisor],
-    table: &Table,
-    home: &mut Home,
-    place: usize,
-)
+pub(crate) fn approach(game: &Game, runs: &[Divisor], table: &Table, home: &mut Home, place: usize)
     requires routed { AreRouted (game_of game.now) (length game.now.graph.parts.items) }
     requires runs { AreRuns (game_of game.now) (length game.now.graph.parts.items) runs.now }
     requires table { IsTable (game_of game.now) table.now }

@@ -53,6 +53,7 @@ last_in g (x ∷ xs) all w e =
     in_it x xs w all e =
         let lt : length (x ∷ xs) - 1 < length (x ∷ xs) = omega arith in
         subst (λ (z : WaitData). IsWait g (wait_of z)) (get_or_from_slice_get (x ∷ xs) (length (x ∷ xs) - 1) w x e) (All-get_or (λ (w : WaitData). IsWait g (wait_of w)) (x ∷ xs) (length (x ∷ xs) - 1) x lt all)
+
 pub call_within : (g : Game) (functions p : ℕ) (spot : Spot) (call : Called) → Some spot ≡ slice_get g.spots p → Some call ≡ call_in (Some spot)
     → ((p : ℕ) (s : Spot) → slice_get g.spots p ≡ Some s → LeadsWithin (length g.spots) functions p s) → (call.function < functions) × (call.back < length g.spots)
 call_within g functions p (Call j f n) call e c leads =

@@ -86,6 +86,7 @@ seeks_all p xs h k d lt =
     let n = no_place p xs (sym h) in
     let passes = prefix_len_passes (λ x. not (p x)) xs k d (omega (arith, lt, n)) in
     not-true (p (get_or xs k d)) passes
+
 pub place_none : (contexts : List Context) (f e : ℕ) → position (λ (c : Context). nat_eq c.function f && nat_eq c.promise e) contexts ≡ None → Contains contexts (context f e) → ⊥
 place_none contexts f e h is =
     let p : Context → Bool = λ c. nat_eq c.function f && nat_eq c.promise e in

@@ -51,6 +51,7 @@ module _ (h : Held) where
       let lt : i < n = omega (arith, long, le) in
       let w : true ≡ false = sym ways ∙ ap (has_position g p e) (sym at.1) ∙ none i lt in
       cc
+
   pub has_is : (p e number first last : ℕ) (c : Context) (near : Bool) → Some c ≡ slice_get h.contexts number → first ≡ g.entry c.function → last ≡ g.exit c.function
       → near ≡ (nat_le first p && nat_le p last) → c.promise ≡ e → near ≡ has_position g p e (slice_get h.contexts number)
   has_is p e number first last c near at f l n same =

@@ -32,6 +32,7 @@ module _ {A : Type 0} where
   tabled_first f n =
       let e : suc n ≡ 1 + n = omega arith in
       ap (tabled f) e ∙ tabled_append f 1 n ∙ ap (λ l. f 0 ∷ l) (tabled_same (λ j. f (1 + j)) (λ j. f (suc j)) n (λ j l. ap f (one-add j)))
+
 map_tabled : {A B : Type 0} (xs : List A) (h : A → B) (f : ℕ → B) (d : A) → ((j : ℕ) → j < length xs → h (get_or xs j d) ≡ f j) → map h xs ≡ tabled f (length xs)
 map_tabled [] h f d e = refl
 map_tabled (x ∷ xs) h f d e = ap₂ (λ y l. y ∷ l) (e 0 (omega arith)) (map_tabled xs h (λ j. f (suc j)) d (λ j l. e (suc j) (omega (arith, l))))

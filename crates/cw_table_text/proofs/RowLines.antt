@@ -175,6 +175,7 @@ pub none_left : (format : ℕ) (a b : Row) (rest : List (List ℕ)) → name_of 
 none_left format a b rest name e =
     let same : length (fields_of format a) ≡ length (fields_of format b) = arity_is format a ∙ ap (λ (n : List ℕ). arity (get_or n 3 0)) name ∙ sym (arity_is format b) in
     nil_from_length rest (omega (arith, same, ap length e, length-append (fields_of format a) rest))
+
 -- what the reader of a line answers
 pub no_call : (format : ℕ) (line : List ℕ) → ((name inner : List ℕ) → IsFree 40 name → line ≢ name ++ (40 ∷ (inner ++ 41 ∷ []))) → Reads (Fits format) (row_words format) line None
 no_call format line h = record { some = tt; none = λ row fits e. h (name_of row) (joined 44 (fields_of format row)) (name_free 40 (omega arith) row) (sym e ∙ row_line format row) }

@@ -6,14 +6,14 @@ use Rattle.cw_linked.proofs.home.cell_near.Goals as goal
 pub overflow_add-pos : goal.overflow_add-pos
 overflow_add-pos c =
     let low = pos_low (game_of c.args.game.now) (length c.args.game.now.graph.parts.items) c.requires.routed c.args.work.now c.requires.table c.args.home.now c.requires.home c.numbered-at.result
-      c.numbered-at.ensures.number c.numbered-at.ensures.there c.args.place c.requires.from c.requires.before c.by.result c.quotient-state.result c.by.ensures c.quotient-state.ensures in
+    c.numbered-at.ensures.number c.numbered-at.ensures.there c.args.place c.requires.from c.requires.before c.by.result c.quotient-state.result c.by.ensures c.quotient-state.ensures in
     omega (arith, low)
 
 pub overflow_cast-result : goal.overflow_cast-result
 overflow_cast-result c =
     let below = state_here (game_of c.args.game.now) (length c.args.game.now.graph.parts.items) c.requires.routed c.args.work.now c.requires.table c.args.home.now c.requires.home
-      c.numbered-at.result c.numbered-at.ensures.number c.numbered-at.ensures.there c.args.place c.requires.from c.requires.before c.by.result c.quotient-state.result c.by.ensures
-      c.quotient-state.ensures in
+    c.numbered-at.result c.numbered-at.ensures.number c.numbered-at.ensures.there c.args.place c.requires.from c.requires.before c.by.result c.quotient-state.result c.by.ensures
+    c.quotient-state.ensures in
     omega (arith, below, c.requires.routed.few)
 
 pub returns-clause-cell : goal.returns-clause-cell

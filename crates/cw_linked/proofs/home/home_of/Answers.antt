@@ -15,13 +15,13 @@ bounds-runs-function c =
 pub overflow_mul-past : goal.overflow_mul-past
 overflow_mul-past c =
     let low = block_low (game_of c.args.game.now) c.args.table.now c.requires.table c.numbered-at.result c.numbered-at.ensures.there c.block_by-block.result c.block_by-block.ensures c.states.result
-      c.states.ensures in
+    c.states.ensures in
     omega (arith, low)
 
 pub overflow_add-past : goal.overflow_add-past
 overflow_add-past c =
     let low = block_low (game_of c.args.game.now) c.args.table.now c.requires.table c.numbered-at.result c.numbered-at.ensures.there c.block_by-block.result c.block_by-block.ensures c.states.result
-      c.states.ensures in
+    c.states.ensures in
     omega (arith, low)
 
 pub returns-clause-home : goal.returns-clause-home

@@ -31,14 +31,14 @@ returns-in-Err-clause-here c =
     let xs = c.args.elements.now.items in
     ap (λ (ys : List ℕ). reverse ys ++ list_at c.put_all.new.later c.args.key)
     (left xs c.as_slice.result.now c.rotate_left.new.self.items c.truncate.new.self.items c.in-Err.many c.len.result c.as_slice.ensures.value c.rotate_left.ensures.items
-      c.truncate.ensures.items (c.len.ensures ∙ c.args.elements.now.ok.0))
+    c.truncate.ensures.items (c.len.ensures ∙ c.args.elements.now.ok.0))
     ∙ c.in-Err.ensures.some ∙ ap (λ (ys : List ℕ). reverse ys ++ list_at c.args.later.now c.args.key) c.as_slice.ensures.value
 
 pub returns-in-Err-clause-fewer : goal.returns-in-Err-clause-fewer
 returns-in-Err-clause-fewer c =
     let xs = c.args.elements.now.items in
     let is = left xs c.as_slice.result.now c.rotate_left.new.self.items c.truncate.new.self.items c.in-Err.many c.len.result c.as_slice.ensures.value c.rotate_left.ensures.items
-      c.truncate.ensures.items (c.len.ensures ∙ c.args.elements.now.ok.0) in
+    c.truncate.ensures.items (c.len.ensures ∙ c.args.elements.now.ok.0) in
     let long = ap (λ (ys : List ℕ). length ys) is in
     let slice = ap (λ (ys : List ℕ). length ys) c.as_slice.ensures.value in
     omega (arith, long, slice, length-drop c.in-Err.many c.as_slice.result.now)

@@ -44,8 +44,8 @@ returns-then-is_first-clause-taken c =
     let same_later = c.is_first.new.later in
     let near = c.is_first.new.near in
     some_still c.take_now.result (λ t h.
-        takes_same (all_stacks c.args.near.now later) (all_stacks near same_later) (all_stacks c.take_now.new.near same_later) t.0 t.1
-        (same_then c.args.near.now c.advance.new.near near later same_later c.is_first.ensures.later c.advance.ensures c.is_first.ensures.first.same) h) c.take_now.ensures.taken
+    takes_same (all_stacks c.args.near.now later) (all_stacks near same_later) (all_stacks c.take_now.new.near same_later) t.0 t.1
+    (same_then c.args.near.now c.advance.new.near near later same_later c.is_first.ensures.later c.advance.ensures c.is_first.ensures.first.same) h) c.take_now.ensures.taken
 
 pub returns-then-is_first-clause-none : goal.returns-then-is_first-clause-none
 returns-then-is_first-clause-none c = none_still c.take_now.result (λ (b : ⊥). absurd b) c.take_now.ensures.some
@@ -59,15 +59,15 @@ returns-clause-taken c =
     let same_later = c.is_first.new.later in
     let near = c.is_first.new.near in
     some_still c.take_later.result (λ t h.
-        takes_same (all_stacks c.args.near.now later) (all_stacks near same_later) (all_stacks c.take_later.new.near c.take_later.new.later) t.0 t.1
-        (same_then c.args.near.now c.advance.new.near near later same_later c.is_first.ensures.later c.advance.ensures c.is_first.ensures.first.same) h) c.take_later.ensures.taken
+    takes_same (all_stacks c.args.near.now later) (all_stacks near same_later) (all_stacks c.take_later.new.near c.take_later.new.later) t.0 t.1
+    (same_then c.args.near.now c.advance.new.near near later same_later c.is_first.ensures.later c.advance.ensures c.is_first.ensures.first.same) h) c.take_later.ensures.taken
 
 pub returns-clause-none : goal.returns-clause-none
 returns-clause-none c =
     none_still c.take_later.result (λ none key.
-        sym (same_then c.args.near.now c.advance.new.near c.is_first.new.near c.args.later.now c.is_first.new.later c.is_first.ensures.later c.advance.ensures
-          c.is_first.ensures.first.same key) ∙ none key)
-        c.take_later.ensures.none
+    sym (same_then c.args.near.now c.advance.new.near c.is_first.new.near c.args.later.now c.is_first.new.later c.is_first.ensures.later c.advance.ensures
+    c.is_first.ensures.first.same key) ∙ none key)
+    c.take_later.ensures.none
 
 pub returns-clause-left : goal.returns-clause-left
 returns-clause-left c =
@@ -75,7 +75,7 @@ returns-clause-left c =
     let near = c.is_first.new.near in
     let f = c.is_first.ensures.first.same in
     none_both c.take_later.result (λ left empty.
-        let was : length c.advance.new.near.present.items ≡ 0 = ap (λ (xs : List ℕ). length xs) (sym f.now) ∙ empty in
-        left ∙ ap (λ (ls : List (List ℕ)). all_stacks near ls) c.is_first.ensures.later ∙ stacks_still c.advance.new.near near later f
-        ∙ ap (λ (n : Near). all_stacks n later) (c.advance.ensures.none was).1)
-        c.take_later.ensures.left c.take_later.ensures.empty
+    let was : length c.advance.new.near.present.items ≡ 0 = ap (λ (xs : List ℕ). length xs) (sym f.now) ∙ empty in
+    left ∙ ap (λ (ls : List (List ℕ)). all_stacks near ls) c.is_first.ensures.later ∙ stacks_still c.advance.new.near near later f
+    ∙ ap (λ (n : Near). all_stacks n later) (c.advance.ensures.none was).1)
+    c.take_later.ensures.left c.take_later.ensures.empty
