@@ -1,21 +1,11 @@
-//! The keys of a table's rows, and the rows that are asked for at a seam.
+//! The rows of a table that are asked for at a seam.
 
 ghost use Rattle.std.specs.Prelude.{◌≡◌};
 ghost use Rattle.cw_certs.specs.Tables.{try_at, after_at, open_at, into_at, back_at};
 
 use crate::keys::{Keyed, row_at};
 use crate::{AtRow, BackRow, IntoRow, OpenRow, TryRow, WeaverCert};
-use cw_core::{MemId, SeamId, StateId, StateSet};
-
-impl Keyed for (StateId, StateSet) {
-    type Key = (StateId, StateSet);
-
-    ghost key_of = { λ r. r };
-
-    fn key(&self) -> (StateId, StateSet) {
-        *self
-    }
-}
+use cw_core::{MemId, SeamId, StateId};
 
 impl Keyed for TryRow {
     type Key = (SeamId, u8, MemId);
