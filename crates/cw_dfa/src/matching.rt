@@ -12,7 +12,7 @@ use cw_rights::{Caps, Letter, Lit, Regex, Rule, lit_matches};
 
 /// What is left of a budget after the literals of an expression, where they fit.
 #[cycle(spare)]
-#[tactic(auto, using(crate::proofs::Rows::cat_count, crate::proofs::Rows::or_count))]
+#[tactic(auto, using(cw_rights::proofs::Rows::cat_count, crate::proofs::Rows::or_count))]
 pub fn spare(r: &Regex, budget: u32) -> Option<u32>
     ensures some { IfSome result (λ left. left + count (tree_of r.now) ≡ budget) }
     ensures none { IfNone result (budget < count (tree_of r.now)) }
@@ -91,7 +91,7 @@ fn literal(lit: &Lit, k: u32, sought: Sought) -> u64
 /// The literals of an expression that are sought, as a set of positions, where its first literal has position `k`,
 /// and the position after its last one. Positions are below 64.
 #[cycle(picked)]
-#[tactic(auto, using(crate::proofs::Rows::cat_is, crate::proofs::Rows::or_picked, crate::proofs::Rows::or_count))]
+#[tactic(auto, using(cw_rights::proofs::Rows::cat_of, crate::proofs::Rows::or_picked, crate::proofs::Rows::or_count))]
 pub fn picked(r: &Regex, k: u32, sought: Sought) -> Marked
     requires { k + count (tree_of r.now) ≤ 64 }
     ensures next { result.next ≡ k + count (tree_of r.now) }

@@ -105,7 +105,7 @@ fn alternative(p: Part, q: Part) -> Part
 /// Reads off an expression whose first literal has the number k, and adds to the row of each literal those that may
 /// follow it there.
 #[cycle(part)]
-#[tactic(auto, using(crate::proofs::Rows::cat_is, crate::proofs::Rows::or_is))]
+#[tactic(auto, using(cw_rights::proofs::Rows::cat_of, cw_rights::proofs::Rows::or_of))]
 pub fn add_part(r: &Regex, k: u32, follow: &mut [u64]) -> Part
     requires room { k + count (tree_of r.now) ≤ 64 }
     requires rows { length follow.old ≡ 64 }

@@ -143,7 +143,7 @@ fn moves_by(game: &Game, cert: &WeaverCert, row: &LiveRow, by: Move) -> bool
 
 /// The sixth condition: at any other position that is no call and no exit, each move is taken by the memory after it. Tried are those
 /// that lead on there.
-#[tactic(auto, using(crate::proofs::Alls::and_true))]
+#[tactic(auto, using(cw_lemmas::proofs::Truths::and_true))]
 fn moves_on(game: &Game, cert: &WeaverCert, row: &LiveRow) -> bool
     requires row { IsRowOf (game_of game.now) row.now }
     requires good { bad_in (game_of game.now) row.now.state.0 (Some row.now.spot) ≡ false }
