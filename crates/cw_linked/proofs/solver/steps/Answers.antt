@@ -37,16 +37,16 @@ finish_at-requires-clause-home c = subst (λ (cs : List Context). IsHome (game_o
 pub steps-init : goal.steps-init
 steps-init c = record { work = c.requires.work; home = λ lt. absurd (omega (arith, lt, c.no_home-home.ensures)) }
 
-pub steps-preserved-in-Cell : goal.steps-preserved-in-Cell
-steps-preserved-in-Cell c =
+pub steps-preserved-in-Continue-1 : goal.steps-preserved-in-Continue-1
+steps-preserved-in-Continue-1 c =
     let ends = c.in_ok-finish_at-in-Cell.ensures.finishes in
     record {
       work = ends.kept;
       home = subst (λ (t : Table). IsHome (game_of c.args.game.now) t.contexts.items c.finish_at.new.home) (sym ends.table) c.finish_at.ensures.home;
     }
 
-pub steps-smaller-in-Cell : goal.steps-smaller-in-Cell
-steps-smaller-in-Cell c =
+pub steps-smaller-in-Continue-1 : goal.steps-smaller-in-Continue-1
+steps-smaller-in-Continue-1 c =
     finished_less (game_of c.args.game.now) (length c.args.game.now.graph.parts.items) c.requires.routed
     (alike c.args.game.now) c.steps.work c.pop.new.work c.finish_at.new.work c.steps.invariant.work c.in-Cell.place c.in-Cell.height c.in-Cell.ensures c.in_ok-finish_at-in-Cell.ensures.finishes
 
