@@ -124,10 +124,9 @@ pub(crate) fn rows_within(
 {
     let mut rows = Vec::new(alloc);
     let mut left = ROWS - keys.len();
-    for key in keys {
-        let near = key.aim;
-        let key = whole(aims, key);
-        let row = row_at(alloc, solved, entries, aims, keys, &key, near)?;
+    for named in keys {
+        let key = whole(aims, named);
+        let row = row_at(alloc, solved, entries, aims, keys, &key, named.aim)?;
         let backs = backs_in(&row.how);
         if left < backs {
             return Ok(None);

@@ -1,6 +1,7 @@
 use Rattle.std.proofs.Common.{◌∙◌, refl, sym}
 use Rattle.cw_audit_visits.proofs.Oks.{when_ok, at_ok}
-use Rattle.cw_audit_visits.proofs.Gone.{gone_trans, neither, there_placed}
+use Rattle.std.proofs.lemmas.Bool.{or_parts}
+use Rattle.cw_audit_visits.proofs.Gone.{gone_trans, there_placed}
 use Rattle.cw_audit_visits.proofs.Visited.{leads_unknown, leads_within, leads_end, leads_call}
 use Rattle.cw_audit_visits.proofs.rows.visit.Goals as goal
 
@@ -25,7 +26,7 @@ returns-in_default-call_at-clause-told c = when_ok c.resume_all.result (λ chang
 
 pub returns-clause-told : goal.returns-clause-told
 returns-clause-told c = λ b.
-    let n = neither c.in_ok-entered.entered c.in_ok-returned.returned b in
+    let n = or_parts c.in_ok-entered.entered c.in_ok-returned.returned b in
     leads_call c.args.game.now c.args.search.now c.args.key c.args.number c.in-Some.met c.in-Some.ensures.entry c.in-Some.ensures.there (sym c.is_within.ensures ∙ c.if-is_within.false)
     (record { met = c.in-Some.met; callee = c.in-Some-call_at.callee; back = c.in-Some-call_at.back }) refl c.in-Some-call_at.ensures.some (c.in_ok-entered.ensures.near n.0)
 

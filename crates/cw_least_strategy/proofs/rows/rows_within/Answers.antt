@@ -14,32 +14,32 @@ use Rattle.cw_least_strategy.proofs.rows.rows_within.Goals as goal
 
 pub whole-key-requires : goal.whole-key-requires
 whole-key-requires c =
-    let within : c.loop-key.key-index < length c.args.keys.now = search (rules, c.loop-key-test.true) in
-    let at : slice_get c.args.keys.now c.loop-key.key-index ≡ Some c.key-item.result =
-    slice_get-get_or c.args.keys.now c.loop-key.key-index c.key-item.result within ∙ ap (λ (x : SmallKey). Some x) (sym c.key-item.is) in
+    let within : c.loop-named.named-index < length c.args.keys.now = search (rules, c.loop-named-test.true) in
+    let at : slice_get c.args.keys.now c.loop-named.named-index ≡ Some c.named-item.result =
+    slice_get-get_or c.args.keys.now c.loop-named.named-index c.named-item.result within ∙ ap (λ (x : SmallKey). Some x) (sym c.named-item.is) in
     record {
-      within = c.requires.ranked.within c.key-item.result
-          (c.loop-key.key-index, within, get_or_from_slice_get c.args.keys.now c.loop-key.key-index c.key-item.result c.key-item.result at);
+      within = c.requires.ranked.within c.named-item.result
+          (c.loop-named.named-index, within, get_or_from_slice_get c.args.keys.now c.loop-named.named-index c.named-item.result c.named-item.result at);
     }
 
 pub row_at-requires-clause-key : goal.row_at-requires-clause-key
 row_at-requires-clause-key c =
-    let within : c.loop-key.key-index < length c.args.keys.now = search (rules, c.loop-key-test.true) in
-    let at : slice_get c.args.keys.now c.loop-key.key-index ≡ Some c.key-item.result =
-    slice_get-get_or c.args.keys.now c.loop-key.key-index c.key-item.result within ∙ ap (λ (x : SmallKey). Some x) (sym c.key-item.is) in
+    let within : c.loop-named.named-index < length c.args.keys.now = search (rules, c.loop-named-test.true) in
+    let at : slice_get c.args.keys.now c.loop-named.named-index ≡ Some c.named-item.result =
+    slice_get-get_or c.args.keys.now c.loop-named.named-index c.named-item.result within ∙ ap (λ (x : SmallKey). Some x) (sym c.named-item.is) in
     subst (IsKey (game_of c.args.solved.now.game) (length c.args.solved.now.game.graph.parts.items)) (sym c.whole-key.ensures)
-    (c.requires.keys c.key-item.result (c.loop-key.key-index, within, get_or_from_slice_get c.args.keys.now c.loop-key.key-index c.key-item.result c.key-item.result at))
+    (c.requires.keys c.named-item.result (c.loop-named.named-index, within, get_or_from_slice_get c.args.keys.now c.loop-named.named-index c.named-item.result c.named-item.result at))
 
 pub returns-then-left-backs-clause-many : goal.returns-then-left-backs-clause-many
 returns-then-left-backs-clause-many c =
     let g = game_of c.args.solved.now.game in
     let w = backs_for g c.args.aims.now c.args.keys.now in
-    let within : c.loop-key.key-index < length c.args.keys.now = search (rules, c.loop-key-test.true) in
-    let at : slice_get c.args.keys.now c.loop-key.key-index ≡ Some c.key-item.result =
-    slice_get-get_or c.args.keys.now c.loop-key.key-index c.key-item.result within ∙ ap (λ (x : SmallKey). Some x) (sym c.key-item.is) in
-    let past = sum_past w c.args.keys.now c.loop-key.key-index c.key-item.result at in
-    let more : c.backs_in-backs.result ≡ w c.key-item.result =
+    let within : c.loop-named.named-index < length c.args.keys.now = search (rules, c.loop-named-test.true) in
+    let at : slice_get c.args.keys.now c.loop-named.named-index ≡ Some c.named-item.result =
+    slice_get-get_or c.args.keys.now c.loop-named.named-index c.named-item.result within ∙ ap (λ (x : SmallKey). Some x) (sym c.named-item.is) in
+    let past = sum_past w c.args.keys.now c.loop-named.named-index c.named-item.result at in
+    let more : c.backs_in-backs.result ≡ w c.named-item.result =
     c.backs_in-backs.ensures ∙ ap (λ (r : Row). backs_in r.how) c.in_ok-row.ensures ∙ ap (λ (k : Key). backs_of g (wholes c.args.aims.now c.args.keys.now) k) c.whole-key.ensures in
-    let left = c.loop-key.invariant.left in
+    let left = c.loop-named.invariant.left in
     let lt = c.if-left-backs.true in
     omega (arith, past, more, left, lt)
