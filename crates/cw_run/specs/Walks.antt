@@ -11,12 +11,13 @@ use Rattle.cw_game.specs.declared.spots.Spot.{Spot}
 use Rattle.cw_game.specs.declared.spots.Spot.TheVariants.{Visit, Asked, Step, Branch, Label, Open, Close, Call, SplitCall, Exit}
 use Rattle.cw_game.specs.Games.{Game, Ret, Config, at_pair, returned, resumed}
 use Rattle.cw_game.specs.Games.{weavers_in}
-use Rattle.cw_game.specs.Pairs.{kept_at}
+use Rattle.cw_game.specs.Pairs.{Called, kept_at}
 use Rattle.cw_product.specs.Moves.{IsPosition, IsState, next_at}
 use Rattle.cw_trace.specs.Lines.{stop_line}
 use Rattle.cw_trace.specs.Traces.{Names}
 use Rattle.cw_trace.specs.Told.{lines_at, label_at}
 use Rattle.cw_run.specs.declared.walk.Here.{Here as HereData}
+use Rattle.cw_run.specs.declared.walk.CallAt.{CallAt}
 use Rattle.cw_run.specs.declared.run.Place.{Place as PlaceData}
 use Rattle.cw_run.specs.declared.run.Place.TheVariants as place_data
 use Rattle.cw_run.specs.declared.walk.Wait.{Wait as WaitData}
@@ -213,6 +214,10 @@ IsNextIn g (Back h) = IsHere g h
 IsNextIn g Over = Unit {0}
 IsNextIn g (Resumed h) = IsHere g h
 IsNextIn g (Stopped seam) = Unit {0}
+
+-- a call as the definition has it
+abbrev pub called_of : CallAt → Called
+called_of c = record { seam = c.seam.0; function = c.function; back = c.back.0; split = c.split }
 
 -- the calls that wait, the innermost first: the program has it last
 abbrev pub innermost : List WaitData → List Wait

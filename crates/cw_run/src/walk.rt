@@ -7,8 +7,7 @@ ghost use Rattle.cw_product.specs.Moves.{IsPosition, IsState};
 ghost use Rattle.cw_product.specs.Product.{game_of};
 ghost use Rattle.cw_game.specs.Games.{Game as GameOf, resumed};
 ghost use Rattle.cw_game.specs.Pairs.{call_in};
-ghost use Rattle.cw_wcheck.specs.Working.{called_of};
-ghost use Rattle.cw_run.specs.Walks.{here_of, wait_of, next_is, mem_after, within, called, returning, ended, refusing, next_of, Rests, IsHere, IsWait, IsNextIn, asked_memory, asked, at_pos, stepped_to, branched_to, to_if};
+ghost use Rattle.cw_run.specs.Walks.{here_of, wait_of, next_is, called_of, mem_after, within, called, returning, ended, refusing, next_of, Rests, IsHere, IsWait, IsNextIn, asked_memory, asked, at_pos, stepped_to, branched_to, to_if};
 
 use cw_certs::{
     Move, OpenRow, WeaverCert, after_close, after_label, back_at, into_at, open_at, try_at,

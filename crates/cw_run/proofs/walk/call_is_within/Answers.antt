@@ -1,5 +1,5 @@
 use Rattle.cw_product.specs.Product.{game_of}
-use Rattle.cw_wcheck.specs.Working.{called_of}
+use Rattle.cw_run.specs.Walks.{called_of}
 use Rattle.cw_run.proofs.Waits.{call_within}
 use Rattle.cw_run.proofs.walk.call_is_within.Goals as goal
 
