@@ -3,8 +3,6 @@ mod Checks
 mod Counted
 mod Judging
 mod Listed
-mod Audited
-mod Reaudited
 mod Sampled
 mod Shown
 mod Wanting

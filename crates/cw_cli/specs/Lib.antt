@@ -7,7 +7,5 @@ pub mod Checking
 pub mod Playing
 pub mod Running
 pub mod CheckingHeld
-pub mod Reauditing
-pub mod Auditing
 pub mod Due
 pub mod Agreeing

@@ -7,15 +7,14 @@ ghost use Rattle.cw_commands.specs.Outcomes.{due_of};
 ghost use Rattle.cw_commands.specs.Starts.{Starts, StartsLine};
 ghost use Rattle.cw_cli.specs.Due.{IsDue};
 
-use crate::auditing::audit_due;
 use crate::checking::check_due;
 use crate::listing::listing_due;
 use crate::playing::play_due;
-use crate::reauditing::reaudit_due;
 use crate::refuting::refute_due;
 use crate::running::run_due;
 use crate::sampling::sample_due;
 use crate::weaving::weave_due;
+use cw_auditing::{audit_due, reaudit_due};
 use cw_commands::{Command, Outcome};
 use cw_core::NoMemory;
 use cw_io::Sink;

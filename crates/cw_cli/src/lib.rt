@@ -1,14 +1,12 @@
 //! The top call: words, a shelf and two sinks in, the status out.
 #![tactic(auto)]
 
-mod auditing;
 mod checking;
 mod command;
 mod due;
 pub mod laws;
 mod listing;
 mod playing;
-mod reauditing;
 mod rechecking;
 mod refuting;
 mod running;
@@ -16,12 +14,10 @@ mod sampling;
 mod telling;
 mod weaving;
 
-pub use auditing::audit_due;
 pub use checking::check_due;
 pub use command::capweave;
 pub use listing::listing_due;
 pub use playing::play_due;
-pub use reauditing::reaudit_due;
 pub use refuting::refute_due;
 pub use running::run_due;
 pub use sampling::sample_due;

@@ -13,7 +13,7 @@ use Rattle.cw_commands.specs.Outcomes.{Due, Told}
 use Rattle.cw_stages.specs.Audits.{audit_refusal, told, WithAudit}
 use Rattle.cw_syntax.specs.Trees.{File}
 use Rattle.cw_rights.specs.Policies.{PlainPolicy}
-use Rattle.cw_cli.specs.Reauditing.{AfterAudit, AfterPair, IsFirstFault, IsReaudited, IsReauditDue}
+use Rattle.cw_auditing.specs.Reauditing.{AfterAudit, AfterPair, IsFirstFault, IsReaudited, IsReauditDue}
 use Rattle.cw_consequences.proofs.Singles.{IsOne, one_reading, one_where_fits}
 use Rattle.std.specs.Prelude.{length}
 

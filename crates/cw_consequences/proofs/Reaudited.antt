@@ -45,8 +45,8 @@ use Rattle.cw_commands.specs.Outcomes.{Due, Told}
 use Rattle.cw_stages.specs.Games.{IsGame}
 use Rattle.cw_stages.specs.Reading.{AreRead}
 use Rattle.cw_stages.specs.Refusals.{yes}
-use Rattle.cw_cli.specs.Auditing.{IsAuditDue, IsTrueOf, reply_of}
-use Rattle.cw_cli.specs.Reauditing.{IsReauditDue}
+use Rattle.cw_auditing.specs.Auditing.{IsAuditDue, IsTrueOf, reply_of}
+use Rattle.cw_auditing.specs.Reauditing.{IsReauditDue}
 use Rattle.cw_cli.proofs.Winning.{game_made, never_game, never_unread}
 use Rattle.cw_consequences.specs.Auditing.{AuditIsAccepted}
 use Rattle.cw_consequences.proofs.Audited.{one_reaudit}

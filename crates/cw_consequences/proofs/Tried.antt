@@ -26,7 +26,7 @@ use Rattle.cw_commands.specs.declared.outcome.Reply.{Reply}
 use Rattle.cw_commands.specs.declared.outcome.Reply.TheVariants.{Yes, No}
 use Rattle.cw_stages.specs.Games.{IsGame}
 use Rattle.cw_stages.proofs.OneGame.{one_game}
-use Rattle.cw_cli.specs.Auditing.{reply_of}
+use Rattle.cw_auditing.specs.Auditing.{reply_of}
 use Rattle.cw_cli.proofs.Winning.{won}
 use Rattle.cw_cli.proofs.Agreeing.{alike}
 use Rattle.cw_consequences.specs.Auditing.{AreButMoves, AuditTellsWhatIsTried, WhatIsRefutedViolates, AuditsSayTheSame, AuditsDifferInMoves}

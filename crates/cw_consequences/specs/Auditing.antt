@@ -16,8 +16,8 @@ use Rattle.cw_commands.specs.declared.outcome.Reply.TheVariants.{Yes, No}
 use Rattle.cw_commands.specs.Outcomes.{Told}
 use Rattle.cw_stages.specs.Reading.{AreRead}
 use Rattle.cw_stages.specs.Refusals.{yes}
-use Rattle.cw_cli.specs.Auditing.{IsAuditDue}
-use Rattle.cw_cli.specs.Reauditing.{IsReauditDue}
+use Rattle.cw_auditing.specs.Auditing.{IsAuditDue}
+use Rattle.cw_auditing.specs.Reauditing.{IsReauditDue}
 use Rattle.cw_cli.specs.Weaving.{IsWeaveDue}
 use Rattle.cw_cli.specs.Agreeing.{IsOnly}
 

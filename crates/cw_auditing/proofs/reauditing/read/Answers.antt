@@ -5,8 +5,8 @@ use Rattle.cw_source.specs.Read.{ReadsAs}
 use Rattle.cw_stages.specs.Reading.{WithSource}
 use Rattle.cw_stages.specs.Stops.{file_in}
 use Rattle.cw_stages.proofs.Answering.{weaker}
-use Rattle.cw_cli.specs.Auditing.{AfterPair}
-use Rattle.cw_cli.proofs.auditing.read.Goals as goal
+use Rattle.cw_auditing.specs.Reauditing.{AfterPair}
+use Rattle.cw_auditing.proofs.reauditing.read.Goals as goal
 
 pub returns-in_err-reading-clause-due : goal.returns-in_err-reading-clause-due
 returns-in_err-reading-clause-due g c =
@@ -17,8 +17,9 @@ pub returns-clause-due : goal.returns-clause-due
 returns-clause-due g c =
     let whole = policy_of c.args.policy.now in
     let source = c.args.source.now in
+    let text = c.args.text.now in
     let file = file_in c.in_ok-reading.reading in
     let reads = subst (λ s. ReadsAs s file) c.in_ok-reading.ensures.source c.in_ok-reading.ensures.is.reads in
-    let due = rw (c.in_ok-reading.ensures.policy, c.in_ok-reading.ensures.source) at c.fitted.ensures.due in
-    weaker whole source (AfterPair source whole file) (WithSource (AfterPair source whole) source whole) c.fitted.result
+    let due = rw (c.in_ok-reading.ensures.policy, c.in_ok-reading.ensures.source) at c.spelled.ensures.due in
+    weaker whole source (AfterPair source text whole file) (WithSource (AfterPair source text whole) source whole) c.spelled.result
     (λ due h. inr (file, reads, c.in_ok-reading.ensures.descriptors, h)) due

@@ -15,7 +15,7 @@ use Rattle.cw_audit_table.specs.Tables.{Audit}
 use Rattle.cw_audit_table.specs.Conditions.{EndAlone}
 use Rattle.cw_commands.specs.Outcomes.{Due}
 use Rattle.cw_stages.specs.Games.{IsGame}
-use Rattle.cw_cli.specs.Reauditing.{IsReaudited, IsReauditedBy}
+use Rattle.cw_auditing.specs.Reauditing.{IsReaudited, IsReauditedBy}
 
 -- a game has as many functions as its program
 pub functions_many : (source : List ℕ) (whole : PlainPolicy) (file : File) (graph : Graph) (held : Held) → IsGraph (names_of whole) source file graph → IsGame whole graph held

@@ -8,7 +8,7 @@ use Rattle.cw_audit_table.specs.Conditions.{EndAlone, IsGoodAudit, IsShown}
 use Rattle.cw_audit_table.specs.Tables.{Audit}
 use Rattle.cw_audit_table.proofs.Plays.{goes_played, shown_exact}
 use Rattle.cw_commands.specs.Outcomes.{Due}
-use Rattle.cw_cli.specs.Auditing.{IsAudited, IsAuditedBy, IsTrueOf}
+use Rattle.cw_auditing.specs.Auditing.{IsAudited, IsAuditedBy, IsTrueOf}
 
 pub true_of : (p : Problem) (g : Game) (functions : ℕ) (t : Audit) → IsGameOf p g → EndAlone g functions → IsGoodAudit g functions t → IsShown g t → IsTrueOf p t
 true_of p g functions t is alone good shown = record {

@@ -5,9 +5,9 @@ use Rattle.cw_product.specs.Product.{game_of}
 use Rattle.cw_audit_table.specs.Tables.{audit_of}
 use Rattle.cw_stages.specs.Stops.{file_in, source_of, whole_of}
 use Rattle.cw_stages.proofs.Answering.{weaker}
-use Rattle.cw_cli.specs.Reauditing.{AfterPair, IsReauditedBy}
-use Rattle.cw_cli.proofs.Reaudited.{functions_many, reaudited_for}
-use Rattle.cw_cli.proofs.reauditing.spelled.Goals as goal
+use Rattle.cw_auditing.specs.Reauditing.{AfterPair, IsReauditedBy}
+use Rattle.cw_auditing.proofs.Reaudited.{functions_many, reaudited_for}
+use Rattle.cw_auditing.proofs.reauditing.spelled.Goals as goal
 
 pub returns-in_err-audit-clause-due : goal.returns-in_err-audit-clause-due
 returns-in_err-audit-clause-due g c =

@@ -3,9 +3,9 @@ use Rattle.std.specs.Prelude.{Err}
 use Rattle.cw_audit_table.specs.Tables.{audit_of}
 use Rattle.cw_product.specs.Product.{game_of}
 use Rattle.cw_audit.specs.Audits.{IsAuditOf}
-use Rattle.cw_cli.proofs.Audited.{true_of}
-use Rattle.cw_cli.proofs.Reaudited.{end_alone}
-use Rattle.cw_cli.proofs.auditing.audited.Goals as goal
+use Rattle.cw_auditing.proofs.Audited.{true_of}
+use Rattle.cw_auditing.proofs.Reaudited.{end_alone}
+use Rattle.cw_auditing.proofs.auditing.audited.Goals as goal
 
 pub returns-in-Ok-clause-due : goal.returns-in-Ok-clause-due
 returns-in-Ok-clause-due g c = λ whole source.

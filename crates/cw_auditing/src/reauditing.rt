@@ -11,7 +11,7 @@ ghost use Rattle.cw_commands.specs.Outcomes.{due_of};
 ghost use Rattle.cw_commands.specs.Starts.{Starts, StartsLine};
 ghost use Rattle.cw_stages.specs.Reading.{WithSource};
 ghost use Rattle.cw_stages.specs.Stops.{file_in, source_of, whole_of, Answers, IsReading, StartsText};
-ghost use Rattle.cw_cli.specs.Reauditing.{AfterPair, IsFirstFault, IsReauditDue, IsReauditedBy};
+ghost use Rattle.cw_auditing.specs.Reauditing.{AfterPair, IsFirstFault, IsReauditDue, IsReauditedBy};
 
 use cw_audit_check::{BadGroup, check_audit, shows};
 use cw_audit_table::AuditTable;

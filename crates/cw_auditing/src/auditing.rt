@@ -11,7 +11,7 @@ ghost use Rattle.cw_commands.specs.Outcomes.{due_of};
 ghost use Rattle.cw_commands.specs.Starts.{Starts, StartsLine};
 ghost use Rattle.cw_stages.specs.Reading.{WithSource};
 ghost use Rattle.cw_stages.specs.Stops.{file_in, source_of, told_of, whole_of, Answers, BeginsText, IsReading, StartsText};
-ghost use Rattle.cw_cli.specs.Auditing.{reply_of, told, AfterPair, IsAuditDue, IsAuditedBy};
+ghost use Rattle.cw_auditing.specs.Auditing.{reply_of, told, AfterPair, IsAuditDue, IsAuditedBy};
 
 use cw_audit::{AuditFault, audit};
 use cw_audit_table::AuditTable;

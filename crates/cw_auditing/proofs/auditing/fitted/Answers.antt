@@ -4,10 +4,10 @@ use Rattle.cw_model.specs.Boards.{problem_of}
 use Rattle.cw_product.specs.Product.{game_of}
 use Rattle.cw_stages.specs.Stops.{file_in, source_of, whole_of}
 use Rattle.cw_stages.proofs.Answering.{weaker}
-use Rattle.cw_cli.specs.Auditing.{AfterPair, IsAuditedBy}
-use Rattle.cw_cli.proofs.Audited.{audited_for}
-use Rattle.cw_cli.proofs.Reaudited.{functions_many}
-use Rattle.cw_cli.proofs.auditing.fitted.Goals as goal
+use Rattle.cw_auditing.specs.Auditing.{AfterPair, IsAuditedBy}
+use Rattle.cw_auditing.proofs.Audited.{audited_for}
+use Rattle.cw_auditing.proofs.Reaudited.{functions_many}
+use Rattle.cw_auditing.proofs.auditing.fitted.Goals as goal
 
 pub returns-in_err-fits-clause-due : goal.returns-in_err-fits-clause-due
 returns-in_err-fits-clause-due g c =

@@ -5,8 +5,8 @@ use Rattle.cw_audit_table.specs.Conditions.{IsGoodAudit, IsShown}
 use Rattle.cw_audit_table.specs.Tables.{audit_of}
 use Rattle.cw_audit_table.proofs.Plays.{shown_exact}
 use Rattle.cw_product.specs.Product.{game_of}
-use Rattle.cw_cli.proofs.Reaudited.{end_alone}
-use Rattle.cw_cli.proofs.reauditing.judged.Goals as goal
+use Rattle.cw_auditing.proofs.Reaudited.{end_alone}
+use Rattle.cw_auditing.proofs.reauditing.judged.Goals as goal
 
 pub returns-in-None-clause-due : goal.returns-in-None-clause-due
 returns-in-None-clause-due g c = λ whole source.
