@@ -4,7 +4,6 @@ mod Counted
 mod Judging
 mod Listed
 mod Sampled
-mod Shown
 mod Wanting
 pub mod Agreeing
 pub mod Winning

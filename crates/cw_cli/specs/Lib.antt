@@ -4,8 +4,6 @@ pub mod Telling
 pub mod Sampling
 pub mod Listings
 pub mod Checking
-pub mod Playing
-pub mod Running
 pub mod CheckingHeld
 pub mod Due
 pub mod Agreeing

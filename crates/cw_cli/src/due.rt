@@ -9,9 +9,7 @@ ghost use Rattle.cw_cli.specs.Due.{IsDue};
 
 use crate::checking::check_due;
 use crate::listing::listing_due;
-use crate::playing::play_due;
 use crate::refuting::refute_due;
-use crate::running::run_due;
 use crate::sampling::sample_due;
 use crate::weaving::weave_due;
 use cw_auditing::{audit_due, reaudit_due};
@@ -19,6 +17,7 @@ use cw_commands::{Command, Outcome};
 use cw_core::NoMemory;
 use cw_io::Sink;
 use cw_parting::procs_due;
+use cw_playing::{play_due, run_due};
 use cw_valuing::values_due;
 use cw_worlding::world_due;
 use std::alloc::Global;

@@ -11,9 +11,9 @@ use Rattle.cw_product.specs.Product.{game_of}
 use Rattle.cw_trace.specs.Labels.{told}
 use Rattle.cw_stages.specs.Stops.{file_in, source_of, told_of, whole_of}
 use Rattle.cw_stages.proofs.Made.{graph_over}
-use Rattle.cw_cli.specs.Playing.{IsPlayTold}
-use Rattle.cw_cli.proofs.Shown.{play_is_told}
-use Rattle.cw_cli.proofs.playing.fitted.Goals as goal
+use Rattle.cw_playing.specs.Playing.{IsPlayTold}
+use Rattle.cw_playing.proofs.Shown.{play_is_told}
+use Rattle.cw_playing.proofs.playing.fitted.Goals as goal
 
 pub returns-in_err-fits-clause-due : goal.returns-in_err-fits-clause-due
 returns-in_err-fits-clause-due g c =

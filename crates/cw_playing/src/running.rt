@@ -11,7 +11,7 @@ ghost use Rattle.cw_commands.specs.Outcomes.{due_of};
 ghost use Rattle.cw_commands.specs.Starts.{Starts, StartsLine};
 ghost use Rattle.cw_stages.specs.Games.{WhereWovenFits};
 ghost use Rattle.cw_stages.specs.Stops.{file_in, source_of, whole_of, Answers, IsReading, StartsText};
-ghost use Rattle.cw_cli.specs.Running.{AfterPolicy, IsRunDue, IsRunShown};
+ghost use Rattle.cw_playing.specs.Running.{AfterPolicy, IsRunDue, IsRunShown};
 
 use crate::telling::run_told;
 use cw_certs::{Move, WeaverCert};

@@ -10,7 +10,7 @@ ghost use Rattle.cw_commands.specs.Starts.{Starts, StartsLine};
 ghost use Rattle.cw_stages.specs.Games.{WhereFits};
 ghost use Rattle.cw_stages.specs.Reading.{WithSource};
 ghost use Rattle.cw_stages.specs.Stops.{file_in, source_of, whole_of, Answers, IsReading, StartsText};
-ghost use Rattle.cw_cli.specs.Playing.{AfterPair, IsPlayDue, IsShown};
+ghost use Rattle.cw_playing.specs.Playing.{AfterPair, IsPlayDue, IsShown};
 
 use crate::telling::play_told;
 use cw_certs::{EnvCert, Move};

@@ -5,8 +5,8 @@ use Rattle.cw_text.proofs.Few.{moves_few}
 use Rattle.cw_stages.specs.Games.{WhereWovenFits}
 use Rattle.cw_stages.specs.Stops.{file_in}
 use Rattle.cw_stages.proofs.Answering.{weaker}
-use Rattle.cw_cli.specs.Running.{AfterPolicy, IsRunShown}
-use Rattle.cw_cli.proofs.running.accepted.Goals as goal
+use Rattle.cw_playing.specs.Running.{AfterPolicy, IsRunShown}
+use Rattle.cw_playing.proofs.running.accepted.Goals as goal
 
 pub returns-in_err-reading-clause-due : goal.returns-in_err-reading-clause-due
 returns-in_err-reading-clause-due g c =

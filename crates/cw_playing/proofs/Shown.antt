@@ -16,9 +16,9 @@ use Rattle.cw_play.specs.declared.end.PlayEnd.{PlayEnd}
 use Rattle.cw_play.specs.Played.{IsPlayed}
 use Rattle.cw_run.specs.Woven.{Tells}
 use Rattle.cw_commands.specs.Outcomes.{Due}
-use Rattle.cw_cli.specs.Playing.{IsPlayTold}
-use Rattle.cw_cli.specs.Running.{IsRunTold}
-use Rattle.cw_cli.specs.Telling.{play_told, run_told}
+use Rattle.cw_playing.specs.Playing.{IsPlayTold}
+use Rattle.cw_playing.specs.Running.{IsRunTold}
+use Rattle.cw_playing.specs.Telling.{play_told, run_told}
 
 module _ (source : List ℕ) (whole : PlainPolicy) (file : File) where
   pub play_is_told : (g : Game) (s : Strategy) (tape : List Move) (policy : PlainPolicy) (names : Names) (end : PlayEnd) (old lines : List ℕ) (due : Due)

@@ -20,7 +20,7 @@ use Rattle.cw_stages.specs.Reading.{AfterReading}
 use Rattle.cw_stages.specs.Games.{WhereFits}
 use Rattle.cw_stages.specs.Strategies.{told, WithStrategy}
 use Rattle.cw_stages.specs.Tapes.{WithTape}
-pub use Rattle.cw_cli.specs.Telling.{play_told}
+pub use Rattle.cw_playing.specs.Telling.{play_told}
 
 -- There is a play of the strategy by the tape from its start row, and its trace and its end are told.
 pub record IsPlayTold (source : List ℕ) (whole : PlainPolicy) (file : File) (g : Game) (s : Strategy) (tape : List Move) (due : Due) : Type 0 where

@@ -10,9 +10,9 @@ use Rattle.cw_run.specs.Woven.{end_of}
 use Rattle.cw_stages.specs.Stops.{file_in, source_of, told_of, whole_of}
 use Rattle.cw_stages.proofs.Checks.{failing}
 use Rattle.cw_stages.proofs.Made.{graph_over}
-use Rattle.cw_cli.specs.Running.{IsRunTold}
-use Rattle.cw_cli.proofs.Shown.{run_is_told}
-use Rattle.cw_cli.proofs.running.fitted.Goals as goal
+use Rattle.cw_playing.specs.Running.{IsRunTold}
+use Rattle.cw_playing.proofs.Shown.{run_is_told}
+use Rattle.cw_playing.proofs.running.fitted.Goals as goal
 
 pub returns-in_err-fits-clause-due : goal.returns-in_err-fits-clause-due
 returns-in_err-fits-clause-due g c =

@@ -17,7 +17,7 @@ use Rattle.cw_stages.specs.Games.{WhereWovenFits}
 use Rattle.cw_stages.specs.Tables.{told, WithWoven}
 use Rattle.cw_stages.specs.Tapes.{WithTape}
 use Rattle.cw_stages.specs.Reading.{BehindPolicy}
-pub use Rattle.cw_cli.specs.Telling.{run_told}
+pub use Rattle.cw_playing.specs.Telling.{run_told}
 
 -- There is a woven run by the tape, and its trace and its end are told.
 pub record IsRunTold (source : List ℕ) (whole : PlainPolicy) (file : File) (t : Table) (tape : List Move) (due : Due) : Type 0 where

@@ -4,8 +4,8 @@ use Rattle.cw_certs.specs.Strategies.{strategy_of}
 use Rattle.cw_stages.specs.Games.{WhereFits}
 use Rattle.cw_stages.specs.Stops.{file_in, source_of, whole_of}
 use Rattle.cw_stages.proofs.Answering.{weaker}
-use Rattle.cw_cli.specs.Playing.{AfterPair, IsShown}
-use Rattle.cw_cli.proofs.playing.spelled.Goals as goal
+use Rattle.cw_playing.specs.Playing.{AfterPair, IsShown}
+use Rattle.cw_playing.proofs.playing.spelled.Goals as goal
 
 pub returns-in_err-strategy-clause-due : goal.returns-in_err-strategy-clause-due
 returns-in_err-strategy-clause-due g c =
