@@ -32,12 +32,12 @@ use Rattle.cw_woven.proofs.Apart.{no_fault, one_reading}
 use Rattle.cw_woven.proofs.Opening.{is_fault}
 use Rattle.cw_commands.specs.declared.outcome.Reply.TheVariants.{Yes, No}
 use Rattle.cw_commands.specs.Outcomes.{Due, Told}
-use Rattle.cw_cli.specs.Agreeing.{RefutedIsJudged, WovenIsChecked}
-use Rattle.cw_cli.specs.Checking.{AfterPolicy, AfterWoven, IsCheckDue}
 use Rattle.cw_stages.specs.Reading.{IsUnread}
 use Rattle.cw_stages.specs.Refusals.{yes}
-use Rattle.cw_cli.specs.Refuting.{AfterPair as AfterRefutePair, AfterStrategy, IsRefuteDue}
 use Rattle.cw_stages.proofs.OneGame.{AreAlike, no_cause, one_game}
+use Rattle.cw_checking.specs.Checking.{AfterPolicy, AfterWoven, IsCheckDue}
+use Rattle.cw_checking.specs.Refuting.{AfterPair as AfterRefutePair, AfterStrategy, IsRefuteDue}
+use Rattle.cw_cli.specs.Agreeing.{RefutedIsJudged, WovenIsChecked}
 use Rattle.cw_cli.proofs.Winning.{IsWon, game_made, won}
 
 -- the graphs of a program are alike

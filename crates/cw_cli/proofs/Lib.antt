@@ -1,7 +1,5 @@
 mod Dues
-mod Checks
 mod Counted
-mod Judging
 mod Listed
 mod Sampled
 mod Wanting

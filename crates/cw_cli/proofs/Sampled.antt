@@ -12,8 +12,8 @@ use Rattle.cw_stages.specs.Reading.{WithSource}
 use Rattle.cw_stages.specs.Refusals.{yes, IsPolicyRefusal}
 use Rattle.cw_stages.specs.Verdicts.{IsVerdict}
 use Rattle.cw_stages.proofs.Answering.{read_behind}
-use Rattle.cw_cli.specs.Checking.{IsCheckDue}
-use Rattle.cw_cli.specs.Refuting.{IsRefuteDue}
+use Rattle.cw_checking.specs.Checking.{IsCheckDue}
+use Rattle.cw_checking.specs.Refuting.{IsRefuteDue}
 use Rattle.cw_cli.specs.Sampling.{AfterPolicy, IsSampleDue, IsSummed}
 use Rattle.cw_cli.specs.Telling.{summary}
 use Rattle.cw_cli.specs.Weaving.{AfterPair, IsWeaveDue}

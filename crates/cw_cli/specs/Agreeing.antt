@@ -4,9 +4,9 @@ use Rattle.cw_core.specs.Quantities.{limit_of}
 use Rattle.cw_core.specs.declared.quantity.Quantity.TheVariants.{SourceBytes}
 use Rattle.cw_commands.specs.declared.outcome.Reply.TheVariants.{Yes, No}
 use Rattle.cw_commands.specs.Outcomes.{Due, Told}
-use Rattle.cw_cli.specs.Checking.{IsCheckDue}
 use Rattle.cw_stages.specs.Refusals.{yes}
-use Rattle.cw_cli.specs.Refuting.{IsRefuteDue}
+use Rattle.cw_checking.specs.Checking.{IsCheckDue}
+use Rattle.cw_checking.specs.Refuting.{IsRefuteDue}
 use Rattle.cw_cli.specs.Weaving.{IsWeaveDue}
 
 -- this is due, and nothing else

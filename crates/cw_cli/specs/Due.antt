@@ -3,6 +3,8 @@ use Rattle.std.specs.Prelude.{ℕ, List, [], ◌∷◌}
 use Rattle.cw_commands.specs.declared.command.Command.{Command}
 use Rattle.cw_commands.specs.declared.command.Command.TheVariants.{Weave, Procs, Graph, Refute, Check, Play, Run, Sample, Reaudit, World, Audit, Values}
 use Rattle.cw_commands.specs.Outcomes.{Due}
+use Rattle.cw_checking.specs.Checking.{IsCheckDue}
+use Rattle.cw_checking.specs.Refuting.{IsRefuteDue}
 use Rattle.cw_playing.specs.Playing.{IsPlayDue}
 use Rattle.cw_playing.specs.Running.{IsRunDue}
 use Rattle.cw_auditing.specs.Auditing.{IsAuditDue}
@@ -10,9 +12,7 @@ use Rattle.cw_auditing.specs.Reauditing.{IsReauditDue}
 use Rattle.cw_parting.specs.Parting.{IsProcsDue}
 use Rattle.cw_worlding.specs.Worlding.{IsWorldDue}
 use Rattle.cw_valuing.specs.Valuing.{IsValuesDue}
-use Rattle.cw_cli.specs.Checking.{IsCheckDue}
 use Rattle.cw_cli.specs.Listings.{IsListingDue}
-use Rattle.cw_cli.specs.Refuting.{IsRefuteDue}
 use Rattle.cw_cli.specs.Sampling.{IsSampleDue}
 use Rattle.cw_cli.specs.Weaving.{IsWeaveDue}
 

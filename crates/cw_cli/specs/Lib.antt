@@ -1,9 +1,6 @@
-pub mod Refuting
 pub mod Weaving
 pub mod Telling
 pub mod Sampling
 pub mod Listings
-pub mod Checking
-pub mod CheckingHeld
 pub mod Due
 pub mod Agreeing

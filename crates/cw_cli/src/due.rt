@@ -7,12 +7,11 @@ ghost use Rattle.cw_commands.specs.Outcomes.{due_of};
 ghost use Rattle.cw_commands.specs.Starts.{Starts, StartsLine};
 ghost use Rattle.cw_cli.specs.Due.{IsDue};
 
-use crate::checking::check_due;
 use crate::listing::listing_due;
-use crate::refuting::refute_due;
 use crate::sampling::sample_due;
 use crate::weaving::weave_due;
 use cw_auditing::{audit_due, reaudit_due};
+use cw_checking::{check_due, refute_due};
 use cw_commands::{Command, Outcome};
 use cw_core::NoMemory;
 use cw_io::Sink;

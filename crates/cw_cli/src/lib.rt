@@ -1,20 +1,16 @@
 //! The top call: words, a shelf and two sinks in, the status out.
 #![tactic(auto)]
 
-mod checking;
 mod command;
 mod due;
 pub mod laws;
 mod listing;
 mod rechecking;
-mod refuting;
 mod sampling;
 mod telling;
 mod weaving;
 
-pub use checking::check_due;
 pub use command::capweave;
 pub use listing::listing_due;
-pub use refuting::refute_due;
 pub use sampling::sample_due;
 pub use weaving::weave_due;

@@ -6,8 +6,7 @@ ghost use Rattle.cw_commands.specs.declared.outcome.Reply.TheVariants.{Yes, No};
 ghost use Rattle.cw_commands.specs.Outcomes.{due_of, Told};
 ghost use Rattle.cw_cli.specs.Weaving.{IsWeaveDue};
 
-use crate::checking::check_due;
-use crate::refuting::refute_due;
+use cw_checking::{check_due, refute_due};
 use cw_commands::{Outcome, Reply};
 use cw_core::NoMemory;
 use cw_core::limits::FILE_BYTES_IN_FORMAT_2;

@@ -43,11 +43,11 @@ use Rattle.cw_stages.specs.Games.{WhereFits, WhereWovenFits}
 use Rattle.cw_stages.specs.Refusals.{source_refusal}
 use Rattle.cw_stages.specs.Strategies.{told as strategy_told}
 use Rattle.cw_stages.specs.Tables.{told as table_told, woven_refusal, IsWovenRefusal, WithWoven}
+use Rattle.cw_checking.specs.Checking.{AfterPolicy as AfterCheckPolicy, AfterWoven, IsChecked, IsCheckDue}
+use Rattle.cw_checking.specs.Refuting.{AfterPair as AfterRefutePair, AfterStrategy as AfterRefuteStrategy, IsJudged, IsRefuteDue}
 use Rattle.cw_playing.specs.Playing.{play_told, AfterPair as AfterPlayPair, AfterStrategy as AfterPlayStrategy, IsPlayDue, IsPlayTold, IsShown}
 use Rattle.cw_playing.specs.Running.{run_told, AfterPolicy as AfterRunPolicy, AfterWoven as AfterRunWoven, IsRunDue, IsRunShown, IsRunTold}
-use Rattle.cw_cli.specs.Checking.{AfterPolicy as AfterCheckPolicy, AfterWoven, IsChecked, IsCheckDue}
 use Rattle.cw_cli.specs.Listings.{call_lists, own_names, IsListed, IsListing, IsListingDue}
-use Rattle.cw_cli.specs.Refuting.{AfterPair as AfterRefutePair, AfterStrategy as AfterRefuteStrategy, IsJudged, IsRefuteDue}
 use Rattle.cw_lemmas.proofs.Numbers.{lt_not_le as apart}
 use Rattle.cw_consequences.proofs.Singles.{IsOne, one_behind, one_reading, one_strategy, one_tape, one_where_fits, one_where_woven_fits}
 

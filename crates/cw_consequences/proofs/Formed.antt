@@ -36,10 +36,10 @@ use Rattle.cw_stages.specs.Reading.{AreRead}
 use Rattle.cw_stages.specs.Refusals.{yes}
 use Rattle.cw_stages.specs.Verdicts.{AfterGame, IsVerdict}
 use Rattle.cw_stages.proofs.Onward.{by_fit}
+use Rattle.cw_checking.specs.Refuting.{IsRefuteDue}
 use Rattle.cw_parting.specs.Parting.{IsParted, IsProcsDue, OfForm}
 use Rattle.cw_parting.specs.Refusals.{form_refusal}
 use Rattle.cw_parting.proofs.Behind.{is_verdict}
-use Rattle.cw_cli.specs.Refuting.{IsRefuteDue}
 use Rattle.cw_cli.specs.Weaving.{AfterPair, IsWeaveDue}
 use Rattle.cw_cli.proofs.Agreeing.{checked_won, judged_won, only_checked, only_judged}
 use Rattle.cw_cli.proofs.Winning.{IsWon, never_game, never_unread}

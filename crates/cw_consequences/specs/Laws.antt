@@ -16,10 +16,10 @@ use Rattle.cw_commands.specs.declared.outcome.Reply.TheVariants.{Yes, No}
 use Rattle.cw_commands.specs.Outcomes.{Due, Told}
 use Rattle.cw_stages.specs.Reading.{AreRead}
 use Rattle.cw_stages.specs.Refusals.{over, yes}
+use Rattle.cw_checking.specs.Checking.{IsCheckDue}
+use Rattle.cw_checking.specs.Refuting.{IsRefuteDue}
 use Rattle.cw_parting.specs.Parting.{IsProcsDue}
-use Rattle.cw_cli.specs.Checking.{IsCheckDue}
 use Rattle.cw_cli.specs.Due.{IsDue}
-use Rattle.cw_cli.specs.Refuting.{IsRefuteDue}
 use Rattle.cw_cli.specs.Weaving.{IsWeaveDue}
 use Rattle.cw_cli.specs.Agreeing.{IsOnly}
 use Rattle.cw_consequences.specs.Alike.{in_format, AreAlike}

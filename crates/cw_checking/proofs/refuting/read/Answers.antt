@@ -5,8 +5,8 @@ use Rattle.cw_source.specs.Read.{ReadsAs}
 use Rattle.cw_stages.specs.Reading.{WithSource}
 use Rattle.cw_stages.specs.Stops.{file_in}
 use Rattle.cw_stages.proofs.Answering.{weaker}
-use Rattle.cw_cli.specs.Refuting.{AfterPair}
-use Rattle.cw_cli.proofs.refuting.read.Goals as goal
+use Rattle.cw_checking.specs.Refuting.{AfterPair}
+use Rattle.cw_checking.proofs.refuting.read.Goals as goal
 
 pub returns-in_err-reading-clause-due : goal.returns-in_err-reading-clause-due
 returns-in_err-reading-clause-due g c =

@@ -4,8 +4,8 @@ use Rattle.cw_certs.specs.Strategies.{strategy_of}
 use Rattle.cw_model.specs.Boards.{problem_of}
 use Rattle.cw_product.specs.Product.{game_of}
 use Rattle.cw_stages.specs.Stops.{file_in, source_of, told_of, whole_of}
-use Rattle.cw_cli.proofs.Judging.{judged_for}
-use Rattle.cw_cli.proofs.refuting.spelled.Goals as goal
+use Rattle.cw_checking.proofs.Judging.{judged_for}
+use Rattle.cw_checking.proofs.refuting.spelled.Goals as goal
 
 pub returns-in_err-strategy-clause-due : goal.returns-in_err-strategy-clause-due
 returns-in_err-strategy-clause-due g c =

@@ -3,8 +3,8 @@ use Rattle.std.proofs.lemmas.Result.{err_from_is_err_and}
 use Rattle.cw_rights.specs.Policies.{policy_of}
 use Rattle.cw_stages.specs.Stops.{file_in}
 use Rattle.cw_stages.proofs.Answering.{weaker}
-use Rattle.cw_cli.specs.Checking.{AfterPolicy, AfterWoven}
-use Rattle.cw_cli.proofs.checking.accepted.Goals as goal
+use Rattle.cw_checking.specs.Checking.{AfterPolicy, AfterWoven}
+use Rattle.cw_checking.proofs.checking.accepted.Goals as goal
 
 pub returns-in_err-reading-clause-due : goal.returns-in_err-reading-clause-due
 returns-in_err-reading-clause-due g c =

@@ -2,7 +2,7 @@ use Rattle.std.proofs.Common.{inl, inr}
 use Rattle.cw_rights.specs.Policies.{policy_of}
 use Rattle.cw_commands.proofs.Starting.{unput}
 use Rattle.cw_stages.proofs.Refusing.{if_ok}
-use Rattle.cw_cli.proofs.checking.check_due.Goals as goal
+use Rattle.cw_checking.proofs.checking.check_due.Goals as goal
 
 pub returns-in-Ok-clause-due : goal.returns-in-Ok-clause-due
 returns-in-Ok-clause-due g c = if_ok c.opened.result c.opened.ensures.due (λ o d. inr (policy_of c.in-Ok.whole, c.in-Ok.ensures.policy, d))

@@ -5,8 +5,8 @@ use Rattle.cw_commands.proofs.Starting.{unput}
 use Rattle.cw_stages.specs.Reading.{WithSource}
 use Rattle.cw_stages.proofs.Answering.{ended_due, ended_puts, read_behind}
 use Rattle.cw_stages.proofs.Refusing.{if_ok}
-use Rattle.cw_cli.specs.Refuting.{AfterPair}
-use Rattle.cw_cli.proofs.refuting.refute_due.Goals as goal
+use Rattle.cw_checking.specs.Refuting.{AfterPair}
+use Rattle.cw_checking.proofs.refuting.refute_due.Goals as goal
 
 pub returns-in-Ok-clause-due : goal.returns-in-Ok-clause-due
 returns-in-Ok-clause-due g c =

@@ -4,8 +4,8 @@ use Rattle.cw_commands.specs.Outcomes.{due_of}
 use Rattle.cw_commands.proofs.Starting.{unput}
 use Rattle.cw_stages.proofs.Answering.{ended_due, ended_puts}
 use Rattle.cw_stages.proofs.Refusing.{if_ok}
-use Rattle.cw_cli.specs.Checking.{AfterPolicy}
-use Rattle.cw_cli.proofs.checking.opened.Goals as goal
+use Rattle.cw_checking.specs.Checking.{AfterPolicy}
+use Rattle.cw_checking.proofs.checking.opened.Goals as goal
 
 pub returns-in-Ok-clause-due : goal.returns-in-Ok-clause-due
 returns-in-Ok-clause-due g c =

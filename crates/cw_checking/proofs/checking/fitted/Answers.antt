@@ -3,8 +3,8 @@ use Rattle.std.proofs.lemmas.Result.{err_from_is_err_and}
 use Rattle.cw_model.specs.Boards.{problem_of}
 use Rattle.cw_product.specs.Product.{game_of}
 use Rattle.cw_stages.specs.Stops.{file_in, source_of, told_of, whole_of}
-use Rattle.cw_cli.proofs.Checks.{checked_for}
-use Rattle.cw_cli.proofs.checking.fitted.Goals as goal
+use Rattle.cw_checking.proofs.Checks.{checked_for}
+use Rattle.cw_checking.proofs.checking.fitted.Goals as goal
 
 pub returns-in_err-fits-clause-due : goal.returns-in_err-fits-clause-due
 returns-in_err-fits-clause-due g c =

@@ -11,8 +11,8 @@ ghost use Rattle.cw_woven.specs.Held.{IsOpened};
 ghost use Rattle.cw_commands.specs.Outcomes.{due_of};
 ghost use Rattle.cw_commands.specs.Starts.{Starts, StartsLine};
 ghost use Rattle.cw_stages.specs.Stops.{file_in, source_of, told_of, whole_of, Answers, BeginsText, IsReading, StartsText};
-ghost use Rattle.cw_cli.specs.Checking.{AfterPolicy, AfterWoven, IsCheckDue};
-ghost use Rattle.cw_cli.specs.CheckingHeld.{IsCheckedBy};
+ghost use Rattle.cw_checking.specs.Checking.{AfterPolicy, AfterWoven, IsCheckDue};
+ghost use Rattle.cw_checking.specs.CheckingHeld.{IsCheckedBy};
 
 use cw_certs::WeaverCert;
 use cw_commands::{Outcome, Reply};

@@ -7,8 +7,8 @@ use Rattle.cw_game.specs.Conditions.{table_fault}
 use Rattle.cw_game.specs.Standing.{IsGameOf}
 use Rattle.cw_commands.specs.Outcomes.{Due}
 use Rattle.cw_stages.proofs.Checks.{failing}
-use Rattle.cw_cli.specs.Checking.{IsChecked}
-use Rattle.cw_cli.specs.CheckingHeld.{IsCheckedBy}
+use Rattle.cw_checking.specs.Checking.{IsChecked}
+use Rattle.cw_checking.specs.CheckingHeld.{IsCheckedBy}
 
 module _ (p : Problem) (g : Game) (t : Table) (due : Due) where
   pub checked_for : IsGameOf p g → length p.policy.limits ≤ 12 → IsCheckedBy g t due → IsChecked p g t due

@@ -9,7 +9,7 @@ ghost use Rattle.cw_commands.specs.Outcomes.{due_of};
 ghost use Rattle.cw_commands.specs.Starts.{Starts, StartsLine};
 ghost use Rattle.cw_stages.specs.Reading.{WithSource};
 ghost use Rattle.cw_stages.specs.Stops.{file_in, source_of, told_of, whole_of, Answers, BeginsText, IsReading, StartsText};
-ghost use Rattle.cw_cli.specs.Refuting.{AfterPair, IsJudgedBy, IsRefuteDue};
+ghost use Rattle.cw_checking.specs.Refuting.{AfterPair, IsJudgedBy, IsRefuteDue};
 
 use cw_certs::EnvCert;
 use cw_commands::{Outcome, Reply};
