@@ -1,10 +1,9 @@
 //! The forms of sources, by where the calls stand.
 
 use crate::ground::{F, all_formed, all_told};
-use std::test::Fail;
 
 #[test]
-fn a_call_stands_between_both_texts(rt: HostRuntime) -> Result<(), Fail> {
+fn a_call_stands_between_both_texts(rt: HostRuntime) {
     all_formed(
         &rt,
         rt.alloc(),
@@ -18,11 +17,11 @@ fn a_call_stands_between_both_texts(rt: HostRuntime) -> Result<(), Fail> {
             ("a:f(1);", "a:@f(1);$"),
             ("a:/*x*/b: f(1) /* y */ ;", "a:/*x*/b: @f(1) /* y */ ;$"),
         ],
-    )
+    );
 }
 
 #[test]
-fn a_call_as_an_arm_or_a_body_stays_one_statement(rt: HostRuntime) -> Result<(), Fail> {
+fn a_call_as_an_arm_or_a_body_stays_one_statement(rt: HostRuntime) {
     all_formed(
         &rt,
         rt.alloc(),
@@ -42,11 +41,11 @@ fn a_call_as_an_arm_or_a_body_stays_one_statement(rt: HostRuntime) -> Result<(),
             ("do a:f(1);while(d);", "do a:@f(1);$while(d);"),
             ("while(c){f(1);break;}", "while(c){@f(1);$break;}"),
         ],
-    )
+    );
 }
 
 #[test]
-fn the_bytes_of_a_statement_stay(rt: HostRuntime) -> Result<(), Fail> {
+fn the_bytes_of_a_statement_stay(rt: HostRuntime) {
     all_formed(
         &rt,
         rt.alloc(),
@@ -59,11 +58,11 @@ fn the_bytes_of_a_statement_stay(rt: HostRuntime) -> Result<(), Fail> {
             ("/*fork*/f(1);//_exit\n", "/*fork*/@f(1);$//_exit\n"),
             ("forks();my_fork();f(1);", "forks();my_fork();@f(1);$"),
         ],
-    )
+    );
 }
 
 #[test]
-fn calls_are_replaced_in_every_function(rt: HostRuntime) -> Result<(), Fail> {
+fn calls_are_replaced_in_every_function(rt: HostRuntime) {
     all_told(
         &rt,
         rt.alloc(),
@@ -86,11 +85,11 @@ fn calls_are_replaced_in_every_function(rt: HostRuntime) -> Result<(), Fail> {
                 "void g(void){}void f(int x){g();}int main(void){@f(1);$g();return 0;}",
             ),
         ],
-    )
+    );
 }
 
 #[test]
-fn calls_of_each_detached_function_are_replaced(rt: HostRuntime) -> Result<(), Fail> {
+fn calls_of_each_detached_function_are_replaced(rt: HostRuntime) {
     all_told(
         &rt,
         rt.alloc(),
@@ -99,12 +98,12 @@ fn calls_of_each_detached_function_are_replaced(rt: HostRuntime) -> Result<(), F
             "void g(void){}void f(int x){g();}int main(void){f(1);g();return 0;}",
             "void g(void){}void f(int x){@g();$}int main(void){@f(1);$@g();$return 0;}",
         )],
-    )
+    );
 }
 
 #[test]
-fn without_detached_functions_the_form_is_the_source(rt: HostRuntime) -> Result<(), Fail> {
+fn without_detached_functions_the_form_is_the_source(rt: HostRuntime) {
     let source = "void f(int x){}int main(void){f(1);return 0;}";
-    all_told(&rt, rt.alloc(), "format = 2\n", &[(source, source)])?;
-    all_told(&rt, rt.alloc(), "format = 1\n", &[(source, source)])
+    all_told(&rt, rt.alloc(), "format = 2\n", &[(source, source)]);
+    all_told(&rt, rt.alloc(), "format = 1\n", &[(source, source)]);
 }
