@@ -4,4 +4,8 @@
 #[cfg(test)]
 mod policies;
 #[cfg(test)]
+mod refusals;
+#[cfg(test)]
 mod states;
+#[cfg(test)]
+mod texts;
