@@ -1,30 +1,32 @@
-//! Long texts, row by row.
+//! Long texts, row by row. A test that lacks memory ends at once.
 
-use cw_core::{NoMemory, put_dec};
+use std::process::Abort;
+
+pub(crate) fn put(rt: &impl Abort, text: &mut String, piece: &str) {
+    text.push_str(piece).expect(rt, "memory");
+}
 
 /// Appends a number between two texts.
 pub(crate) fn put_numbered(
-    before: &[u8],
+    rt: &impl Abort,
+    text: &mut String,
+    before: &str,
     number: u64,
-    behind: &[u8],
-    text: &mut Vec<u8>,
-) -> Result<(), NoMemory> {
-    text.extend_from_slice(before)?;
-    put_dec(number, text)?;
-    text.extend_from_slice(behind)?;
-    Ok(())
+    behind: &str,
+) {
+    write!(text, "{before}{number}{behind}").expect(rt, "memory");
 }
 
 /// Appends each number from the first to the one before `end`, between two texts.
 pub(crate) fn put_rows(
-    before: &[u8],
+    rt: &impl Abort,
+    text: &mut String,
+    before: &str,
     first: u64,
     end: u64,
-    behind: &[u8],
-    text: &mut Vec<u8>,
-) -> Result<(), NoMemory> {
+    behind: &str,
+) {
     for number in first..end {
-        put_numbered(before, number, behind, text)?;
+        put_numbered(rt, text, before, number, behind);
     }
-    Ok(())
 }

@@ -1,31 +1,56 @@
-//! Strategies as text: each fault with its line, both formats.
+//! Strategies as text: each fault with its line, both formats. A test that lacks memory ends at once.
 
-use crate::given::{put_numbered, put_rows};
+use crate::given::{put, put_numbered, put_rows};
 use cw_certs::{EnvCert, EnvRow, How};
-use cw_core::{NoMemory, PosId, StateId, StateSet};
+use cw_core::{PosId, StateId, StateSet};
 use cw_io::{MemSink, SinkFault, SureSink};
 use cw_strategy_text::{print_env, read_again, read_env};
 use cw_text::TextFault;
-use std::alloc::{AllocError, Global};
+use std::alloc::Global;
+use std::mem::forget;
 use std::process::Abort;
-use std::test::Fail;
 
 const FIRST: &str = "capweave strategy 1\nstates 4\n";
 
 const SECOND: &str = "capweave strategy 2\nstates 4\n";
+
+/// Whether a strategy is printed as this text.
+fn is_text(alloc: Global, cert: &EnvCert, format: u8, text: &[u8]) -> bool {
+    let mut sink = SureSink::make(alloc);
+    print_env(cert, format, &mut sink).is_ok() && sink.bytes() == text
+}
 
 /// The fault of a text, or none where it is a strategy's, which is then printed as the same text; NoMemory where it isn't.
 fn fault_of(alloc: Global, text: &[u8], format: u8) -> Option<TextFault> {
     match read_env(alloc, text, format) {
         Err(fault) => Some(fault),
         Ok(cert) => {
-            let mut again = SureSink::make(alloc);
-            match print_env(&cert, format, &mut again) {
-                Ok(()) if again.bytes() == text => None,
-                _ => Some(TextFault::NoMemory),
+            let same = is_text(alloc, &cert, format, text);
+            forget(cert);
+            if same {
+                None
+            } else {
+                Some(TextFault::NoMemory)
             }
         }
     }
+}
+
+/// Asserts that rows behind this head and before this tail are a strategy's text of this format, or have this fault.
+fn is_read(
+    rt: &impl Abort,
+    alloc: Global,
+    format: u8,
+    head: &str,
+    rows: &str,
+    tail: &str,
+    want: Option<TextFault>,
+) {
+    let text = format!(in alloc; "{head}{rows}{tail}").expect(rt, "memory");
+    assert!(rt;
+        fault_of(alloc, text.as_bytes(), format) == want,
+        "format {format}: {rows}"
+    );
 }
 
 /// Asserts that each of these texts, behind this head and before this tail, is a strategy's of this format, or has this fault.
@@ -36,17 +61,14 @@ fn all_read(
     head: &str,
     tail: &str,
     texts: &[(&str, Option<TextFault>)],
-) -> Result<(), AllocError> {
+) {
     for (rows, want) in texts {
-        let text = format!(in alloc; "{head}{rows}{tail}")?;
-        let fault = fault_of(alloc, text.as_bytes(), format);
-        assert_eq!(rt; fault, *want, "format {format}: {rows}");
+        is_read(rt, alloc, format, head, rows, tail, *want);
     }
-    Ok(())
 }
 
 #[test]
-fn first_lines(rt: HostRuntime) -> Result<(), AllocError> {
+fn first_lines(rt: HostRuntime) {
     let alloc = rt.alloc();
     all_read(
         &rt,
@@ -109,7 +131,7 @@ fn first_lines(rt: HostRuntime) -> Result<(), AllocError> {
                 Some(TextFault::Line(2)),
             ),
         ],
-    )?;
+    );
     all_read(
         &rt,
         alloc,
@@ -120,11 +142,11 @@ fn first_lines(rt: HostRuntime) -> Result<(), AllocError> {
             "capweave strategy 1\nstates 4\nend\n",
             Some(TextFault::Line(1)),
         )],
-    )
+    );
 }
 
 #[test]
-fn rows_of_the_first_format(rt: HostRuntime) -> Result<(), AllocError> {
+fn rows_of_the_first_format(rt: HostRuntime) {
     all_read(
         &rt,
         rt.alloc(),
@@ -223,11 +245,11 @@ fn rows_of_the_first_format(rt: HostRuntime) -> Result<(), AllocError> {
             ("0 1 2 0x0 into 7 1=5 \nend\n", Some(TextFault::Line(3))),
             ("1 1 2 0x0 into 7 2=5 1=5\nend\n", Some(TextFault::Line(3))),
         ],
-    )
+    );
 }
 
 #[test]
-fn rows_of_the_second_format(rt: HostRuntime) -> Result<(), AllocError> {
+fn rows_of_the_second_format(rt: HostRuntime) {
     all_read(
         &rt,
         rt.alloc(),
@@ -251,12 +273,12 @@ fn rows_of_the_second_format(rt: HostRuntime) -> Result<(), AllocError> {
             ("0 1 2 11-0 bad\nend\n", Some(TextFault::Line(3))),
             ("0 1 2 2+0 bad\nend\n", Some(TextFault::Line(3))),
         ],
-    )
+    );
 }
 
 /// A set with the number 511 is one of format 1, a set with the number 512 one of format 2 alone.
 #[test]
-fn largest_numbers_of_a_set(rt: HostRuntime) -> Result<(), AllocError> {
+fn largest_numbers_of_a_set(rt: HostRuntime) {
     let alloc = rt.alloc();
     all_read(
         &rt,
@@ -274,7 +296,7 @@ fn largest_numbers_of_a_set(rt: HostRuntime) -> Result<(), AllocError> {
                 Some(TextFault::Line(3)),
             ),
         ],
-    )?;
+    );
     all_read(
         &rt,
         alloc,
@@ -291,119 +313,157 @@ fn largest_numbers_of_a_set(rt: HostRuntime) -> Result<(), AllocError> {
                 Some(TextFault::Line(3)),
             ),
         ],
-    )
+    );
+}
+
+/// Asserts that these rows are a strategy's behind the head of this format, and that they are none under the other format's head, and none
+/// without the last LF, whose line has this number.
+fn is_whole(
+    rt: &impl Abort,
+    alloc: Global,
+    format: u8,
+    head: &str,
+    other: &str,
+    rows: &str,
+    last: u32,
+) {
+    is_read(rt, alloc, format, head, rows, "end\n", None);
+    is_read(
+        rt,
+        alloc,
+        format,
+        other,
+        rows,
+        "end\n",
+        Some(TextFault::Line(1)),
+    );
+    is_read(
+        rt,
+        alloc,
+        format,
+        head,
+        rows,
+        "end",
+        Some(TextFault::Line(last)),
+    );
 }
 
 /// Asserts that these rows are a strategy's in both formats, and that its text in the other format and without its last LF is none.
-fn reads_whole(rt: &impl Abort, alloc: Global, rows: &str, last: u32) -> Result<(), AllocError> {
-    let other = Some(TextFault::Line(1));
-    let cut = Some(TextFault::Line(last));
-    all_read(rt, alloc, 1, FIRST, "end\n", &[(rows, None)])?;
-    all_read(rt, alloc, 2, FIRST, "end\n", &[(rows, other)])?;
-    all_read(rt, alloc, 1, FIRST, "end", &[(rows, cut)])?;
-    all_read(rt, alloc, 2, SECOND, "end\n", &[(rows, None)])?;
-    all_read(rt, alloc, 1, SECOND, "end\n", &[(rows, other)])?;
-    all_read(rt, alloc, 2, SECOND, "end", &[(rows, cut)])
+fn all_whole(rt: &impl Abort, alloc: Global, strategies: &[(&str, u32)]) {
+    for (rows, last) in strategies {
+        is_whole(rt, alloc, 1, FIRST, SECOND, rows, *last);
+        is_whole(rt, alloc, 2, SECOND, FIRST, rows, *last);
+    }
 }
 
 /// A label must be passed with ambient authority, a later one without, and nothing stands between both; and a refused
 /// enter. Without its last LF, and in the other format, neither is a strategy's text.
 #[test]
-fn whole_strategies(rt: HostRuntime) -> Result<(), AllocError> {
-    let alloc = rt.alloc();
-    reads_whole(
+fn whole_strategies(rt: HostRuntime) {
+    all_whole(
         &rt,
-        alloc,
-        "0 5 0 0x0 bad\n1 9 3 0x0 bad\n2 8 3 0x0 grant 1\n3 7 3 0x0 both 1 2\n4 6 3 0x0 on 3\n5 5 1 0x0 on 4\n6 4 0 0x0 grant 5\n7 4 1 0x0 grant 5\n8 3 0 0x0 both 0 6\n9 3 1 0x0 both 5 7\n10 2 0 0x0 on 8\n11 2 1 0x0 on 9\n12 1 0 0x0 grant 11\n13 0 0 0x0 both 10 12\n",
-        17,
-    )?;
-    reads_whole(
-        &rt,
-        alloc,
-        "0 5 0 0x0 bad\n1 4 0 0x0 refuse 0\n2 3 0 0x0 both 0 1\n3 2 0 0x0 on 2\n4 1 0 0x0 refuse 3\n5 0 0 0x0 both 3 4\n",
-        9,
-    )
+        rt.alloc(),
+        &[
+            (
+                "0 5 0 0x0 bad\n1 9 3 0x0 bad\n2 8 3 0x0 grant 1\n3 7 3 0x0 both 1 2\n4 6 3 0x0 on 3\n5 5 1 0x0 on 4\n6 4 0 0x0 grant 5\n7 4 1 0x0 grant 5\n8 3 0 0x0 both 0 6\n9 3 1 0x0 both 5 7\n10 2 0 0x0 on 8\n11 2 1 0x0 on 9\n12 1 0 0x0 grant 11\n13 0 0 0x0 both 10 12\n",
+                17,
+            ),
+            (
+                "0 5 0 0x0 bad\n1 4 0 0x0 refuse 0\n2 3 0 0x0 both 0 1\n3 2 0 0x0 on 2\n4 1 0 0x0 refuse 3\n5 0 0 0x0 both 3 4\n",
+                9,
+            ),
+        ],
+    );
 }
 
-/// Appends a text of so many rows that are bad, and of one more row with so many backs.
-fn put_long(bad: u64, backs: u64, text: &mut Vec<u8>) -> Result<(), NoMemory> {
-    text.extend_from_slice(FIRST.as_bytes())?;
-    put_rows(b"", 0, bad, b" 0 0 0x0 bad\n", text)?;
-    put_numbered(b"", bad, b" 0 0 0x0 into 0", text)?;
-    put_rows(b" ", 0, backs, b"=0", text)?;
-    text.extend_from_slice(b"\nend\n")?;
-    Ok(())
+/// Asserts that a text of so many rows that are bad, and of one more row with so many backs, is a strategy's, or has this fault.
+fn is_long(rt: &impl Abort, alloc: Global, bad: u64, backs: u64, want: Option<TextFault>) {
+    let mut text = String::new(alloc);
+    put(rt, &mut text, FIRST);
+    put_rows(rt, &mut text, "", 0, bad, " 0 0 0x0 bad\n");
+    put_numbered(rt, &mut text, "", bad, " 0 0 0x0 into 0");
+    put_rows(rt, &mut text, " ", 0, backs, "=0");
+    put(rt, &mut text, "\nend\n");
+    assert!(rt;
+        fault_of(alloc, text.as_bytes(), 1) == want,
+        "{bad} {backs}"
+    );
 }
 
-/// Asserts that a text of so many rows and backs is a strategy's, or has this fault.
-fn expect_long(
-    rt: &impl Abort,
-    alloc: Global,
-    bad: u64,
-    backs: u64,
-    want: Option<TextFault>,
-) -> Result<(), NoMemory> {
-    let mut text = Vec::new(alloc);
-    put_long(bad, backs, &mut text)?;
-    assert_eq!(rt; fault_of(alloc, &text, 1), want, "{bad} {backs}");
-    Ok(())
+/// Asserts the same of each of these.
+fn all_long(rt: &impl Abort, alloc: Global, rows: &[(u64, u64, Option<TextFault>)]) {
+    for (bad, backs, want) in rows {
+        is_long(rt, alloc, *bad, *backs, *want);
+    }
 }
 
 /// Rows and backs together are at most 65,536.
 #[test]
-fn most_rows(rt: HostRuntime) -> Result<(), Fail> {
-    let alloc = rt.alloc();
-    expect_long(&rt, alloc, 65535, 0, None)?;
-    expect_long(&rt, alloc, 65536, 0, Some(TextFault::Limit(65539)))?;
-    expect_long(&rt, alloc, 0, 65535, None)?;
-    expect_long(&rt, alloc, 0, 65536, Some(TextFault::Limit(3)))?;
-    expect_long(&rt, alloc, 65530, 5, None)?;
-    expect_long(&rt, alloc, 65530, 6, Some(TextFault::Limit(65533)))?;
-    Ok(())
+fn most_rows(rt: HostRuntime) {
+    all_long(
+        &rt,
+        rt.alloc(),
+        &[
+            (65535, 0, None),
+            (65536, 0, Some(TextFault::Limit(65539))),
+            (0, 65535, None),
+            (0, 65536, Some(TextFault::Limit(3))),
+            (65530, 5, None),
+            (65530, 6, Some(TextFault::Limit(65533))),
+        ],
+    );
 }
 
 /// A strategy of so many rows, whose positions are numbered from the first.
-fn rows_from(alloc: Global, first: u32, count: u32) -> Result<EnvCert, AllocError> {
+fn rows_from(rt: &impl Abort, alloc: Global, first: u32, count: u32) -> EnvCert {
     let mut rows = Vec::new(alloc);
     for number in 0..count {
-        rows.push(EnvRow {
+        let row = EnvRow {
             pos: PosId(first.saturating_add(number)),
             state: StateId(2),
             aim: StateSet::from_bits(0xfff),
             how: How::Both { skip: 3, tried: 4 },
-        })?;
+        };
+        rows.push(row).expect(rt, "memory");
     }
-    Ok(EnvCert { states: 5, rows })
+    EnvCert { states: 5, rows }
+}
+
+/// The text of a strategy, in a sink.
+fn text_of(rt: &impl Abort, alloc: Global, cert: &EnvCert, format: u8) -> SureSink {
+    let mut sink = SureSink::make(alloc);
+    assert!(rt; print_env(cert, format, &mut sink) == Ok(()));
+    sink
 }
 
 /// Asserts what a sink answers whose puts of these numbers fail, what it has then, and that the longest piece has at least so many
 /// bytes and at most 4,096.
-fn expect_printed(
+fn is_printed(
     rt: &impl Abort,
+    alloc: Global,
     cert: &EnvCert,
-    format: u8,
-    sink: &mut MemSink,
+    failing: &[u32],
     want: Result<(), SinkFault>,
     bytes: &[u8],
     least: usize,
 ) {
-    assert_eq!(rt; print_env(cert, format, sink), want);
+    let failing = Vec::from_slice(alloc, failing).expect(rt, "memory");
+    let mut sink = MemSink::make(alloc, failing);
+    assert!(rt; print_env(cert, 1, &mut sink) == want);
     assert!(rt; sink.bytes() == bytes);
     assert!(rt; least <= sink.longest() && sink.longest() <= 4096);
 }
 
 #[test]
-fn put_to_sinks(rt: HostRuntime) -> Result<(), Fail> {
+fn put_to_sinks(rt: HostRuntime) {
     let alloc = rt.alloc();
-    let cert = rows_from(alloc, 1, 1)?;
+    let cert = rows_from(&rt, alloc, 1, 1);
+    let sure = text_of(&rt, alloc, &cert, 2);
     let want = "capweave strategy 2\nstates 5\n0 1 2 0-11 both 3 4\nend\n";
-    let mut sure = SureSink::make(alloc);
-    assert_eq!(rt; print_env(&cert, 2, &mut sure), Ok(()));
-    assert_eq!(rt; sure.bytes(), want.as_bytes());
-    let mut sink = MemSink::make(alloc, Vec::from_array(alloc, [0])?);
+    assert!(rt; sure.bytes() == want.as_bytes());
     let half = b"capweave strategy 1\nstates ";
-    expect_printed(&rt, &cert, 1, &mut sink, Err(SinkFault::Failed), half, 0);
-    Ok(())
+    is_printed(&rt, alloc, &cert, &[0], Err(SinkFault::Failed), half, 0);
+    forget(cert);
 }
 
 /// So many bytes at the front, or all where there are fewer.
@@ -416,30 +476,36 @@ fn front_of(bytes: &[u8], count: usize) -> &[u8] {
 
 /// A long text is put in pieces of 4,096 bytes; after one that fails nothing more is put.
 #[test]
-fn put_in_pieces(rt: HostRuntime) -> Result<(), Fail> {
+fn put_in_pieces(rt: HostRuntime) {
     let alloc = rt.alloc();
-    let cert = rows_from(alloc, 0, 600)?;
-    let mut whole = SureSink::make(alloc);
-    assert_eq!(rt; print_env(&cert, 1, &mut whole), Ok(()));
+    let cert = rows_from(&rt, alloc, 0, 600);
+    let whole = text_of(&rt, alloc, &cert, 1);
     let bytes = whole.bytes();
     assert!(rt; bytes.len() > 3 * 4096);
-    let mut sink = MemSink::make(alloc, Vec::new(alloc));
-    expect_printed(&rt, &cert, 1, &mut sink, Ok(()), bytes, 4096);
-    let mut failing = MemSink::make(alloc, Vec::from_array(alloc, [1])?);
+    is_printed(&rt, alloc, &cert, &[], Ok(()), bytes, 4096);
     let half = front_of(bytes, 4096 + 2048);
-    expect_printed(&rt, &cert, 1, &mut failing, Err(SinkFault::Failed), half, 0);
-    Ok(())
+    is_printed(&rt, alloc, &cert, &[1], Err(SinkFault::Failed), half, 0);
+    forget(cert);
+}
+
+/// What is read of what a strategy that is read is printed as.
+fn twice(rt: &impl Abort, alloc: Global, text: &str, format: u8) -> EnvCert {
+    let Ok(cert) = read_env(alloc, text.as_bytes(), format) else {
+        panic!(rt; "a strategy that isn't read");
+    };
+    let again = read_again(alloc, &cert, format);
+    forget(cert);
+    match again {
+        Ok(again) => again,
+        Err(_) => panic!(rt; "memory"),
+    }
 }
 
 /// What is read has a text, and that is read again.
 #[test]
-fn read_twice(rt: HostRuntime) -> Result<(), Fail> {
-    let alloc = rt.alloc();
-    let text = b"capweave strategy 2\nstates 5\n0 1 2 0-11 into 3 4=5\nend\n";
-    let cert = read_env(alloc, text, 2)?;
-    let again = read_again(alloc, &cert, 2)?;
-    let mut sink = SureSink::make(alloc);
-    assert_eq!(rt; print_env(&again, 2, &mut sink), Ok(()));
-    assert!(rt; sink.bytes() == text.as_slice());
-    Ok(())
+fn read_twice(rt: HostRuntime) {
+    let text = "capweave strategy 2\nstates 5\n0 1 2 0-11 into 3 4=5\nend\n";
+    let again = twice(&rt, rt.alloc(), text, 2);
+    assert!(rt; is_text(rt.alloc(), &again, 2, text.as_bytes()));
+    forget(again);
 }

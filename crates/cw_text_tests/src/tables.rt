@@ -1,42 +1,45 @@
-//! Tables as text: each fault with its line, both formats.
+//! Tables as text: each fault with its line, both formats. A test that lacks memory ends at once.
 
-use crate::given::put_rows;
-use cw_core::NoMemory;
+use crate::given::{put, put_rows};
+use cw_certs::WeaverCert;
 use cw_io::{MemSink, SinkFault, SureSink};
 use cw_rights::{Descriptor, Limit, Policy, Rights};
 use cw_table_text::{print_tables, read_tables};
 use cw_text::TextFault;
-use std::alloc::{AllocError, Global};
+use std::alloc::Global;
+use std::mem::forget;
 use std::process::Abort;
-use std::test::Fail;
 
-/// A policy of one descriptor, by its name, with these rights kept by its limits.
-fn policy(alloc: Global, format: u8, name: &str, kept: &[u16]) -> Result<Policy, Fail> {
-    let mut descriptors = Vec::new(alloc);
-    descriptors.push(Descriptor {
-        name: name.as_bytes().to_vec(alloc)?,
+/// One descriptor, by its name.
+fn descriptors_of(rt: &impl Abort, alloc: Global, name: &str) -> Vec<Descriptor> {
+    let descriptor = Descriptor {
+        name: Vec::from_slice(alloc, name.as_bytes()).expect(rt, "memory"),
         number: None,
         rights: Rights(0xfff),
-    })?;
-    let mut limits = Vec::new(alloc);
-    for keep in kept {
-        limits.push(Limit {
-            descriptor: 0,
-            keep: Rights(*keep),
-        })?;
-    }
-    Ok(policy_of(alloc, format, descriptors, limits))
+    };
+    let mut descriptors = Vec::new(alloc);
+    descriptors.push(descriptor).expect(rt, "memory");
+    descriptors
 }
 
-fn policy_of(
-    alloc: Global,
-    format: u8,
-    descriptors: Vec<Descriptor>,
-    limits: Vec<Limit>,
-) -> Policy {
+/// Limits of the first descriptor, with these rights kept.
+fn limits_of(rt: &impl Abort, alloc: Global, kept: &[u16]) -> Vec<Limit> {
+    let mut limits = Vec::new(alloc);
+    for keep in kept {
+        let limit = Limit {
+            descriptor: 0,
+            keep: Rights(*keep),
+        };
+        limits.push(limit).expect(rt, "memory");
+    }
+    limits
+}
+
+/// A policy of one descriptor, by its name, with these rights kept by its limits.
+fn policy_of(rt: &impl Abort, alloc: Global, format: u8, name: &str, kept: &[u16]) -> Policy {
     Policy {
-        descriptors,
-        limits,
+        descriptors: descriptors_of(rt, alloc, name),
+        limits: limits_of(rt, alloc, kept),
         refuse_limit: false,
         refuse_enter: false,
         refuse_split: false,
@@ -49,61 +52,70 @@ fn policy_of(
     }
 }
 
+/// Whether a table is put as this text.
+fn is_text(alloc: Global, cert: &WeaverCert, policy: &Policy, text: &[u8]) -> bool {
+    let mut sink = SureSink::make(alloc);
+    print_tables(cert, policy, &mut sink).is_ok() && sink.bytes() == text
+}
+
 /// The fault of a text, or none where it is a table's, which is then put as the same text; NoMemory where it isn't.
 fn fault_of(alloc: Global, text: &[u8], policy: &Policy) -> Option<TextFault> {
     match read_tables(alloc, text, policy) {
         Err(fault) => Some(fault),
         Ok(cert) => {
-            let mut again = SureSink::make(alloc);
-            match print_tables(&cert, policy, &mut again) {
-                Ok(()) if again.bytes() == text => None,
-                _ => Some(TextFault::NoMemory),
+            let same = is_text(alloc, &cert, policy, text);
+            forget(cert);
+            if same {
+                None
+            } else {
+                Some(TextFault::NoMemory)
             }
         }
     }
 }
 
-/// The lines of a table with a row of each kind, but for the version in the third.
-const LINES: [&str; 14] = [
-    "#include \"capweave.h\"",
-    "#define CW_LIMITS(X) X(0,fd,0x1)",
-    "",
-    "CW_MEM(0,0,0xf)",
-    "CW_MEM(1,1,0xf)",
-    "CW_LIVE(0,0)",
-    "CW_LIVE(2,0)",
-    "CW_TRY(1,0,0,1,CW_NONE)",
-    "CW_AT(1,1,1)",
-    "CW_OPENED(2,0,1,0)",
-    "CW_CLOSED(3,0,0)",
-    "CW_INTO(4,1,0,0)",
-    "CW_BACK(4,1,0,3,1)",
-    "CW_DONE",
-];
+/// A table's text with a row of each kind, but for the version in the third line.
+const LINES: &str = "#include \"capweave.h\"
+#define CW_LIMITS(X) X(0,fd,0x1)
+CW_TABLE
+CW_MEM(0,0,0xf)
+CW_MEM(1,1,0xf)
+CW_LIVE(0,0)
+CW_LIVE(2,0)
+CW_TRY(1,0,0,1,CW_NONE)
+CW_AT(1,1,1)
+CW_OPENED(2,0,1,0)
+CW_CLOSED(3,0,0)
+CW_INTO(4,1,0,0)
+CW_BACK(4,1,0,3,1)
+CW_DONE
+";
 
-/// The line of this index for a format.
-fn line_of(format: u8, index: usize) -> &'static str {
-    match (format, index) {
-        (1, 2) => "CW_TABLE(1,4,0)",
-        (2, 2) => "CW_TABLE(2,4,0)",
-        _ => match LINES.get(index) {
-            Some(line) => *line,
-            None => "",
-        },
+/// The third line for a format.
+fn version_of(format: u8) -> &'static str {
+    if format == 1 {
+        "CW_TABLE(1,4,0)\n"
+    } else {
+        "CW_TABLE(2,4,0)\n"
     }
 }
 
-/// Appends that table's text for a format, with another text for the line of this number.
-fn put_edited(format: u8, at: usize, new: &str, text: &mut Vec<u8>) -> Result<(), AllocError> {
-    for index in 0..LINES.len() {
-        if index + 1 == at {
-            text.extend_from_slice(new.as_bytes())?;
+/// That table's text for a format, with another text for the line of this number.
+fn edited(rt: &impl Abort, alloc: Global, format: u8, at: usize, new: &str) -> String {
+    let mut text = String::new(alloc);
+    let mut number: usize = 0;
+    for line in LINES.split_inclusive("\n") {
+        number = number.saturating_add(1);
+        let piece = if number == at {
+            new
+        } else if number == 3 {
+            version_of(format)
         } else {
-            text.extend_from_slice(line_of(format, index).as_bytes())?;
-            text.extend_from_slice(b"\n")?;
-        }
+            line
+        };
+        put(rt, &mut text, piece);
     }
-    Ok(())
+    text
 }
 
 /// Asserts that the table's text with this line put in for that of this number is a table's in this format, or has this fault.
@@ -112,33 +124,27 @@ fn all_edited(
     alloc: Global,
     format: u8,
     edits: &[(usize, &str, Option<TextFault>)],
-) -> Result<(), Fail> {
-    let policy = policy(alloc, format, "fd", &[1])?;
+) {
+    let policy = policy_of(rt, alloc, format, "fd", &[1]);
     for (at, new, want) in edits {
-        let mut text = Vec::new(alloc);
-        put_edited(format, *at, new, &mut text)?;
-        assert_eq!(rt;
-            fault_of(alloc, &text, &policy),
-            *want,
+        let text = edited(rt, alloc, format, *at, new);
+        assert!(rt;
+            fault_of(alloc, text.as_bytes(), &policy) == *want,
             "{format} {at} {new}"
         );
     }
-    Ok(())
+    forget(policy);
 }
 
 /// Asserts this in both formats.
-fn all_read(
-    rt: &impl Abort,
-    alloc: Global,
-    edits: &[(usize, &str, Option<TextFault>)],
-) -> Result<(), Fail> {
-    all_edited(rt, alloc, 1, edits)?;
-    all_edited(rt, alloc, 2, edits)
+fn all_read(rt: &impl Abort, alloc: Global, edits: &[(usize, &str, Option<TextFault>)]) {
+    all_edited(rt, alloc, 1, edits);
+    all_edited(rt, alloc, 2, edits);
 }
 
 /// The lines before the rows.
 #[test]
-fn lines_of_the_head(rt: HostRuntime) -> Result<(), Fail> {
+fn lines_of_the_head(rt: HostRuntime) {
     all_read(
         &rt,
         rt.alloc(),
@@ -172,12 +178,12 @@ fn lines_of_the_head(rt: HostRuntime) -> Result<(), Fail> {
             (3, "CW_TABLE(12,4,0)\n", Some(TextFault::Line(3))),
             (3, "CW_TABLE(0,4,0)\n", Some(TextFault::Line(3))),
         ],
-    )
+    );
 }
 
 /// Memories by number, state and promise, and places.
 #[test]
-fn lines_of_memories(rt: HostRuntime) -> Result<(), Fail> {
+fn lines_of_memories(rt: HostRuntime) {
     all_read(
         &rt,
         rt.alloc(),
@@ -213,12 +219,12 @@ fn lines_of_memories(rt: HostRuntime) -> Result<(), Fail> {
             (6, "CW_LIVE(0,CW_NONE)\n", Some(TextFault::Line(6))),
             (6, "", None),
         ],
-    )
+    );
 }
 
 /// Rows by kind and key, and the end.
 #[test]
-fn lines_of_rows(rt: HostRuntime) -> Result<(), Fail> {
+fn lines_of_rows(rt: HostRuntime) {
     all_read(
         &rt,
         rt.alloc(),
@@ -275,12 +281,12 @@ fn lines_of_rows(rt: HostRuntime) -> Result<(), Fail> {
             (14, "CW_DONE()\n", Some(TextFault::Line(14))),
             (14, "cw_done\n", Some(TextFault::Line(14))),
         ],
-    )
+    );
 }
 
 /// Versions, and sets as each format spells them.
 #[test]
-fn lines_of_one_format(rt: HostRuntime) -> Result<(), Fail> {
+fn lines_of_one_format(rt: HostRuntime) {
     let alloc = rt.alloc();
     all_edited(
         &rt,
@@ -299,7 +305,7 @@ fn lines_of_one_format(rt: HostRuntime) -> Result<(), Fail> {
             (4, "CW_MEM(0,0,0xfff)\n", None),
             (5, "CW_MEM(1,0,0x10)\n", None),
         ],
-    )?;
+    );
     all_edited(
         &rt,
         alloc,
@@ -314,41 +320,33 @@ fn lines_of_one_format(rt: HostRuntime) -> Result<(), Fail> {
             (3, "CW_TABLE(2,04,0)\n", Some(TextFault::Line(3))),
             (3, "CW_TABLE(2,4,4294967296)\n", Some(TextFault::Line(3))),
         ],
-    )
+    );
 }
 
-/// Appends so many rows, the last three of returns.
-fn put_many(count: u64, text: &mut Vec<u8>) -> Result<(), NoMemory> {
-    text.extend_from_slice(
-        b"#include \"capweave.h\"\n#define CW_LIMITS(X) X(0,fd,0x1)\nCW_TABLE(1,4,0)\n",
-    )?;
+/// Asserts that a text of so many rows, the last three of returns, is a table's, or has this fault.
+fn is_long(rt: &impl Abort, alloc: Global, policy: &Policy, count: u64, want: Option<TextFault>) {
+    let mut text = String::new(alloc);
+    put(
+        rt,
+        &mut text,
+        "#include \"capweave.h\"\n#define CW_LIMITS(X) X(0,fd,0x1)\nCW_TABLE(1,4,0)\n",
+    );
     let returns = count.saturating_sub(3);
-    put_rows(b"CW_LIVE(", 0, returns, b",0)\n", text)?;
-    put_rows(b"CW_BACK(", returns, count, b",0,0,0,0)\n", text)?;
-    text.extend_from_slice(b"CW_DONE\n")?;
-    Ok(())
-}
-
-/// Asserts that a text of so many rows is a table's, or has this fault.
-fn expect_many(
-    rt: &impl Abort,
-    alloc: Global,
-    count: u64,
-    want: Option<TextFault>,
-) -> Result<(), Fail> {
-    let policy = policy(alloc, 1, "fd", &[1])?;
-    let mut text = Vec::new(alloc);
-    put_many(count, &mut text)?;
-    assert_eq!(rt; fault_of(alloc, &text, &policy), want, "{count}");
-    Ok(())
+    put_rows(rt, &mut text, "CW_LIVE(", 0, returns, ",0)\n");
+    put_rows(rt, &mut text, "CW_BACK(", returns, count, ",0,0,0,0)\n");
+    put(rt, &mut text, "CW_DONE\n");
+    assert!(rt; fault_of(alloc, text.as_bytes(), policy) == want, "{count}");
 }
 
 /// 65,536 rows and one more.
 #[test]
-fn too_many_rows(rt: HostRuntime) -> Result<(), Fail> {
-    expect_many(&rt, rt.alloc(), 65_536, None)?;
-    expect_many(&rt, rt.alloc(), 65_537, Some(TextFault::Limit(65_540)))?;
-    expect_many(&rt, rt.alloc(), 65_538, Some(TextFault::Limit(65_540)))
+fn too_many_rows(rt: HostRuntime) {
+    let policy = policy_of(&rt, rt.alloc(), 1, "fd", &[1]);
+    let over = Some(TextFault::Limit(65_540));
+    is_long(&rt, rt.alloc(), &policy, 65_536, None);
+    is_long(&rt, rt.alloc(), &policy, 65_537, over);
+    is_long(&rt, rt.alloc(), &policy, 65_538, over);
+    forget(policy);
 }
 
 const ENTERED: &str =
@@ -366,45 +364,60 @@ const WIDE: &str =
 const KEPT: &str =
     "#include \"capweave.h\"\n#define CW_LIMITS(X) X(0,0,0x5) X(1,0,0x6)\nCW_TABLE(2,12,1)\nCW_MEM(0,1,0-11)\nCW_MEM(1,2,0-11)\nCW_MEM(2,7,0-11)\nCW_LIVE(0,1)\nCW_LIVE(2,1)\nCW_LIVE(4,1)\nCW_LIVE(6,1)\nCW_LIVE(7,1)\nCW_LIVE(9,1)\nCW_LIVE(10,1)\nCW_LIVE(11,0)\nCW_LIVE(13,0)\nCW_LIVE(14,2)\nCW_LIVE(15,2)\nCW_LIVE(16,2)\nCW_TRY(1,1,1,0,CW_NONE)\nCW_AT(1,0,2)\nCW_DONE\n";
 
-/// Asserts that a text is a table's under the policy of this format with these rights kept of this descriptor, or has this fault.
-fn expect_table(
-    rt: &impl Abort,
-    alloc: Global,
-    text: &str,
-    format: u8,
-    name: &str,
-    kept: &[u16],
-    want: Option<TextFault>,
-) -> Result<(), Fail> {
-    let policy = policy(alloc, format, name, kept)?;
-    assert_eq!(rt; fault_of(alloc, text.as_bytes(), &policy), want, "{text}");
-    Ok(())
+/// A text, the format of its policy, the name of the descriptor, what its limits keep of it, and the fault.
+type Row<'t> = (&'t str, u8, &'t str, &'t [u16], Option<TextFault>);
+
+/// Asserts that each of these texts is a table's under its policy, or has this fault.
+fn all_tables(rt: &impl Abort, alloc: Global, rows: &[Row]) {
+    for (text, format, name, kept, want) in rows {
+        let policy = policy_of(rt, alloc, *format, name, kept);
+        assert!(rt;
+            fault_of(alloc, text.as_bytes(), &policy) == *want,
+            "{text}"
+        );
+        forget(policy);
+    }
 }
 
 /// Tables of woven programs, in both formats.
 #[test]
-fn tables_of_programs(rt: HostRuntime) -> Result<(), Fail> {
-    let alloc = rt.alloc();
-    expect_table(&rt, alloc, ENTERED, 1, "fd", &[], None)?;
-    expect_table(&rt, alloc, SPLIT, 1, "fd", &[], None)?;
-    expect_table(&rt, alloc, PROMISED, 1, "fd", &[], None)?;
-    expect_table(&rt, alloc, WIDE, 2, "0", &[1, 2, 0, 3], None)?;
-    expect_table(&rt, alloc, KEPT, 2, "0", &[5, 6], None)?;
-    let limits = Some(TextFault::Line(2));
-    expect_table(&rt, alloc, KEPT, 2, "0", &[1, 2, 0, 3], limits)
+fn tables_of_programs(rt: HostRuntime) {
+    all_tables(
+        &rt,
+        rt.alloc(),
+        &[
+            (ENTERED, 1, "fd", &[], None),
+            (SPLIT, 1, "fd", &[], None),
+            (PROMISED, 1, "fd", &[], None),
+            (WIDE, 2, "0", &[1, 2, 0, 3], None),
+            (KEPT, 2, "0", &[5, 6], None),
+            (KEPT, 2, "0", &[1, 2, 0, 3], Some(TextFault::Line(2))),
+        ],
+    );
+}
+
+/// What a sink answers whose first put fails.
+fn failing_put(
+    rt: &impl Abort,
+    alloc: Global,
+    cert: &WeaverCert,
+    policy: &Policy,
+) -> Result<(), SinkFault> {
+    let failing = Vec::from_slice(alloc, &[0]).expect(rt, "memory");
+    let mut sink = MemSink::make(alloc, failing);
+    print_tables(cert, policy, &mut sink)
 }
 
 /// A sink gets the whole of a short text in one piece, or half of it where it fails.
 #[test]
-fn printed_tables(rt: HostRuntime) -> Result<(), Fail> {
+fn printed_tables(rt: HostRuntime) {
     let alloc = rt.alloc();
-    let policy = policy(alloc, 1, "fd", &[])?;
-    let cert = read_tables(alloc, SPLIT.as_bytes(), &policy)?;
-    let mut sure = SureSink::make(alloc);
-    print_tables(&cert, &policy, &mut sure)?;
-    assert_eq!(rt; sure.bytes(), SPLIT.as_bytes());
-    let mut failing = MemSink::make(alloc, Vec::from_array(alloc, [0])?);
-    let answer = print_tables(&cert, &policy, &mut failing);
-    assert_eq!(rt; answer, Err(SinkFault::Failed));
-    Ok(())
+    let policy = policy_of(&rt, alloc, 1, "fd", &[]);
+    let Ok(cert) = read_tables(alloc, SPLIT.as_bytes(), &policy) else {
+        panic!(rt; "a table that isn't read");
+    };
+    assert!(rt; is_text(alloc, &cert, &policy, SPLIT.as_bytes()));
+    assert!(rt; failing_put(&rt, alloc, &cert, &policy) == Err(SinkFault::Failed));
+    forget(cert);
+    forget(policy);
 }
