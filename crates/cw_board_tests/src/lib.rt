@@ -1,5 +1,12 @@
-//! Boards played move by move, against lists written out by hand: what crosses the reader of sources and boards in code.
+//! Boards played move by move, and the path of a run, against lists written out by hand: what crosses the readers of sources and
+//! policies and boards in code.
 #![tactic(auto)]
 
 #[cfg(test)]
-mod tests;
+mod paths;
+#[cfg(test)]
+mod plays;
+#[cfg(test)]
+mod policies;
+#[cfg(test)]
+mod told;
