@@ -1,13 +1,18 @@
 //! Programs with their policies, and the texts of their tables.
 
-pub(crate) const TWO_PROMISES_SOURCE: &str =
-    "void f(int x){l:;}int main(void){f(1);m:;k:;f(2);return 0;}";
-
-pub(crate) const TWO_PROMISES_POLICY: &str =
-    "format = 1\n[[at]]\nlabel = \"m\"\nmust = [\"amb\"]\n[[at]]\nlabel = \"k\"\nnever = [\"amb\"]\n";
+/// A source, a policy, and the text of a table.
+#[derive(Clone, Copy)]
+pub(crate) struct Texts<'t> {
+    pub(crate) source: &'t str,
+    pub(crate) policy: &'t str,
+    pub(crate) table: &'t str,
+}
 
 /// One function is called with two promises.
-pub(crate) const TWO_PROMISES: &str = "#include \"capweave.h\"
+pub(crate) const TWO_PROMISES: Texts = Texts {
+    source: "void f(int x){l:;}int main(void){f(1);m:;k:;f(2);return 0;}",
+    policy: "format = 1\n[[at]]\nlabel = \"m\"\nmust = [\"amb\"]\n[[at]]\nlabel = \"k\"\nnever = [\"amb\"]\n",
+    table: "#include \"capweave.h\"
 #define CW_LIMITS(X)
 CW_TABLE(1,4,1)
 CW_MEM(0,0,0x5)
@@ -52,16 +57,14 @@ CW_INTO(6,0,4,4)
 CW_BACK(3,0,1,2,3)
 CW_BACK(6,0,4,3,4)
 CW_DONE
-";
-
-pub(crate) const FILE_SOURCE: &str =
-    "int fd;int main(void){fd=open_it();a:;close(fd);b:;return 0;}";
-
-pub(crate) const FILE_POLICY: &str =
-    "format = 1\n[[descriptor]]\nname = \"fd\"\n[[limit]]\ndescriptor = \"fd\"\nkeep = [\"CAP_READ\"]\n[[at]]\nlabel = \"a\"\nnever = [\"fd:CAP_WRITE\"]\n";
+",
+};
 
 /// A file is opened, used and closed.
-pub(crate) const FILE: &str = "#include \"capweave.h\"
+pub(crate) const FILE: Texts = Texts {
+    source: "int fd;int main(void){fd=open_it();a:;close(fd);b:;return 0;}",
+    policy: "format = 1\n[[descriptor]]\nname = \"fd\"\n[[limit]]\ndescriptor = \"fd\"\nkeep = [\"CAP_READ\"]\n[[at]]\nlabel = \"a\"\nnever = [\"fd:CAP_WRITE\"]\n",
+    table: "#include \"capweave.h\"
 #define CW_LIMITS(X) X(0,fd,0x1)
 CW_TABLE(1,12,0)
 CW_MEM(0,0,0xfff)
@@ -98,16 +101,14 @@ CW_OPENED(1,0,2,0)
 CW_CLOSED(3,3,3)
 CW_CLOSED(3,4,3)
 CW_DONE
-";
-
-pub(crate) const RECURSION_SOURCE: &str =
-    "void f(int n){if(n){f(n-1);u:;}else{d:;}}int main(void){f(9);return 0;}";
-
-pub(crate) const RECURSION_POLICY: &str =
-    "format = 1\n[[at]]\nlabel = \"u\"\nnever = [\"amb\"]\n[[at]]\nlabel = \"d\"\nmust = [\"amb\"]\n";
+",
+};
 
 /// A function that calls itself ends in two states.
-pub(crate) const RECURSION: &str = "#include \"capweave.h\"
+pub(crate) const RECURSION: Texts = Texts {
+    source: "void f(int n){if(n){f(n-1);u:;}else{d:;}}int main(void){f(9);return 0;}",
+    policy: "format = 1\n[[at]]\nlabel = \"u\"\nnever = [\"amb\"]\n[[at]]\nlabel = \"d\"\nmust = [\"amb\"]\n",
+    table: "#include \"capweave.h\"
 #define CW_LIMITS(X)
 CW_TABLE(1,4,0)
 CW_MEM(0,0,0xf)
@@ -146,16 +147,14 @@ CW_BACK(1,0,0,3,2)
 CW_BACK(5,0,0,2,1)
 CW_BACK(5,0,0,3,2)
 CW_DONE
-";
-
-pub(crate) const SPLIT_SOURCE: &str =
-    "int f(int x){a:;return x;}\nint main(void){int y;y=f(1);b:;return 0;}\n";
-
-pub(crate) const SPLIT_POLICY: &str =
-    "format = 1\nsplit = [\"f\"]\n[[at]]\nlabel = \"a\"\nnever = [\"amb\"]\n[[at]]\nlabel = \"b\"\nmust = [\"amb\"]\n";
+",
+};
 
 /// A call runs in a process of its own.
-pub(crate) const SPLIT: &str = "#include \"capweave.h\"
+pub(crate) const SPLIT: Texts = Texts {
+    source: "int f(int x){a:;return x;}\nint main(void){int y;y=f(1);b:;return 0;}\n",
+    policy: "format = 1\nsplit = [\"f\"]\n[[at]]\nlabel = \"a\"\nnever = [\"amb\"]\n[[at]]\nlabel = \"b\"\nmust = [\"amb\"]\n",
+    table: "#include \"capweave.h\"
 #define CW_LIMITS(X)
 CW_TABLE(1,4,0)
 CW_MEM(0,0,0xf)
@@ -189,15 +188,14 @@ CW_AT(4,2,2)
 CW_INTO(3,1,0,0)
 CW_BACK(3,1,0,3,2)
 CW_DONE
-";
-
-pub(crate) const STOP_SOURCE: &str = "int main(void){a:;return 0;}";
-
-pub(crate) const STOP_POLICY: &str =
-    "format = 1\nrefusable = [\"enter\"]\non_refusal = \"stop\"\n[[at]]\nlabel = \"a\"\nnever = [\"amb\"]\n";
+",
+};
 
 /// The program stops where the try at its label is refused.
-pub(crate) const STOP: &str = "#include \"capweave.h\"
+pub(crate) const STOP: Texts = Texts {
+    source: "int main(void){a:;return 0;}",
+    policy: "format = 1\nrefusable = [\"enter\"]\non_refusal = \"stop\"\n[[at]]\nlabel = \"a\"\nnever = [\"amb\"]\n",
+    table: "#include \"capweave.h\"
 #define CW_LIMITS(X)
 CW_TABLE(1,4,0)
 CW_MEM(0,0,0xf)
@@ -214,4 +212,5 @@ CW_LIVE(8,2)
 CW_TRY(1,0,0,1,CW_NONE)
 CW_AT(1,1,2)
 CW_DONE
-";
+",
+};

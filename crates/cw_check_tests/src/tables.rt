@@ -1,16 +1,13 @@
-//! Tables of small programs, checked against the games of the programs.
+//! Tables of small programs, checked against the games of the programs. A test that lacks memory ends at once, and what it reads isn't let go: the proof of
+//! that would cost more than all its calls.
 
-ghost use Rattle.std.specs.Prelude.{◌≤◌, ◌^◌, length, IsTrue, IfOk};
+ghost use Rattle.std.specs.Prelude.{◌≤◌, length, IsTrue, IfSome};
 ghost use Rattle.cw_rights.specs.Policies.{policy_of};
 ghost use Rattle.cw_rights.specs.Valid.{IsValid};
 ghost use Rattle.cw_product.specs.Product.{IsProgramsGraph};
 ghost use Rattle.cw_wcheck.specs.Checking.{HasFewRows};
 
-use crate::lines::{
-    FILE, FILE_POLICY, FILE_SOURCE, RECURSION, RECURSION_POLICY, RECURSION_SOURCE, SPLIT,
-    SPLIT_POLICY, SPLIT_SOURCE, STOP, STOP_POLICY, STOP_SOURCE, TWO_PROMISES, TWO_PROMISES_POLICY,
-    TWO_PROMISES_SOURCE,
-};
+use crate::lines::{FILE, RECURSION, SPLIT, STOP, TWO_PROMISES, Texts};
 use cw_certs::WeaverCert;
 use cw_core::{MemId, PosId};
 use cw_points::Graph;
@@ -22,188 +19,149 @@ use cw_source::laws::programs_are_runnable;
 use cw_source::read_source;
 use cw_table_text::read_tables;
 use cw_wcheck::check_weaver;
-use std::alloc::{AllocError, Global};
+use std::alloc::Global;
+use std::mem::forget;
 use std::process::Abort;
-use std::test::Fail;
 
-/// Two words, each with what is put in its place, and the list, the row and the condition that are told of the table then: none where it is
-/// good.
-type Edit<'t> = (&'t str, &'t str, &'t str, &'t str, Option<(u8, u32, u8)>);
+/// Words, and what is put in the place of the first that are so.
+type Edit<'t> = (&'t str, &'t str);
 
-/// A text with other words in the place of the first that are `old`, or nothing where it has none.
-fn edited(alloc: Global, text: &str, old: &str, new: &str) -> Result<String, AllocError> {
-    let mut other = String::from_str(alloc, "")?;
-    if let Some((front, back)) = text.split_once(old) {
-        other.push_str(front)?;
-        other.push_str(new)?;
-        other.push_str(back)?;
+/// Edits of a table's text, and what is told of the table then: the list, the row and the condition that fails, or that it is good.
+type Row<'t> = (&'t [Edit<'t>], &'t str);
+
+/// A text with these edits.
+fn edited(rt: &impl Abort, alloc: Global, text: &str, edits: &[Edit]) -> String {
+    let mut whole = String::from_str(alloc, text).expect(rt, "memory");
+    for (old, new) in edits {
+        let (front, back) = whole
+            .split_once(*old)
+            .expect(rt, "words that don't stand there");
+        whole = format!(in alloc; "{front}{new}{back}").expect(rt, "memory");
     }
-    Ok(other)
+    whole
 }
 
-fn has_few_rows(cert: &WeaverCert) -> bool
-    ensures few { IsTrue result → HasFewRows cert.now }
+/// Whether the numbers of a table's rows fit 32 bits.
+fn has_few_rows(table: &WeaverCert) -> bool
+    ensures few { IsTrue result → HasFewRows table.now }
 {
-    cert.mems().len() < 4294967296
-        && cert.live().len() < 4294967296
-        && cert.tries().len() < 4294967296
-        && cert.ats().len() < 4294967296
-        && cert.opened().len() < 4294967296
-        && cert.closed().len() < 4294967296
-        && cert.into_rows().len() < 4294967296
-        && cert.back_rows().len() < 4294967296
+    let states = table.mems().len() as u128 + table.live().len() as u128;
+    let tries = table.tries().len() as u128 + table.ats().len() as u128;
+    let variables = table.opened().len() as u128 + table.closed().len() as u128;
+    let calls = table.into_rows().len() as u128 + table.back_rows().len() as u128;
+    states + tries + variables + calls < 4294967296
 }
 
-/// The list, the row and the condition that are told of the table with this text.
-fn told(
-    alloc: Global,
-    policy: &Policy,
-    game: &Game,
-    text: &str,
-) -> Result<Option<(u8, u32, u8)>, Fail> {
-    match read_tables(alloc, text.as_bytes(), policy) {
-        Ok(cert) if has_few_rows(&cert) => match check_weaver(game, &cert) {
-            Ok(()) => Ok(None),
-            Err(row) => Ok(Some((row.table, row.number, row.condition))),
-        },
-        _ => Err(Fail::new("a text that is no table's")),
+/// What is told of a table.
+fn told(rt: &impl Abort, alloc: Global, game: &Game, table: &WeaverCert) -> String {
+    assert!(rt; has_few_rows(table), "too many rows");
+    match check_weaver(game, table) {
+        Ok(()) => String::from_str(alloc, "good").expect(rt, "memory"),
+        Err(row) => format!(in alloc;
+            "list {}, row {}, condition {}",
+            row.table, row.number, row.condition
+        )
+        .expect(rt, "memory"),
     }
 }
 
-/// Asserts what is told of the table with this text, edited.
-fn all_told(
-    rt: &impl Abort,
-    alloc: Global,
-    policy: &Policy,
-    game: &Game,
-    text: &str,
-    edits: &[Edit],
-) -> Result<(), Fail> {
-    for (old, new, other, then, want) in edits {
-        let once = edited(alloc, text, old, new)?;
-        let twice = edited(alloc, &once, other, then)?;
-        let found = told(alloc, policy, game, &twice)?;
-        assert_eq!(rt; found, *want, "{old} {other}");
-    }
-    Ok(())
+/// Asserts what is told of the table with this text.
+fn tells(rt: &impl Abort, alloc: Global, policy: &Policy, game: &Game, text: &str, wanted: &str) {
+    let table = read_tables(alloc, text.as_bytes(), policy).expect(rt, "a table's text");
+    let told = told(rt, alloc, game, &table);
+    assert!(rt; told.as_str() == wanted, "{told} and not {wanted}");
+    forget(table);
 }
 
-/// The graph of a source under a policy.
-fn graph_of(alloc: Global, source: &[u8], policy: &Policy) -> Result<Graph, Fail>
+/// The graph of a source that is read, under a policy's names.
+fn graph_of(alloc: Global, policy: &Policy, source: &[u8]) -> Option<Graph>
     requires valid { IsValid (policy_of policy.now) }
-    ensures programs { IfOk result (λ g. IsProgramsGraph (policy_of policy.now) g) }
-    ensures few { IfOk result (λ g. length g.nodes.items ≤ 8192) }
+    ensures drawn { IfSome result (IsProgramsGraph (policy_of policy.now)) }
+    ensures few { IfSome result (λ g. length g.nodes.items ≤ 8192) }
 {
     if source.len() > 262144 {
-        return Err(Fail::new("a source that is too long"));
+        return None;
     }
     programs_are_runnable();
-    match read_source(alloc, source) {
-        Ok(checked) => match build(alloc, &checked, policy) {
-            Ok(graph) if graph.nodes.len() <= 8192 => Ok(graph),
-            _ => Err(Fail::new("a source without a graph")),
-        },
-        Err(_) => Err(Fail::new("a source that isn't read")),
+    let Ok(checked) = read_source(alloc, source) else {
+        return None;
+    };
+    let Ok(graph) = build(alloc, &checked, policy) else {
+        return None;
+    };
+    if graph.nodes.len() > 8192 {
+        return None;
     }
+    Some(graph)
 }
 
-/// `all_told` of a source under a valid policy.
-fn all_played(
+/// Asserts what is told of tables of a game.
+fn all_tell(
     rt: &impl Abort,
     alloc: Global,
-    source: &str,
     policy: &Policy,
+    game: &Game,
     text: &str,
-    edits: &[Edit],
-) -> Result<(), Fail>
-    requires valid { IsValid (policy_of policy.now) }
-{
-    let graph = graph_of(alloc, source.as_bytes(), policy)?;
-    match Game::make(alloc, &graph, policy) {
-        Ok(game) => all_told(rt, alloc, policy, &game, text, edits),
-        Err(_) => Err(Fail::new("no game")),
+    rows: &[Row],
+) {
+    for (edits, wanted) in rows {
+        let text = edited(rt, alloc, text, edits);
+        tells(rt, alloc, policy, game, &text, wanted);
     }
 }
 
-/// `all_told` of a source under a policy with this text.
-fn all(
-    rt: &impl Abort,
-    alloc: Global,
-    source: &str,
-    policy: &str,
-    text: &str,
-    edits: &[Edit],
-) -> Result<(), Fail> {
-    match read_policy(alloc, policy.as_bytes()) {
-        Ok(policy) => all_played(rt, alloc, source, &policy, text, edits),
-        Err(_) => Err(Fail::new("a policy that isn't read")),
-    }
-}
-
-/// `all_told` of the table of two promises, and of those of a file and of a recursion.
-fn two(rt: &impl Abort, alloc: Global, edits: &[Edit]) -> Result<(), Fail> {
-    all(
-        rt,
-        alloc,
-        TWO_PROMISES_SOURCE,
-        TWO_PROMISES_POLICY,
-        TWO_PROMISES,
-        edits,
-    )
-}
-
-fn file(rt: &impl Abort, alloc: Global, edits: &[Edit]) -> Result<(), Fail> {
-    all(rt, alloc, FILE_SOURCE, FILE_POLICY, FILE, edits)
-}
-
-fn recursion(rt: &impl Abort, alloc: Global, edits: &[Edit]) -> Result<(), Fail> {
-    all(
-        rt,
-        alloc,
-        RECURSION_SOURCE,
-        RECURSION_POLICY,
-        RECURSION,
-        edits,
-    )
+/// Asserts what is told of the table with these texts, edited.
+fn all_told(rt: &impl Abort, alloc: Global, texts: Texts, rows: &[Row]) {
+    let policy = read_policy(alloc, texts.policy.as_bytes()).expect(rt, "a policy");
+    let Some(graph) = graph_of(alloc, &policy, texts.source.as_bytes()) else {
+        panic!(rt; "a source without a graph");
+    };
+    let game = Game::make(alloc, &graph, &policy).expect(rt, "a game");
+    all_tell(rt, alloc, &policy, &game, texts.table, rows);
+    forget(game);
+    forget(graph);
+    forget(policy);
 }
 
 #[test]
-fn tables_are_good(rt: HostRuntime) -> Result<(), Fail> {
+fn tables_are_good(rt: HostRuntime) {
     let alloc = rt.alloc();
-    let same = [("", "", "", "", None)];
-    two(&rt, alloc, &same)?;
-    file(&rt, alloc, &same)?;
-    recursion(&rt, alloc, &same)?;
-    all(&rt, alloc, SPLIT_SOURCE, SPLIT_POLICY, SPLIT, &same)?;
-    all(&rt, alloc, STOP_SOURCE, STOP_POLICY, STOP, &same)
+    all_told(&rt, alloc, TWO_PROMISES, &[(&[], "good")]);
+    all_told(&rt, alloc, FILE, &[(&[], "good")]);
+    all_told(&rt, alloc, RECURSION, &[(&[], "good")]);
+    all_told(&rt, alloc, SPLIT, &[(&[], "good")]);
+    all_told(&rt, alloc, STOP, &[(&[], "good")]);
 }
 
 #[test]
-fn a_smaller_promise_is_told_where_it_is_led_to(rt: HostRuntime) -> Result<(), Fail> {
-    two(
+fn a_smaller_promise_is_told_where_it_is_led_to(rt: HostRuntime) {
+    all_told(
         &rt,
         rt.alloc(),
+        TWO_PROMISES,
         &[(
-            "CW_MEM(2,2,0x5)",
-            "CW_MEM(2,2,0x1)",
-            "",
-            "",
-            Some((2, 6, 6)),
+            &[("CW_MEM(2,2,0x5)", "CW_MEM(2,2,0x1)")],
+            "list 2, row 6, condition 6",
         )],
-    )
+    );
+}
+
+/// Rows of where memories are live.
+fn live_rows(rt: &impl Abort, alloc: Global, rows: &[(u32, u32)]) -> Vec<(PosId, MemId)> {
+    let mut live = Vec::new(alloc);
+    for (pos, mem) in rows {
+        live.push((PosId(*pos), MemId(*mem))).expect(rt, "memory");
+    }
+    live
 }
 
 /// Whether there is a table that has these rows alone of where memories are live.
-fn is_table(alloc: Global, rows: &[(u32, u32)]) -> Result<bool, AllocError> {
-    let mut live = Vec::new(alloc);
-    for (pos, mem) in rows {
-        live.push((PosId(*pos), MemId(*mem)))?;
-    }
+fn is_table(rt: &impl Abort, alloc: Global, rows: &[(u32, u32)]) -> bool {
     let table = WeaverCert::make(
         4,
         MemId(1),
         Vec::new(alloc),
-        live,
+        live_rows(rt, alloc, rows),
         Vec::new(alloc),
         Vec::new(alloc),
         Vec::new(alloc),
@@ -211,243 +169,216 @@ fn is_table(alloc: Global, rows: &[(u32, u32)]) -> Result<bool, AllocError> {
         Vec::new(alloc),
         Vec::new(alloc),
     );
-    Ok(table.is_some())
+    let is_made = table.is_some();
+    forget(table);
+    is_made
 }
 
 #[test]
-fn two_equal_rows_make_no_table(rt: HostRuntime) -> Result<(), Fail> {
-    assert!(rt; is_table(rt.alloc(), &[(2, 4), (3, 0)])?);
-    assert!(rt; !is_table(rt.alloc(), &[(2, 4), (3, 0), (3, 0)])?);
-    Ok(())
+fn two_equal_rows_make_no_table(rt: HostRuntime) {
+    assert!(rt; is_table(&rt, rt.alloc(), &[(2, 4), (3, 0)]));
+    assert!(rt; !is_table(&rt, rt.alloc(), &[(2, 4), (3, 0), (3, 0)]));
 }
 
 #[test]
-fn each_condition_is_told_alone(rt: HostRuntime) -> Result<(), Fail> {
-    two(
+fn each_condition_is_told_alone(rt: HostRuntime) {
+    all_told(
         &rt,
         rt.alloc(),
+        TWO_PROMISES,
         &[
-            ("CW_AT(1,0,2)", "CW_AT(1,0,9)", "", "", Some((4, 0, 1))),
-            ("CW_LIVE(8,1)\n", "", "", "", Some((2, 0, 2))),
             (
-                "CW_LIVE(20,4)",
-                "CW_LIVE(20,1)\nCW_LIVE(20,4)",
-                "",
-                "",
-                Some((2, 21, 3)),
+                &[("CW_AT(1,0,2)", "CW_AT(1,0,9)")],
+                "list 4, row 0, condition 1",
             ),
-            ("CW_LIVE(2,0)\n", "", "", "", Some((2, 0, 4))),
+            (&[("CW_LIVE(8,1)\n", "")], "list 2, row 0, condition 2"),
             (
-                "CW_TRY(5,0,3,4,CW_NONE)",
-                "CW_TRY(5,0,3,3,CW_NONE)",
-                "",
-                "",
-                Some((2, 20, 5)),
+                &[("CW_LIVE(20,4)", "CW_LIVE(20,1)\nCW_LIVE(20,4)")],
+                "list 2, row 21, condition 3",
             ),
-            ("CW_AT(4,3,3)\n", "", "", "", Some((2, 17, 6))),
-            ("CW_INTO(3,0,1,0)\n", "", "", "", Some((2, 15, 7))),
-            ("CW_BACK(3,0,1,2,3)\n", "", "", "", Some((2, 15, 8))),
+            (&[("CW_LIVE(2,0)\n", "")], "list 2, row 0, condition 4"),
             (
-                "CW_MEM(0,0,0x5)",
-                "CW_MEM(0,0,0x1)",
-                "CW_MEM(2,2,0x5)",
-                "CW_MEM(2,2,0x1)",
-                Some((2, 10, 9)),
+                &[("CW_TRY(5,0,3,4,CW_NONE)", "CW_TRY(5,0,3,3,CW_NONE)")],
+                "list 2, row 20, condition 5",
+            ),
+            (&[("CW_AT(4,3,3)\n", "")], "list 2, row 17, condition 6"),
+            (&[("CW_INTO(3,0,1,0)\n", "")], "list 2, row 15, condition 7"),
+            (
+                &[("CW_BACK(3,0,1,2,3)\n", "")],
+                "list 2, row 15, condition 8",
+            ),
+            (
+                &[
+                    ("CW_MEM(0,0,0x5)", "CW_MEM(0,0,0x1)"),
+                    ("CW_MEM(2,2,0x5)", "CW_MEM(2,2,0x1)"),
+                ],
+                "list 2, row 10, condition 9",
             ),
         ],
-    )
+    );
 }
 
 #[test]
-fn each_condition_is_told_before_a_later_one(rt: HostRuntime) -> Result<(), Fail> {
-    two(
+fn each_condition_is_told_before_a_later_one(rt: HostRuntime) {
+    all_told(
         &rt,
         rt.alloc(),
+        TWO_PROMISES,
         &[
             (
-                "CW_AT(1,0,2)",
-                "CW_AT(1,0,9)",
-                "CW_LIVE(8,1)\n",
-                "",
-                Some((4, 0, 1)),
-            ),
-            ("CW_LIVE(8,1)", "CW_LIVE(8,0)", "", "", Some((2, 0, 2))),
-            (
-                "CW_LIVE(20,4)",
-                "CW_LIVE(20,1)\nCW_LIVE(20,4)",
-                "CW_BACK(6,0,4,3,4)\n",
-                "",
-                Some((2, 21, 3)),
+                &[("CW_AT(1,0,2)", "CW_AT(1,0,9)"), ("CW_LIVE(8,1)\n", "")],
+                "list 4, row 0, condition 1",
             ),
             (
-                "CW_LIVE(2,0)\n",
-                "",
-                "CW_LIVE(0,4)",
-                "CW_LIVE(0,4)\nCW_LIVE(1,0)",
-                Some((2, 0, 4)),
-            ),
-            ("CW_LIVE(0,4)", "CW_LIVE(1,4)", "", "", Some((2, 1, 5))),
-            ("CW_LIVE(7,2)", "CW_LIVE(7,0)", "", "", Some((2, 8, 6))),
-            (
-                "CW_INTO(3,0,1,0)",
-                "CW_INTO(3,0,1,1)",
-                "",
-                "",
-                Some((2, 15, 7)),
+                &[("CW_LIVE(8,1)", "CW_LIVE(8,0)")],
+                "list 2, row 0, condition 2",
             ),
             (
-                "CW_MEM(3,2,0xf)",
-                "CW_MEM(3,2,0x6)",
-                "",
-                "",
-                Some((2, 15, 8)),
+                &[
+                    ("CW_LIVE(20,4)", "CW_LIVE(20,1)\nCW_LIVE(20,4)"),
+                    ("CW_BACK(6,0,4,3,4)\n", ""),
+                ],
+                "list 2, row 21, condition 3",
             ),
             (
-                "CW_MEM(4,3,0xf)",
-                "CW_MEM(4,3,0x0)",
-                "",
-                "",
-                Some((2, 11, 9)),
+                &[
+                    ("CW_LIVE(2,0)\n", ""),
+                    ("CW_LIVE(0,4)", "CW_LIVE(0,4)\nCW_LIVE(1,0)"),
+                ],
+                "list 2, row 0, condition 4",
+            ),
+            (
+                &[("CW_LIVE(0,4)", "CW_LIVE(1,4)")],
+                "list 2, row 1, condition 5",
+            ),
+            (
+                &[("CW_LIVE(7,2)", "CW_LIVE(7,0)")],
+                "list 2, row 8, condition 6",
+            ),
+            (
+                &[("CW_INTO(3,0,1,0)", "CW_INTO(3,0,1,1)")],
+                "list 2, row 15, condition 7",
+            ),
+            (
+                &[("CW_MEM(3,2,0xf)", "CW_MEM(3,2,0x6)")],
+                "list 2, row 15, condition 8",
+            ),
+            (
+                &[("CW_MEM(4,3,0xf)", "CW_MEM(4,3,0x0)")],
+                "list 2, row 11, condition 9",
             ),
         ],
-    )
+    );
 }
 
 #[test]
-fn ranges_are_told_list_by_list(rt: HostRuntime) -> Result<(), Fail> {
+fn ranges_are_told_list_by_list(rt: HostRuntime) {
     let alloc = rt.alloc();
-    file(
+    all_told(
         &rt,
         alloc,
+        FILE,
         &[
             (
-                "CW_TABLE(1,12,0)",
-                "CW_TABLE(1,11,0)",
-                "",
-                "",
-                Some((1, 0, 1)),
+                &[("CW_TABLE(1,12,0)", "CW_TABLE(1,11,0)")],
+                "list 1, row 0, condition 1",
             ),
             (
-                "CW_TABLE(1,12,0)",
-                "CW_TABLE(1,12,5)",
-                "",
-                "",
-                Some((1, 0, 1)),
+                &[("CW_TABLE(1,12,0)", "CW_TABLE(1,12,5)")],
+                "list 1, row 0, condition 1",
             ),
             (
-                "CW_MEM(4,7,0xfff)",
-                "CW_MEM(4,7,0x1000)",
-                "",
-                "",
-                Some((1, 4, 1)),
+                &[("CW_MEM(4,7,0xfff)", "CW_MEM(4,7,0x1000)")],
+                "list 1, row 4, condition 1",
             ),
             (
-                "CW_MEM(4,7,0xfff)",
-                "CW_MEM(4,12,0xfff)",
-                "",
-                "",
-                Some((1, 4, 1)),
+                &[("CW_MEM(4,7,0xfff)", "CW_MEM(4,12,0xfff)")],
+                "list 1, row 4, condition 1",
             ),
             (
-                "CW_LIVE(20,3)",
-                "CW_LIVE(20,3)\nCW_LIVE(99,0)",
-                "",
-                "",
-                Some((2, 21, 1)),
+                &[("CW_LIVE(20,3)", "CW_LIVE(20,3)\nCW_LIVE(99,0)")],
+                "list 2, row 21, condition 1",
             ),
             (
-                "CW_TRY(2,0,2,1,CW_NONE)",
-                "CW_TRY(2,0,2,1,9)",
-                "",
-                "",
-                Some((3, 0, 1)),
-            ),
-            ("CW_AT(4,3,3)", "CW_AT(5,3,3)", "", "", Some((4, 2, 1))),
-            (
-                "CW_OPENED(1,0,2,0)",
-                "CW_OPENED(1,0,9,0)",
-                "",
-                "",
-                Some((5, 0, 1)),
+                &[("CW_TRY(2,0,2,1,CW_NONE)", "CW_TRY(2,0,2,1,9)")],
+                "list 3, row 0, condition 1",
             ),
             (
-                "CW_CLOSED(3,4,3)",
-                "CW_CLOSED(3,4,9)",
-                "",
-                "",
-                Some((6, 1, 1)),
+                &[("CW_AT(4,3,3)", "CW_AT(5,3,3)")],
+                "list 4, row 2, condition 1",
+            ),
+            (
+                &[("CW_OPENED(1,0,2,0)", "CW_OPENED(1,0,9,0)")],
+                "list 5, row 0, condition 1",
+            ),
+            (
+                &[("CW_CLOSED(3,4,3)", "CW_CLOSED(3,4,9)")],
+                "list 6, row 1, condition 1",
             ),
         ],
-    )?;
-    recursion(
+    );
+    all_told(
         &rt,
         alloc,
+        RECURSION,
         &[
             (
-                "CW_INTO(1,0,0,0)",
-                "CW_INTO(1,0,0,9)",
-                "",
-                "",
-                Some((7, 0, 1)),
+                &[("CW_INTO(1,0,0,0)", "CW_INTO(1,0,0,9)")],
+                "list 7, row 0, condition 1",
             ),
             (
-                "CW_BACK(1,0,0,3,2)",
-                "CW_BACK(1,0,0,4,2)",
-                "",
-                "",
-                Some((8, 1, 1)),
+                &[("CW_BACK(1,0,0,3,2)", "CW_BACK(1,0,0,4,2)")],
+                "list 8, row 1, condition 1",
             ),
         ],
-    )
+    );
 }
 
 /// Of the recursion, the second of two memories at the function's end.
 #[test]
-fn opens_closes_and_returns_ask_for_their_rows(rt: HostRuntime) -> Result<(), Fail> {
+fn opens_closes_and_returns_ask_for_their_rows(rt: HostRuntime) {
     let alloc = rt.alloc();
-    file(
+    all_told(
         &rt,
         alloc,
+        FILE,
         &[
-            ("CW_OPENED(1,0,2,0)\n", "", "", "", Some((2, 3, 6))),
-            ("CW_CLOSED(3,4,3)\n", "", "", "", Some((2, 14, 6))),
+            (
+                &[("CW_OPENED(1,0,2,0)\n", "")],
+                "list 2, row 3, condition 6",
+            ),
+            (&[("CW_CLOSED(3,4,3)\n", "")], "list 2, row 14, condition 6"),
         ],
-    )?;
-    recursion(
+    );
+    all_told(
         &rt,
         alloc,
-        &[("CW_BACK(1,0,0,3,2)\n", "", "", "", Some((2, 4, 8)))],
-    )?;
-    all(
+        RECURSION,
+        &[(
+            &[("CW_BACK(1,0,0,3,2)\n", "")],
+            "list 2, row 4, condition 8",
+        )],
+    );
+    all_told(
         &rt,
         alloc,
-        SPLIT_SOURCE,
-        SPLIT_POLICY,
         SPLIT,
         &[(
-            "CW_INTO(3,1,0,0)",
-            "CW_INTO(3,0,0,0)",
-            "",
-            "",
-            Some((2, 14, 7)),
+            &[("CW_INTO(3,1,0,0)", "CW_INTO(3,0,0,0)")],
+            "list 2, row 14, condition 7",
         )],
-    )
+    );
 }
 
 #[test]
-fn going_on_is_checked_after_a_refusal_that_a_stop_answers(rt: HostRuntime) -> Result<(), Fail> {
-    all(
+fn going_on_is_checked_after_a_refusal_that_a_stop_answers(rt: HostRuntime) {
+    all_told(
         &rt,
         rt.alloc(),
-        STOP_SOURCE,
-        STOP_POLICY,
         STOP,
         &[(
-            "CW_TRY(1,0,0,1,CW_NONE)",
-            "CW_TRY(1,0,0,1,0)",
-            "",
-            "",
-            Some((2, 3, 5)),
+            &[("CW_TRY(1,0,0,1,CW_NONE)", "CW_TRY(1,0,0,1,0)")],
+            "list 2, row 3, condition 5",
         )],
-    )
+    );
 }

@@ -6,8 +6,8 @@ use Rattle.cw_syntax.specs.Trees.{file_of}
 use Rattle.cw_source.specs.Read.{ReadsAs}
 use Rattle.cw_check_tests.proofs.tables.graph_of.Goals as goal
 
-pub returns-in-Ok-build-clause-programs : goal.returns-in-Ok-build-clause-programs
-returns-in-Ok-build-clause-programs c =
+pub returns-clause-drawn : goal.returns-clause-drawn
+returns-clause-drawn c =
     let source = c.in-Ok.checked.source.now in
     let file = file_of c.in-Ok.checked.program in
     let reads = subst (λ s. ReadsAs s file) (sym c.in-Ok.ensures.source) c.in-Ok.ensures.program in
