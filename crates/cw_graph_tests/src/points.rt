@@ -1,225 +1,214 @@
-//! Graphs of small programs, which are read from their texts, and their marks.
+//! Graphs of small programs, which are read from their texts, and their marks. A graph is told as lines: of each point what stands there, its function, the
+//! points that it leads to, and its seam; of each function its first and its last point, and whether its calls may be split off; the number of `main`; of each
+//! mark its place, its seam, and what it stands at.
 
-use crate::ground::{policy, read};
+use crate::ground::{Named, Question, all_told};
 use cw_core::{PointId, SeamId};
 use cw_points::build::build;
 use cw_points::marks::marks;
-use cw_points::{Graph, Node, Part, Point, PointsFault};
-use cw_syntax::marks::{MarkKind, SeamMark};
-use cw_syntax::program::Name;
+use cw_points::{Graph, Node, Part};
+use cw_rights::Policy;
+use cw_syntax::checked::Checked;
 use std::alloc::Global;
+use std::mem::forget;
 use std::process::Abort;
-use std::test::Fail;
 
-/// A point, its function, the points that it leads to, and its seam.
-type Row = (Point, u16, Option<u32>, Option<u32>, Option<u32>);
-
-/// The first and the last point of a function, and whether its calls may be split off.
-type Span = (u32, u32, bool);
-
-/// The place of a mark, its seam, and what it stands at.
-type Mark = (u32, u32, MarkKind);
-
-fn leads_to(found: Option<PointId>, want: Option<u32>) -> bool {
-    match (found, want) {
-        (None, None) => true,
-        (Some(found), Some(want)) => found.0 == want,
-        _ => false,
+fn number_of(point: Option<PointId>) -> Option<u32> {
+    match point {
+        None => None,
+        Some(PointId(number)) => Some(number),
     }
 }
 
-fn is_seam(found: Option<SeamId>, want: Option<u32>) -> bool {
-    match (found, want) {
-        (None, None) => true,
-        (Some(found), Some(want)) => found.0 == want,
-        _ => false,
+fn seam_of(node: &Node) -> Option<u32> {
+    match node.seam {
+        None => None,
+        Some(SeamId(number)) => Some(number),
     }
 }
 
-fn is_node(node: &Node, row: &Row) -> bool {
-    let (point, function, first, second, seam) = *row;
-    node.point == point
-        && node.function == function
-        && leads_to(node.next[0], first)
-        && leads_to(node.next[1], second)
-        && is_seam(node.seam, seam)
+fn put_nodes(rt: &impl Abort, text: &mut String, nodes: &[Node]) {
+    for node in nodes {
+        let row = (
+            node.point,
+            node.function,
+            number_of(node.next[0]),
+            number_of(node.next[1]),
+            seam_of(node),
+        );
+        write!(text, "{row:?}\n").expect(rt, "memory");
+    }
 }
 
-fn are_nodes(nodes: &[Node], rows: &[Row]) -> bool {
-    if nodes.len() != rows.len() {
-        return false;
+fn put_parts(rt: &impl Abort, text: &mut String, parts: &[Part]) {
+    for part in parts {
+        let row = (part.entry.0, part.exit.0, part.split);
+        write!(text, "{row:?}\n").expect(rt, "memory");
     }
-    for (node, row) in nodes.iter().zip(rows) {
-        if !is_node(node, row) {
-            return false;
-        }
-    }
-    true
 }
 
-fn are_parts(parts: &[Part], spans: &[Span]) -> bool {
-    if parts.len() != spans.len() {
-        return false;
+fn put_marks(rt: &impl Abort, alloc: Global, text: &mut String, graph: &Graph) {
+    let marks = marks(alloc, graph).expect(rt, "memory");
+    for mark in &marks {
+        let row = (mark.place, mark.seam, mark.kind);
+        write!(text, "{row:?}\n").expect(rt, "memory");
     }
-    for (part, span) in parts.iter().zip(spans) {
-        if part.entry.0 != span.0 || part.exit.0 != span.1 || part.split != span.2 {
-            return false;
-        }
-    }
-    true
+    forget(marks);
 }
 
-fn are_marks(marks: &[SeamMark], wanted: &[Mark]) -> bool {
-    if marks.len() != wanted.len() {
-        return false;
-    }
-    for (mark, want) in marks.iter().zip(wanted) {
-        if mark.place != want.0 || mark.seam != want.1 || mark.kind != want.2 {
-            return false;
-        }
-    }
-    true
+/// The graph of a program.
+pub(crate) fn drawn(rt: &impl Abort, alloc: Global, policy: &Policy, checked: &Checked) -> Graph {
+    assert!(rt; policy.labels.len() <= 65535, "too many labels");
+    assert!(rt; policy.descriptors.len() <= 255, "too many descriptors");
+    build(alloc, checked, policy).expect(rt, "a program without a graph")
 }
 
-/// The graph of a program, or why it has none, under a policy with the descriptor variable `x` and the label `b` that may split off calls of
-/// `g`.
-fn drawn(alloc: Global, source: &[u8]) -> Result<Result<Graph, PointsFault>, Fail> {
-    let policy = policy(alloc, "x", &["b"], &["g"])?;
-    if policy.labels.len() > 65535 || policy.descriptors.len() > 255 {
-        return Err(Fail::new("a policy that is too long"));
-    }
-    let checked = read(alloc, source)?;
-    Ok(build(alloc, &checked, &policy))
-}
-
-/// Asserts the points of a program, its parts and its marks; `main` is its first function.
-fn draws(
+/// The points, the functions and the marks of a program.
+pub(crate) fn graph_told(
     rt: &impl Abort,
     alloc: Global,
-    source: &str,
-    rows: &[Row],
-    spans: &[Span],
-    wanted: &[Mark],
-) -> Result<(), Fail> {
-    let graph = drawn(alloc, source.as_bytes())??;
-    assert!(rt; are_nodes(&graph.nodes, rows), "{source}");
-    assert!(rt;
-        are_parts(&graph.parts, spans) && graph.main == 0,
-        "{source}"
-    );
-    let marks = marks(alloc, &graph)?;
-    assert!(rt; are_marks(&marks, wanted), "{source}");
-    Ok(())
+    policy: &Policy,
+    checked: &Checked,
+) -> String {
+    let graph = drawn(rt, alloc, policy, checked);
+    let mut text = String::new(alloc);
+    put_nodes(rt, &mut text, &graph.nodes);
+    put_parts(rt, &mut text, &graph.parts);
+    write!(text, "main {}\n", graph.main).expect(rt, "memory");
+    put_marks(rt, alloc, &mut text, &graph);
+    forget(graph);
+    text
+}
+
+/// How many points a program has, or why it has no graph.
+pub(crate) fn count_told(
+    rt: &impl Abort,
+    alloc: Global,
+    policy: &Policy,
+    checked: &Checked,
+) -> String {
+    assert!(rt; policy.labels.len() <= 65535, "too many labels");
+    assert!(rt; policy.descriptors.len() <= 255, "too many descriptors");
+    match build(alloc, checked, policy) {
+        Ok(graph) => {
+            let count = graph.nodes.len();
+            forget(graph);
+            format!(in alloc; "{count} points").expect(rt, "memory")
+        }
+        Err(fault) => format!(in alloc; "{fault}").expect(rt, "memory"),
+    }
+}
+
+/// The descriptor variable `x` and the label `b`; calls of `g` may be split off.
+const POLICY: Named = Named {
+    descriptor: "x",
+    labels: &["b"],
+    split: &["g"],
+};
+
+/// Asserts what is told of a program.
+fn draws(rt: &impl Abort, alloc: Global, source: &str, wanted: &str) {
+    all_told(rt, alloc, POLICY, Question::Graph, &[(source, wanted)]);
 }
 
 #[test]
-fn a_label_is_a_seam(rt: HostRuntime) -> Result<(), Fail> {
+fn a_label_is_a_seam(rt: HostRuntime) {
     draws(
         &rt,
         rt.alloc(),
         "int main(void){a:;return;}",
-        &[
-            (Point::Entry, 0, Some(1), None, Some(0)),
-            (Point::Label(1), 0, Some(2), None, Some(1)),
-            (Point::Step, 0, Some(3), None, None),
-            (Point::Step, 0, Some(4), None, None),
-            (Point::Exit, 0, None, None, None),
-        ],
-        &[(0, 4, false)],
-        &[(15, 0, MarkKind::Entry), (17, 1, MarkKind::Label)],
-    )
+        "(Entry, 0, Some(1), None, Some(0))
+(Label(1), 0, Some(2), None, Some(1))
+(Step, 0, Some(3), None, None)
+(Step, 0, Some(4), None, None)
+(Exit, 0, None, None, None)
+(0, 4, false)
+main 0
+(15, 0, Entry)
+(17, 1, Label)
+",
+    );
 }
 
 #[test]
-fn a_for_goes_on_at_its_step(rt: HostRuntime) -> Result<(), Fail> {
+fn a_for_goes_on_at_its_step(rt: HostRuntime) {
     draws(
         &rt,
         rt.alloc(),
         "int main(void){for(;x;x){if(x)continue;b:;}return;}",
-        &[
-            (Point::Entry, 0, Some(1), None, Some(0)),
-            (Point::Branch, 0, Some(3), Some(7), None),
-            (Point::Step, 0, Some(1), None, None),
-            (Point::Branch, 0, Some(4), Some(5), None),
-            (Point::Step, 0, Some(2), None, None),
-            (Point::Label(0), 0, Some(6), None, Some(1)),
-            (Point::Step, 0, Some(2), None, None),
-            (Point::Step, 0, Some(8), None, None),
-            (Point::Exit, 0, None, None, None),
-        ],
-        &[(0, 8, false)],
-        &[(15, 0, MarkKind::Entry), (41, 1, MarkKind::Label)],
-    )
+        "(Entry, 0, Some(1), None, Some(0))
+(Branch, 0, Some(3), Some(7), None)
+(Step, 0, Some(1), None, None)
+(Branch, 0, Some(4), Some(5), None)
+(Step, 0, Some(2), None, None)
+(Label(0), 0, Some(6), None, Some(1))
+(Step, 0, Some(2), None, None)
+(Step, 0, Some(8), None, None)
+(Exit, 0, None, None, None)
+(0, 8, false)
+main 0
+(15, 0, Entry)
+(41, 1, Label)
+",
+    );
 }
 
 #[test]
-fn a_do_is_tested_behind_its_body(rt: HostRuntime) -> Result<(), Fail> {
+fn a_do_is_tested_behind_its_body(rt: HostRuntime) {
     draws(
         &rt,
         rt.alloc(),
         "int main(void){do;while(x);while(x){}}",
-        &[
-            (Point::Entry, 0, Some(1), None, Some(0)),
-            (Point::Step, 0, Some(2), None, None),
-            (Point::Branch, 0, Some(1), Some(3), None),
-            (Point::Branch, 0, Some(3), Some(4), None),
-            (Point::Exit, 0, None, None, None),
-        ],
-        &[(0, 4, false)],
-        &[(15, 0, MarkKind::Entry)],
-    )
+        "(Entry, 0, Some(1), None, Some(0))
+(Step, 0, Some(2), None, None)
+(Branch, 0, Some(1), Some(3), None)
+(Branch, 0, Some(3), Some(4), None)
+(Exit, 0, None, None, None)
+(0, 4, false)
+main 0
+(15, 0, Entry)
+",
+    );
 }
 
-/// The variable that takes the result of the call below.
-const TAKEN: Name = Name { from: 30, to: 31 };
-
 #[test]
-fn a_call_leads_on_to_its_return_and_has_the_mark_of_its_result(
-    rt: HostRuntime,
-) -> Result<(), Fail> {
+fn a_call_leads_on_to_its_return_and_has_the_mark_of_its_result(rt: HostRuntime) {
     draws(
         &rt,
         rt.alloc(),
         "int main(void){     x=open(); x=g();    close(x);}int g(void){;}",
-        &[
-            (Point::Entry, 0, Some(1), None, Some(0)),
-            (Point::Open(0), 0, Some(2), None, Some(1)),
-            (Point::Call(1), 0, Some(3), None, Some(2)),
-            (Point::Close(0), 0, Some(4), None, Some(3)),
-            (Point::Exit, 0, None, None, None),
-            (Point::Entry, 1, Some(6), None, Some(4)),
-            (Point::Step, 1, Some(7), None, None),
-            (Point::Exit, 1, None, None, None),
-        ],
-        &[(0, 4, false), (5, 7, true)],
-        &[
-            (15, 0, MarkKind::Entry),
-            (20, 1, MarkKind::Open(0)),
-            (30, 2, MarkKind::Call(Some(TAKEN))),
-            (40, 3, MarkKind::Close),
-            (62, 4, MarkKind::Entry),
-        ],
-    )
+        "(Entry, 0, Some(1), None, Some(0))
+(Open(0), 0, Some(2), None, Some(1))
+(Call(1), 0, Some(3), None, Some(2))
+(Close(0), 0, Some(4), None, Some(3))
+(Exit, 0, None, None, None)
+(Entry, 1, Some(6), None, Some(4))
+(Step, 1, Some(7), None, None)
+(Exit, 1, None, None, None)
+(0, 4, false)
+(5, 7, true)
+main 0
+(15, 0, Entry)
+(20, 1, Open(0))
+(30, 2, Call(Some(Name { from: 30, to: 31 })))
+(40, 3, Close)
+(62, 4, Entry)
+",
+    );
 }
 
 /// Asserts how many points a `main` of so many empty statements has, or that there are too many.
-fn long(rt: &impl Abort, alloc: Global, count: usize, want: Option<usize>) -> Result<(), Fail> {
-    let mut text = b"int main(void){".to_vec(alloc)?;
+fn long(rt: &impl Abort, alloc: Global, count: usize, wanted: &str) {
+    let mut source = String::from_str(alloc, "int main(void){").expect(rt, "memory");
     for _ in 0..count {
-        text.push(b';')?;
+        source.push_str(";").expect(rt, "memory");
     }
-    text.push(b'}')?;
-    let found = match drawn(alloc, &text)? {
-        Ok(graph) => Some(graph.nodes.len()),
-        Err(PointsFault::TooManyPoints) => None,
-        Err(_) => Some(0),
-    };
-    assert!(rt; found == want);
-    Ok(())
+    source.push_str("}").expect(rt, "memory");
+    all_told(rt, alloc, POLICY, Question::Count, &[(&source, wanted)]);
 }
 
 #[test]
-fn a_program_has_at_most_8192_points(rt: HostRuntime) -> Result<(), Fail> {
-    long(&rt, rt.alloc(), 8190, Some(8192))?;
-    long(&rt, rt.alloc(), 8191, None)
+fn a_program_has_at_most_8192_points(rt: HostRuntime) {
+    long(&rt, rt.alloc(), 8190, "8192 points");
+    long(&rt, rt.alloc(), 8191, "too many points");
 }

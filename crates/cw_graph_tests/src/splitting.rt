@@ -1,12 +1,13 @@
 //! What forbids splitting the function `f` of each of these programs.
 
-use crate::ground::{policy, read};
+use crate::ground::{FD, Question, all_told};
 use cw_callgraph::effects;
 use cw_resolve::function_named;
 use cw_rights::Policy;
-use std::alloc::{AllocError, Global};
+use cw_syntax::checked::Checked;
+use std::alloc::Global;
+use std::mem::forget;
 use std::process::Abort;
-use std::test::Fail;
 
 /// A program without its `main`, and the least place that forbids splitting its `f`.
 const CASES: [(&str, Option<u32>); 31] = [
@@ -46,44 +47,38 @@ const CASES: [(&str, Option<u32>); 31] = [
     ("void f(int x){late=x;}int late;", Some(14)),
 ];
 
-/// The program with a `main` behind it.
-fn whole(alloc: Global, source: &str) -> Result<Vec<u8>, AllocError> {
-    let mut text = source.as_bytes().to_vec(alloc)?;
-    text.extend_from_slice(b"int main(void){return 0;}")?;
-    Ok(text)
-}
-
-/// What forbids splitting the function `f`. There is no answer where there is no such function.
-fn forbids(alloc: Global, policy: &Policy, source: &[u8]) -> Result<Option<Option<u32>>, Fail> {
-    let checked = read(alloc, source)?;
-    let table = effects(alloc, &checked, policy)?;
-    match function_named(&checked, b"f") {
-        None => Ok(None),
-        Some(function) => match table.of.get(function) {
-            None => Ok(None),
-            Some(effect) => Ok(Some(effect.forbids)),
-        },
-    }
-}
-
-/// Asserts what forbids splitting the function `f` of these programs.
-fn all_forbid(
+/// What forbids splitting the function `f`.
+pub(crate) fn bar_told(
     rt: &impl Abort,
     alloc: Global,
     policy: &Policy,
-    cases: &[(&str, Option<u32>)],
-) -> Result<(), Fail> {
-    for (source, expected) in cases {
-        let text = whole(alloc, source)?;
-        let found = forbids(alloc, policy, &text)?;
-        assert!(rt; found == Some(*expected), "{source}");
+    checked: &Checked,
+) -> String {
+    assert!(rt;
+        checked.program.functions.len() <= 65535,
+        "too many functions"
+    );
+    let table = effects(alloc, checked, policy).expect(rt, "memory");
+    let function = function_named(checked, b"f").expect(rt, "a program without `f`");
+    let effect = table
+        .of
+        .get(function)
+        .expect(rt, "a function without effects");
+    let bar = effect.forbids;
+    forget(table);
+    format!(in alloc; "{bar:?}").expect(rt, "memory")
+}
+
+/// Asserts what forbids splitting the function `f` of each of these programs.
+fn all_forbid(rt: &impl Abort, alloc: Global, cases: &[(&str, Option<u32>)]) {
+    for (source, bar) in cases {
+        let whole = format!(in alloc; "{source}int main(void){{return 0;}}").expect(rt, "memory");
+        let wanted = format!(in alloc; "{bar:?}").expect(rt, "memory");
+        all_told(rt, alloc, FD, Question::Bar, &[(&whole, &wanted)]);
     }
-    Ok(())
 }
 
 #[test]
-fn each_program_is_forbidden_at_its_least_place(rt: HostRuntime) -> Result<(), Fail> {
-    let alloc = rt.alloc();
-    let policy = policy(alloc, "fd", &[], &[])?;
-    all_forbid(&rt, alloc, &policy, &CASES)
+fn each_program_is_forbidden_at_its_least_place(rt: HostRuntime) {
+    all_forbid(&rt, rt.alloc(), &CASES);
 }
