@@ -1,4 +1,4 @@
-//! Tests of audits that are read and checked: with values from outside, where no clause says what is wanted.
+//! Tests of audits that are read, checked, printed and found: with values from outside, where no clause says what is wanted.
 #![tactic(auto)]
 
 #[cfg(test)]
@@ -9,3 +9,7 @@ mod limits;
 mod played;
 #[cfg(test)]
 mod searched;
+#[cfg(test)]
+mod tables;
+#[cfg(test)]
+mod told;

@@ -44,8 +44,8 @@ at 22 0 9
 end
 ";
 
-/// Functions each of which calls the next twice, and `main`, which calls some of them: the label comes after 65,536 moves.
-pub(crate) const DOUBLING_SOURCE: &str = "void f0(int x);
+/// Functions each of which calls the next twice, and `main`, which calls some of them: a label behind them comes after 65,536 moves.
+pub(crate) const DOUBLING: &str = "void f0(int x);
 void f1(int x);
 void f2(int x);
 void f3(int x);
@@ -73,8 +73,10 @@ void f10(int x){f11(1);f11(1);}
 void f11(int x){f12(1);f12(1);}
 void f12(int x){f13(1);f13(1);}
 void f13(int x){;}
-int main(void){f0(1);f3(1);f6(1);f9(1);f11(1);;;a:;return 0;}
-";
+int main(void){f0(1);f3(1);f6(1);f9(1);f11(1);;;";
+
+/// That label, and the end.
+pub(crate) const DOUBLING_END: &str = "a:;return 0;}\n";
 
 /// As many functions, and three that are entered only after 65,537 moves.
 pub(crate) const FAR_SOURCE: &str = "void k(int x){;;;;}
