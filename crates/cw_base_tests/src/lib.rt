@@ -13,3 +13,5 @@ mod marks;
 mod numerals;
 #[cfg(test)]
 mod pieces;
+#[cfg(test)]
+mod store;

@@ -4,12 +4,11 @@ use Rattle.std.specs.Prelude.{if◌then◌else◌, slice_index, nat_eq, nat_lt}
 use Rattle.std.proofs.lemmas.Bool.{cases_lt, lt-ltb, ltb-true, eqb-true, eq-eqb}
 use Rattle.cw_game.specs.Games.{Game}
 use Rattle.cw_game.specs.Pairs.{Called}
-use Rattle.cw_links.specs.Keys.{lowered}
+use Rattle.cw_links.specs.Keys.{asked_with, lowered}
 use Rattle.cw_solve.specs.declared.contexts.Context.{Context}
 use Rattle.cw_solve.specs.Rounds.{IsCell}
 use Rattle.cw_solve.proofs.Slots.{same_slot}
 use Rattle.cw_linked.specs.Founds.{Found, IsLink, Waits}
-use Rattle.cw_linked.specs.Queues.{asked_with}
 use Rattle.cw_linked.specs.Steps.{IsOther, AsksCell, AsksLink}
 use Rattle.cw_linked.specs.Works.{place_at, value_at}
 use Rattle.cw_linked.proofs.Bounding.{place_is}

@@ -1,8 +1,7 @@
--- What stands in a vector of cells, what holds at the end of a function, and where what holds is read off the moves.
-use Rattle.std.proofs.Common.{◌≡◌, ℕ, List, Bool, true, false, ◌<◌, ◌||◌, Option, Some, length, get_or, refl, sym, ap, ◌∙◌, subst}
-use Rattle.std.specs.Prelude.{slice_get, nat_eq}
+-- What stands in a list of cells, what holds at the end of a function, and where what holds is read off the moves.
+use Rattle.std.proofs.Common.{◌≡◌, ℕ, List, Bool, true, false, ◌||◌, Option, Some, refl, sym, ap, ◌∙◌, subst}
+use Rattle.std.specs.Prelude.{slice_get, slice_index, nat_eq}
 use Rattle.std.proofs.lemmas.Bool.{eq-eqb, ne_eqb}
-use Rattle.std.proofs.lemmas.List.{get_or_default}
 use Rattle.cw_game.specs.declared.spots.Spot.{Spot}
 use Rattle.cw_game.specs.declared.spots.Spot.TheVariants.{Visit, Asked, Step, Branch, Label, Open, Close, Call, SplitCall, Exit}
 use Rattle.cw_game.specs.Games.{Game, bad_in}
@@ -16,9 +15,8 @@ pub place_is : (g : Game) (contexts : List Context) (i : ℕ) (c : Context) (p q
 place_is g contexts i c p q at = ap (λ (o : Option Context). slot g contexts i (function_in o) p q) at
 
 pub read_value : (g : Game) (contexts : List Context) (values : List ℕ) (i : ℕ) (c : Context) (p q k place : ℕ) → slice_get contexts i ≡ Some c → place ≡ slot g contexts i c.function p q
-    → place < length values → k ≡ get_or values place k → k ≡ value_at g contexts values i p q
-read_value g contexts values i c p q k place at e lt is =
-    is ∙ get_or_default values place k 0 lt ∙ ap (λ (y : ℕ). get_or values y 0) (e ∙ sym (place_is g contexts i c p q at))
+    → k ≡ slice_index values place → k ≡ value_at g contexts values i p q
+read_value g contexts values i c p q k place at e is = is ∙ ap (slice_index values) (e ∙ sym (place_is g contexts i c p q at))
 
 -- the end of a function holds where it is the end of `main`, and elsewhere where its state is promised
 pub main_ends : (f main : ℕ) (held : Bool) → f ≡ main → true ≡ (nat_eq f main || held)

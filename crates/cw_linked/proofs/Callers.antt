@@ -12,7 +12,7 @@ use Rattle.cw_solve.specs.declared.contexts.Context.{Context}
 use Rattle.cw_solve.specs.Contexts.{context}
 use Rattle.cw_product.specs.Routed.{AreRouted}
 use Rattle.cw_solve.specs.Rounds.{slot, IsCell}
-use Rattle.cw_solve.specs.Tables.{IsTable, HasCell}
+use Rattle.cw_solve.specs.Tables.{HasCell}
 use Rattle.cw_lemmas.proofs.Truths.{not_both}
 use Rattle.cw_solve.proofs.Slots.{same_slot}
 use Rattle.cw_linked.specs.declared.work.Cell.{Cell}
@@ -21,7 +21,7 @@ use Rattle.cw_linked.specs.Calls.{CallsLeft, AsksCaller}
 use Rattle.cw_linked.specs.Founds.{Found, class_of, AreAlike, IsLink, IsTied, AreRight, Waits, IsCalled, AllCalled}
 use Rattle.cw_linked.specs.Queues.{found_of, IsLinkAt, AreMarked, AreLong, AreHigh, AsksForCell, LowersKeys, IsCellAt}
 use Rattle.cw_linked.specs.Steps.{IsSame, CallsThere}
-use Rattle.cw_linked.specs.Works.{heights_of, place_at, value_at}
+use Rattle.cw_linked.specs.Works.{known_of, IsKnown, heights_of, place_at, value_at}
 use Rattle.cw_linked.proofs.Bounding.{place_is}
 use Rattle.cw_linked.proofs.Closing.{called_asked}
 use Rattle.cw_linked.proofs.Least.{link_of}
@@ -45,9 +45,9 @@ pub tied_or_not : (v j : ℕ) → v - 1 ≡ j → (not (nat_eq v 0) ≡ false) �
 tied_or_not zero j e = inl (ap not (eq-eqb 0 0 refl))
 tied_or_not (suc v) j e = inr (omega (arith, e))
 
-module _ (g : Game) (functions : ℕ) (routed : AreRouted g functions) (alike : AreAlike g) (old : Work) (table : IsTable g old.table) where
+module _ (g : Game) (functions : ℕ) (routed : AreRouted g functions) (alike : AreAlike g) (old : Work) (known : IsKnown g (known_of old)) where
   abbrev Contexts : List Context
-  Contexts = old.table.contexts.items
+  Contexts = old.blocks.contexts.items
 
   -- all calls whose link goes to the context are in its list
   pub all_calls : AreMarked g old
@@ -61,7 +61,7 @@ module _ (g : Game) (functions : ℕ) (routed : AreRouted g functions) (alike : 
           | inl free ↦ inl (untied_called g (found_of g old) i p q rest.0 rest.1 free)
           | inr here ↦
               let k = class_of g rest.0.split q in
-              let link = link_of g functions routed alike Contexts (below g functions routed alike old old table) i c p q rest.0 is rest.1 in
+              let link = link_of g functions routed alike Contexts (below g functions routed alike old old known) i c p q rest.0 is rest.1 in
               let list : value_at g Contexts old.store.to i p k ≡ j + 1 = omega (arith, here) in
               let stands = there (place_at g Contexts i p k) (marked (place_at g Contexts i p k) (i, c, p, k, rest.0, link, refl)) in
               inr (rest.0, rest.1, rest.2, subst (λ (y : ℕ). Contains (list_at old.store.lists y) (rank old.store.marks (place_at g Contexts i p k))) list stands)
@@ -75,7 +75,7 @@ module _ (g : Game) (functions : ℕ) (routed : AreRouted g functions) (alike : 
     pub same_link : IsSame i p (class_of g call.split q) caller.at.number caller.pos.0 caller.state.0
     same_link =
         let k = class_of g call.split q in
-        let there = link_of g functions routed alike Contexts (below g functions routed alike old old table) i c p q call is es in
+        let there = link_of g functions routed alike Contexts (below g functions routed alike old old known) i c p q call is es in
         let s = same_slot g Contexts i caller.at.number c caller.at.context p caller.pos.0 k caller.state.0 there.cell at.is (sym (place_is g Contexts i c p k is.at) ∙ sym place ∙ at.place) in
         (s.number, s.position, s.state)
 
@@ -83,12 +83,12 @@ module _ (g : Game) (functions : ℕ) (routed : AreRouted g functions) (alike : 
     call_at_link = subst (λ (y : ℕ). call_in (slice_get g.spots y) ≡ Some call) same_link.1 es
 
   -- The call is asked for, under one more than the greater of the callee's height and the link's number of moves.
-  module _ (new : Work) (long : AreLong old) (high : AreHigh old) (right : AreRight g Contexts (found_of g old)) (cell : Cell) (is_cell : HasCell g old.table cell.at cell.pos.0 cell.state.0)
-      (height : ℕ) (some : 0 < height) (taken : heights_of g old.table cell.at.number cell.pos.0 cell.state.0 ≡ height)
+  module _ (new : Work) (long : AreLong old) (high : AreHigh old) (right : AreRight g Contexts (found_of g old)) (cell : Cell) (is_cell : HasCell g old.blocks cell.at cell.pos.0 cell.state.0)
+      (height : ℕ) (some : 0 < height) (taken : heights_of g (known_of old) cell.at.number cell.pos.0 cell.state.0 ≡ height)
       (link : ℕ) (caller : Cell) (at : IsCellAt g old link caller) (called : Called) (calls : call_in (slice_get g.spots caller.pos.0) ≡ Some called)
       (class : class_of g called.split cell.state.0 ≡ caller.state.0) (goes : slice_index old.store.to link ≡ suc cell.at.number) (entry : cell.pos.0 ≡ g.entry cell.at.context.function)
       (most n place : ℕ) (more : n ≡ suc most) (greatest : (slice_index old.store.waves link ≡ most) ⊎ (height ≡ most)) (waves : slice_index old.store.waves link ≤ most) (heights : height ≤ most)
-      (low : n ≤ old.table.written + 1) (spot : place ≡ slot g Contexts caller.at.number caller.at.context.function caller.pos.0 cell.state.0) (asks : AsksForCell old new place (2 * n)) where
+      (low : n ≤ old.written + 1) (spot : place ≡ slot g Contexts caller.at.number caller.at.context.function caller.pos.0 cell.state.0) (asks : AsksForCell old new place (2 * n)) where
     abbrev k : ℕ
     k = class_of g called.split cell.state.0
 
@@ -106,7 +106,7 @@ module _ (g : Game) (functions : ℕ) (routed : AreRouted g functions) (alike : 
     tied = is_tied (value_at g Contexts old.store.to caller.at.number caller.pos.0 k) cell.at.number number
 
     link_there : IsLink g Contexts caller.at.number caller.at.context caller.pos.0 k called
-    link_there = link_of g functions routed alike Contexts (below g functions routed alike old old table) caller.at.number caller.at.context caller.pos.0 cell.state.0 called asked_cell calls
+    link_there = link_of g functions routed alike Contexts (below g functions routed alike old old known) caller.at.number caller.at.context caller.pos.0 cell.state.0 called asked_cell calls
 
     callee : g.entry called.function ≡ cell.pos.0
     callee =
@@ -118,26 +118,26 @@ module _ (g : Game) (functions : ℕ) (routed : AreRouted g functions) (alike : 
     callee_height : (found_of g old).height ((found_of g old).to caller.at.number caller.pos.0 k) (g.entry called.function) cell.state.0 ≡ height
     callee_height =
         let to : (found_of g old).to caller.at.number caller.pos.0 k ≡ cell.at.number = omega (arith, number) in
-        ap (λ (y : ℕ). heights_of g old.table y (g.entry called.function) cell.state.0) to ∙ ap (λ (y : ℕ). heights_of g old.table cell.at.number y cell.state.0) callee ∙ taken
+        ap (λ (y : ℕ). heights_of g (known_of old) y (g.entry called.function) cell.state.0) to ∙ ap (λ (y : ℕ). heights_of g (known_of old) cell.at.number y cell.state.0) callee ∙ taken
 
     wave : (found_of g old).wave caller.at.number caller.pos.0 k ≡ slice_index old.store.waves link
     wave = ap (slice_index old.store.waves) (sym here)
 
     lost : Holds g n caller.pos.0 cell.state.0 (has caller.at.context.promise) ≡ false
     lost = subst (λ (y : ℕ). Holds g y caller.pos.0 cell.state.0 (has caller.at.context.promise) ≡ false) (sym more)
-        (call_lost g functions routed alike Contexts (below g functions routed alike old old table)
+        (call_lost g functions routed alike Contexts (below g functions routed alike old old known)
         (found_of g old) right most caller.at.number caller.at.context caller.pos.0 cell.state.0 called asked_cell calls tied
         (omega (arith, wave, waves)) (omega (arith, callee_height, some)) (omega (arith, callee_height, heights)))
 
     step : LowersKeys g old new
-    step = asked_step g functions routed alike old new table long high right caller.at.number caller.at.context caller.pos.0 cell.state.0 asked_cell n place (omega (arith, more)) low spot lost asks
+    step = asked_step g functions routed alike old new known long high right caller.at.number caller.at.context caller.pos.0 cell.state.0 asked_cell n place (omega (arith, more)) low spot lost asks
 
     waits : (Keys g old new).height caller.at.number caller.pos.0 cell.state.0 ≡ 0 → Waits ((Keys g old new).asked caller.at.number caller.pos.0 cell.state.0) (2 * n)
-    waits = asked_waits g functions routed alike old new table long high right caller.at.number caller.at.context caller.pos.0 cell.state.0 asked_cell n place (omega (arith, more)) low spot lost asks
+    waits = asked_waits g functions routed alike old new known long high right caller.at.number caller.at.context caller.pos.0 cell.state.0 asked_cell n place (omega (arith, more)) low spot lost asks
 
     is_called : IsCalled g (found_of g new) caller.at.number caller.pos.0 cell.state.0
     is_called = subst (λ (y : Found). IsCalled g y caller.at.number caller.pos.0 cell.state.0) (sym (found_keys g old new asks.others))
-        (called_asked g functions routed alike Contexts (below g functions routed alike old old table) (Keys g old new) caller.at.number caller.at.context caller.pos.0 cell.state.0 called most calls
+        (called_asked g functions routed alike Contexts (below g functions routed alike old old known) (Keys g old new) caller.at.number caller.at.context caller.pos.0 cell.state.0 called most calls
         (elim greatest [ inl e ↦ inl (wave ∙ e) | inr e ↦ inr (callee_height ∙ e) ])
         (λ none. let w = waits none in (w.0, omega (arith, w.1, more))))
 
@@ -177,14 +177,14 @@ module _ (g : Game) (functions : ℕ) (routed : AreRouted g functions) (alike : 
       → AllCalled g Contexts (found_of g old) (CallsLeft g Contexts marks (found_of g old) (edge ∷ back) cell.at.number cell.pos.0 cell.state.0)
       → AllCalled g Contexts (found_of g new) (CallsLeft g Contexts marks (found_of g old) back cell.at.number cell.pos.0 cell.state.0)
   one_call_left new marks edge place back cell marked here its asks all i c p q is =
-      elim (still_called g functions routed alike old new table asks.step.others asks.step.lowers
+      elim (still_called g functions routed alike old new known asks.step.others asks.step.lowers
       (CallsLeft g Contexts marks (found_of g old) (edge ∷ back) cell.at.number cell.pos.0 cell.state.0) all i c p q is) [
         | inl called ↦ inl called
         | inr rest ↦ elim (first_or_later edge back (rank marks (place_at g Contexts i p (class_of g rest.0.split q))) rest.3) [
           | inr later ↦ inr (rest.0, rest.1, rest.2, later)
           | inl now ↦
               let k = class_of g rest.0.split q in
-              let link = link_of g functions routed alike Contexts (below g functions routed alike old old table) i c p q rest.0 is rest.1 in
+              let link = link_of g functions routed alike Contexts (below g functions routed alike old old known) i c p q rest.0 is rest.1 in
               let there = marked (place_at g Contexts i p k) (i, c, p, k, rest.0, link, refl) in
               inl (asks.called i c p q rest.0 is rest.1 rest.2 (same_from_rank marks place (place_at g Contexts i p k) here there (its ∙ now)))
         ]

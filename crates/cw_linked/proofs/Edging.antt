@@ -1,8 +1,8 @@
 -- The lists of what waits for pairs, and of what returns to positions, grow by one.
-use Rattle.std.proofs.Common.{◌≡◌, ℕ, suc, ◌+◌, ◌<◌, ◌≤◌, List, [], ◌∷◌, ◌++◌, Bool, true, false, Option, Some, None, length, get_or, set, refl, sym, ap, ◌∙◌, subst, arith, inl, inr}
+use Rattle.std.proofs.Common.{◌≡◌, ℕ, suc, ◌+◌, ◌<◌, ◌≤◌, List, [], ◌∷◌, ◌++◌, Bool, true, Option, Some, None, length, refl, sym, ap, ◌∙◌, subst, arith, inl, inr}
 use Rattle.std.specs.Prelude.{◌⊎◌, slice_get, Contains}
 use Rattle.std.proofs.lemmas.Bool.{cases_eq, cases_lt, false≢true}
-use Rattle.std.proofs.lemmas.List.{length_push, length-set, get_or-set_same, get_or-set_other}
+use Rattle.std.proofs.lemmas.List.{length_push}
 use Rattle.std.proofs.lemmas.Option.{same_Some, none-some}
 use Rattle.cw_lemmas.proofs.Lists.{get_last}
 use Rattle.cw_core.specs.declared.ids.PosId.{PosId}
@@ -10,16 +10,17 @@ use Rattle.cw_certs.specs.declared.moves.Move.{Move}
 use Rattle.cw_game.specs.declared.spots.Spot.{Spot}
 use Rattle.cw_game.specs.Games.{Game}
 use Rattle.cw_game.specs.Pairs.{Called, call_in}
+use Rattle.cw_links.specs.Flat.{AreRowsOf}
 use Rattle.cw_links.specs.Lists.{Chained, list_at, with_front}
 use Rattle.cw_links.proofs.CallerLemmas.{length-with_front, list_at-with_front_same, list_at-with_front_other}
+use Rattle.cw_links.proofs.FlatRows.{as_many_rows, value_in, value_from}
 use Rattle.cw_product.specs.Moves.{pos_id, next_at}
 use Rattle.cw_product.specs.MovesAt.{first_move, second_move}
 use Rattle.cw_linked.specs.declared.edges.Pair.{Pair}
-use Rattle.cw_linked.specs.declared.edges.Changes.{Changes}
-use Rattle.cw_linked.specs.Edges.{AddsMove, AddsMoves, AreChangesTo, AreReturnsTo}
-use Rattle.cw_linked.specs.Returns.{HasReturn}
+use Rattle.cw_linked.specs.Edges.{AreLed, AreReached, IsListed, AddsMove, AddsMoves, AreChangesTo, AreReturnsTo}
+use Rattle.cw_linked.specs.Returns.{AreReturns}
 use Rattle.cw_linked.specs.Steps.{IsMoveIn, Leads}
-use Rattle.cw_linked.specs.Waiting.{pair_of, pair_number, HasIn, keeps_state, IsChange, AreChanges}
+use Rattle.cw_linked.specs.Waiting.{pair_of, list_of, HasIn, keeps_state, AreChanges}
 use Rattle.cw_linked.proofs.Adding.{before_push, push_cases}
 
 -- a new link in front of a list
@@ -59,14 +60,6 @@ module _ {T : Type 0} (old new : Chained T) (list : ℕ) (v : T) (lists : new.li
 pub each_move : (o : Option Spot) (P : Move → Type 0) → P (first_move o) → ((by : Move) → second_move o ≡ Some by → P by) → (by : Move) → IsMoveIn o by → P by
 each_move o P first second by is = elim is [ inl e ↦ subst P e first | inr e ↦ second by e ]
 
--- what is marked stays marked
-marked_still : (marks : List Bool) (i r : ℕ) → i < length marks → get_or marks r false ≡ true → get_or (set marks i true) r false ≡ true
-marked_still marks i r lt is =
-    elim (cases_eq r i) [
-      | inl e ↦ ap (λ (y : ℕ). get_or (set marks i true) y false) e ∙ get_or-set_same marks i true false lt
-      | inr ne ↦ get_or-set_other marks i r true false ne ∙ is
-    ]
-
 module _ (g : Game) where
   pub a_return_more : (old new : Chained PosId) (p : ℕ) (called : Called) → AreReturnsTo g old p → call_in (slice_get g.spots p) ≡ Some called → p < length g.spots → called.back < length g.spots
       → new.lists ≡ with_front old.lists called.back (length old.values) → new.values ≡ old.values ++ pos_id p ∷ [] → AreReturnsTo g new (p + 1)
@@ -85,111 +78,128 @@ module _ (g : Game) where
           | inr ge ↦
               let here : p ≡ r = omega (arith, less, ge) in
               let one : called ≡ call = same_Some called call (sym es ∙ ap (λ (y : ℕ). call_in (slice_get g.spots y)) here ∙ fs) in
-              subst (λ (c : Called). HasReturn new (list_at new.lists c.back) r) one
-              (subst (λ (y : ℕ). HasReturn new (list_at new.lists called.back) y) here (new_in old new called.back (pos_id p) lists values within))
+              subst (λ (c : Called). HasIn new c.back (pos_id r)) one
+              (subst (λ (y : ℕ). HasIn new called.back (pos_id y)) here (new_in old new called.back (pos_id p) lists values within))
         ];
       }
 
-  -- Pairs that wait, at positions that may change the state.
-  pub a_move_more : (old new : Changes) (p q r x : ℕ) (by : Move) → next_at g p q by ≡ Some (r, x) → p < length g.spots → q < g.states.count → pair_number g r x < length old.pairs.lists
-      → r < length old.marks.items → new.pairs.lists ≡ with_front old.pairs.lists (pair_number g r x) (length old.pairs.values) → new.pairs.values ≡ old.pairs.values ++ pair_of p q ∷ []
-      → new.marks.items ≡ set old.marks.items r true → AddsMove g old new p q by
-  a_move_more old new p q r x by leads lp lq within inside lists values marks =
-      let list = pair_number g r x in
-      let more = one_more old.pairs new.pairs list (pair_of p q) lists values within in
-      record {
-        lists = lists_kept old.pairs new.pairs list (pair_of p q) lists values within;
-        marks = ap (λ (bs : List Bool). length bs) marks ∙ length-set old.marks.items r true;
-        grows = omega (arith, more);
-        fine = λ are edge pair e. elim (value_cases old.pairs new.pairs list (pair_of p q) lists values within edge pair e) [
-          | inl was ↦ are edge pair was
-          | inr same ↦ subst (λ (y : Pair). (y.pos.0 < length g.spots) × (y.state.0 < g.states.count)) same (lp, lq)
-        ];
-        keeps = λ m n s y is. (
-          kept_in old.pairs new.pairs list (pair_of p q) lists values within (pair_number g s y) (pair_of m n) is.0,
-          ap (λ (bs : List Bool). get_or bs s false) marks ∙ marked_still old.marks.items r s inside is.1,
-        );
-        leads = λ s y e.
-            let same : (r, x) ≡ (s, y) = same_Some (r, x) (s, y) (sym leads ∙ e) in
-            subst (λ (z : ℕ × ℕ). IsChange g new p q z.0 z.1) same (
-              new_in old.pairs new.pairs list (pair_of p q) lists values within,
-              ap (λ (bs : List Bool). get_or bs r false) marks ∙ get_or-set_same old.marks.items r true false inside,
-            );
-      }
-
-  -- all moves at a position, one or two
-  pub one_move : (a b : Changes) (p q : ℕ) → second_move (slice_get g.spots p) ≡ None → AddsMove g a b p q (first_move (slice_get g.spots p)) → AddsMoves g a b p q
-  one_move a b p q alone first = record {
-    lists = first.lists;
-    marks = first.marks;
-    grows = (let h = first.grows in omega (arith, h));
-    fine = first.fine;
-    keeps = first.keeps;
-    leads = λ r x is. each_move (slice_get g.spots p) (λ by. next_at g p q by ≡ Some (r, x) → IsChange g b p q r x) (first.leads r x) (λ by e. absurd (none-some by (sym alone ∙ e))) is.0 is.1 is.2;
+  -- all positions are in, and the lists are rows
+  pub all_returns_in : (returns : Chained PosId) (rows : List (List PosId)) (m : ℕ) → length g.spots ≤ m → AreReturnsTo g returns m → AreRowsOf returns rows → AreReturns g rows
+  all_returns_in returns rows m le are is = record {
+    rows = as_many_rows returns rows is ∙ are.lists;
+    fine = λ r pos h. let v = value_from returns rows is r pos h in are.fine v.0 pos v.2;
+    leads = λ p call lt es. let h = are.leads p call (omega (arith, lt, le)) es in value_in returns rows is call.back h.0 (pos_id p) h.1 h.2;
   }
 
-  pub two_moves : (a b c : Changes) (p q : ℕ) (other : Move) → second_move (slice_get g.spots p) ≡ Some other → AddsMove g a b p q (first_move (slice_get g.spots p)) → AddsMove g b c p q other
-      → AddsMoves g a c p q
-  two_moves a b c p q other also first second = record {
-    lists = second.lists ∙ first.lists;
-    marks = second.marks ∙ first.marks;
-    grows = omega (arith, first.grows, second.grows);
-    fine = λ are. second.fine (first.fine are);
-    keeps = λ m n r x is. second.keeps m n r x (first.keeps m n r x is);
-    leads = λ r x is. each_move (slice_get g.spots p) (λ by. next_at g p q by ≡ Some (r, x) → IsChange g c p q r x) (λ e. second.keeps p q r x (first.leads r x e))
-        (λ by e. subst (λ (m : Move). next_at g p q m ≡ Some (r, x) → IsChange g c p q r x) (same_Some other by (sym also ∙ e)) (second.leads r x)) is.0 is.1 is.2;
-  }
-
-  pub a_pair_more : (old new : Changes) (p q : ℕ) → AreChangesTo g old p q → AddsMoves g old new p q → AreChangesTo g new p (q + 1)
-  a_pair_more old new p q are adds = record {
-    lists = adds.lists ∙ are.lists;
-    marks = adds.marks ∙ are.marks;
-    few = (let f = are.few in let h = adds.grows in omega (arith, f, h));
-    fine = adds.fine are.fine;
-    leads = λ m n r x before lt changing leads. elim before [
-      | inl less ↦ adds.keeps m n r x (are.leads m n r x (inl less) lt changing leads)
-      | inr same ↦ elim (cases_lt n q) [
-        | inl less ↦ adds.keeps m n r x (are.leads m n r x (inr (same.0, less)) lt changing leads)
-        | inr ge ↦
-            let e : q ≡ n = (let k = same.1 in omega (arith, k, ge)) in
-            subst (λ (y : ℕ). Leads g y n r x → IsChange g new y n r x) (sym same.0)
-            (subst (λ (y : ℕ). Leads g p y r x → IsChange g new p y r x) e (adds.leads r x)) leads
+  -- What is so of each move from the pairs before a pair: with this pair, and with all of its position.
+  pub led_pair_more : (Is New : ℕ → ℕ → ℕ → ℕ → Type 0) (p q : ℕ) → ((m n r x : ℕ) → Is m n r x → New m n r x) → AreLed g Is p q → ((r x : ℕ) → Leads g p q r x → New p q r x) → AreLed g New p (q + 1)
+  led_pair_more Is New p q keeps are here m n r x before lt changing leads =
+      elim before [
+        | inl less ↦ keeps m n r x (are m n r x (inl less) lt changing leads)
+        | inr same ↦ elim (cases_lt n q) [
+          | inl less ↦ keeps m n r x (are m n r x (inr (same.0, less)) lt changing leads)
+          | inr ge ↦
+              let e : q ≡ n = (let k = same.1 in omega (arith, k, ge)) in
+              subst (λ (y : ℕ). Leads g y n r x → New y n r x) (sym same.0)
+              (subst (λ (y : ℕ). Leads g p y r x → New p y r x) e (here r x)) leads
+        ]
       ]
-    ];
-  }
 
-  pub a_position_more : (changes : Changes) (p q : ℕ) → g.states.count ≡ q → AreChangesTo g changes p q → AreChangesTo g changes (p + 1) 0
-  a_position_more changes p q e are = record {
-    lists = are.lists;
-    marks = are.marks;
-    few = (let f = are.few in omega (arith, f, e));
-    fine = are.fine;
-    leads = λ m n r x before lt changing leads. are.leads m n r x (elim before [
-      | inl less ↦ elim (cases_lt m p) [ inl earlier ↦ inl earlier | inr ge ↦ inr (omega (arith, less, ge), omega (arith, lt, e)) ]
-      | inr same ↦ absurd (let k = same.1 in omega (arith, k))
-    ]) lt changing leads;
-  }
+  pub led_position_more : (Is : ℕ → ℕ → ℕ → ℕ → Type 0) (p q : ℕ) → g.states.count ≡ q → AreLed g Is p q → AreLed g Is (p + 1) 0
+  led_position_more Is p q e are m n r x before lt changing leads =
+      are m n r x (elim before [
+        | inl less ↦ elim (cases_lt m p) [ inl earlier ↦ inl earlier | inr ge ↦ inr (omega (arith, less, ge), omega (arith, lt, e)) ]
+        | inr same ↦ absurd (let k = same.1 in omega (arith, k))
+      ]) lt changing leads
 
   -- a position that keeps the state has none
-  pub no_pair_more : (changes : Changes) (p : ℕ) → keeps_state (slice_get g.spots p) ≡ true → AreChangesTo g changes p 0 → AreChangesTo g changes (p + 1) 0
-  no_pair_more changes p keeps are = record {
-    lists = are.lists;
-    marks = are.marks;
-    few = (let f = are.few in omega (arith, f));
-    fine = are.fine;
-    leads = λ m n r x before lt changing leads. elim before [
-      | inl less ↦ elim (cases_lt m p) [
-        | inl earlier ↦ are.leads m n r x (inl earlier) lt changing leads
-        | inr ge ↦ let here : m ≡ p = omega (arith, less, ge) in absurd (false≢true (sym changing ∙ ap (λ (y : ℕ). keeps_state (slice_get g.spots y)) here ∙ keeps))
+  pub led_none_more : (Is : ℕ → ℕ → ℕ → ℕ → Type 0) (p : ℕ) → keeps_state (slice_get g.spots p) ≡ true → AreLed g Is p 0 → AreLed g Is (p + 1) 0
+  led_none_more Is p keeps are m n r x before lt changing leads =
+      elim before [
+        | inl less ↦ elim (cases_lt m p) [
+          | inl earlier ↦ are m n r x (inl earlier) lt changing leads
+          | inr ge ↦ let here : m ≡ p = omega (arith, less, ge) in absurd (false≢true (sym changing ∙ ap (λ (y : ℕ). keeps_state (slice_get g.spots y)) here ∙ keeps))
+        ]
+        | inr same ↦ absurd (let k = same.1 in omega (arith, k))
       ]
-      | inr same ↦ absurd (let k = same.1 in omega (arith, k))
-    ];
-  }
 
-  pub all_changes_in : (changes : Changes) (m : ℕ) → length g.spots ≤ m → AreChangesTo g changes m 0 → AreChanges g changes
-  all_changes_in changes m le are = record {
-    lists = are.lists;
-    marks = are.marks;
-    fine = are.fine;
-    leads = λ p q r x lt state changing leads. are.leads p q r x (inl (omega (arith, lt, le))) state changing leads;
-  }
+  -- all moves at a position, one or two
+  pub one_leads : (New : ℕ → ℕ → Type 0) (p q : ℕ) → second_move (slice_get g.spots p) ≡ None → ((r x : ℕ) → next_at g p q (first_move (slice_get g.spots p)) ≡ Some (r, x) → New r x)
+      → (r x : ℕ) → Leads g p q r x → New r x
+  one_leads New p q alone first r x is = each_move (slice_get g.spots p) (λ by. next_at g p q by ≡ Some (r, x) → New r x) (first r x) (λ by e. absurd (none-some by (sym alone ∙ e))) is.0 is.1 is.2
+
+  pub two_lead : (New : ℕ → ℕ → Type 0) (p q : ℕ) (other : Move) → second_move (slice_get g.spots p) ≡ Some other
+      → ((r x : ℕ) → next_at g p q (first_move (slice_get g.spots p)) ≡ Some (r, x) → New r x) → ((r x : ℕ) → next_at g p q other ≡ Some (r, x) → New r x) → (r x : ℕ) → Leads g p q r x → New r x
+  two_lead New p q other also first second r x is = each_move (slice_get g.spots p) (λ by. next_at g p q by ≡ Some (r, x) → New r x) (first r x)
+      (λ by e. subst (λ (m : Move). next_at g p q m ≡ Some (r, x) → New r x) (same_Some other by (sym also ∙ e)) (second r x)) is.0 is.1 is.2
+
+  -- Pairs that wait, at positions that may change the state.
+  module _ (marks : List Bool) where
+    pub a_move_more : (old new : Chained Pair) (p q r x : ℕ) (by : Move) → next_at g p q by ≡ Some (r, x) → p < length g.spots → q < g.states.count → list_of g marks r x < length old.lists
+        → new.lists ≡ with_front old.lists (list_of g marks r x) (length old.values) → new.values ≡ old.values ++ pair_of p q ∷ [] → AddsMove g marks old new p q by
+    a_move_more old new p q r x by leads lp lq within lists values =
+        let list = list_of g marks r x in
+        let more = one_more old new list (pair_of p q) lists values within in
+        record {
+          lists = lists_kept old new list (pair_of p q) lists values within;
+          grows = omega (arith, more);
+          fine = λ are edge pair e. elim (value_cases old new list (pair_of p q) lists values within edge pair e) [
+            | inl was ↦ are edge pair was
+            | inr same ↦ subst (λ (y : Pair). (y.pos.0 < length g.spots) × (y.state.0 < g.states.count)) same (lp, lq)
+          ];
+          keeps = kept_in old new list (pair_of p q) lists values within;
+          leads = λ s y e.
+              let same : (r, x) ≡ (s, y) = same_Some (r, x) (s, y) (sym leads ∙ e) in
+              subst (λ (z : ℕ × ℕ). IsListed g marks new p q z.0 z.1) same (new_in old new list (pair_of p q) lists values within);
+        }
+
+    pub one_move : (a b : Chained Pair) (p q : ℕ) → second_move (slice_get g.spots p) ≡ None → AddsMove g marks a b p q (first_move (slice_get g.spots p)) → AddsMoves g marks a b p q
+    one_move a b p q alone first = record {
+      lists = first.lists;
+      grows = (let h = first.grows in omega (arith, h));
+      fine = first.fine;
+      keeps = first.keeps;
+      leads = one_leads (IsListed g marks b p q) p q alone first.leads;
+    }
+
+    pub two_moves : (a b c : Chained Pair) (p q : ℕ) (other : Move) → second_move (slice_get g.spots p) ≡ Some other → AddsMove g marks a b p q (first_move (slice_get g.spots p))
+        → AddsMove g marks b c p q other → AddsMoves g marks a c p q
+    two_moves a b c p q other also first second = record {
+      lists = second.lists ∙ first.lists;
+      grows = omega (arith, first.grows, second.grows);
+      fine = λ are. second.fine (first.fine are);
+      keeps = λ l pair is. second.keeps l pair (first.keeps l pair is);
+      leads = two_lead (IsListed g marks c p q) p q other also (λ r x e. second.keeps (list_of g marks r x) (pair_of p q) (first.leads r x e)) second.leads;
+    }
+
+    pub a_pair_more : (old new : Chained Pair) (p q : ℕ) → AreChangesTo g marks old p q → AddsMoves g marks old new p q → AreChangesTo g marks new p (q + 1)
+    a_pair_more old new p q are adds = record {
+      lists = adds.lists ∙ are.lists;
+      few = (let f = are.few in let h = adds.grows in omega (arith, f, h));
+      fine = adds.fine are.fine;
+      leads = led_pair_more (IsListed g marks old) (IsListed g marks new) p q (λ m n r x. adds.keeps (list_of g marks r x) (pair_of m n)) are.leads adds.leads;
+    }
+
+    pub a_position_more : (pairs : Chained Pair) (p q : ℕ) → g.states.count ≡ q → AreChangesTo g marks pairs p q → AreChangesTo g marks pairs (p + 1) 0
+    a_position_more pairs p q e are = record {
+      lists = are.lists;
+      few = (let f = are.few in omega (arith, f, e));
+      fine = are.fine;
+      leads = led_position_more (IsListed g marks pairs) p q e are.leads;
+    }
+
+    pub no_pair_more : (pairs : Chained Pair) (p : ℕ) → keeps_state (slice_get g.spots p) ≡ true → AreChangesTo g marks pairs p 0 → AreChangesTo g marks pairs (p + 1) 0
+    no_pair_more pairs p keeps are = record {
+      lists = are.lists;
+      few = (let f = are.few in omega (arith, f));
+      fine = are.fine;
+      leads = led_none_more (IsListed g marks pairs) p keeps are.leads;
+    }
+
+    pub all_changes_in : (pairs : Chained Pair) (m : ℕ) → length g.spots ≤ m → AreReached g marks → AreChangesTo g marks pairs m 0 → AreChanges g (record { marks = marks; pairs = pairs })
+    all_changes_in pairs m le reached are = record {
+      lists = are.lists;
+      marks = reached.long;
+      fine = are.fine;
+      leads = λ p q r x lt state changing leads. (are.leads p q r x (inl (omega (arith, lt, le))) state changing leads, reached.leads p q r x lt state changing leads);
+    }

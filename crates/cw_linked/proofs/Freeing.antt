@@ -7,13 +7,12 @@ use Rattle.cw_game.specs.Games.{Game}
 use Rattle.cw_game.specs.Pairs.{Called, call_in}
 use Rattle.cw_links.specs.Keys.{lowered}
 use Rattle.cw_solve.specs.declared.contexts.Context.{Context}
-use Rattle.cw_solve.specs.declared.table.Table.{Table}
 use Rattle.cw_solve.specs.Rounds.{slot, IsCell}
 use Rattle.cw_linked.specs.declared.work.Work.{Work}
 use Rattle.cw_linked.specs.Added.{ThePair, IsLinkOf, FreesLinks}
 use Rattle.cw_linked.specs.Founds.{class_of, IsLink}
 use Rattle.cw_linked.specs.Queues.{AreLong, AreSameBut, AsksForLink}
-use Rattle.cw_linked.specs.Works.{place_at}
+use Rattle.cw_linked.specs.Works.{Known, place_at}
 use Rattle.cw_linked.proofs.Asking.{kept_low, chosen_then, chosen_else}
 use Rattle.std.proofs.lemmas.Bool.{cases_Bool as decide}
 use Rattle.cw_linked.proofs.Backs.{due_other, due_length}
@@ -22,7 +21,7 @@ use Rattle.cw_linked.proofs.Taking.{one_call}
 
 -- nothing changes
 pub same_but : (w : Work) → AreSameBut w w
-same_but w = record { table = refl; to = refl; waves = refl; marks = refl; lists = refl }
+same_but w = record { known = refl; to = refl; waves = refl; marks = refl; lists = refl }
 
 -- a key of 1 is written or was there
 due_one : (due : List ℕ) (place : ℕ) → place < length due → slice_index (lowered due place 1) place ≡ 1
@@ -34,11 +33,11 @@ due_one due place lt =
 
 module _ (g : Game) (i : ℕ) (c : Context) where
   -- where no link is at these pairs
-  pub frees_nothing : (w : Work) (These : ℕ → ℕ → Type 0) → ((p x : ℕ) (call : Called) → IsLink g w.table.contexts.items i c p x call → These p x → ⊥) → FreesLinks g w w i c These
+  pub frees_nothing : (w : Work) (These : ℕ → ℕ → Type 0) → ((p x : ℕ) (call : Called) → IsLink g w.blocks.contexts.items i c p x call → These p x → ⊥) → FreesLinks g w w i c These
   frees_nothing w These none = record { others = same_but w; asked = refl; long = refl; links = λ p x call is these. absurd (none p x call is these); rest = λ k. inl refl }
 
   -- the link at one pair
-  pub frees_one : (old new : Work) (r y a : ℕ) → a < length old.store.due → a ≡ place_at g old.table.contexts.items i r y → IsLinkOf g old.table.contexts.items i c a → AsksForLink old new a 1
+  pub frees_one : (old new : Work) (r y a : ℕ) → a < length old.store.due → a ≡ place_at g old.blocks.contexts.items i r y → IsLinkOf g old.blocks.contexts.items i c a → AsksForLink old new a 1
       → FreesLinks g old new i c (ThePair r y)
   frees_one old new r y a lt at is asks =
       let here : slice_index new.store.due a ≡ 1 = ap (λ (ys : List ℕ). slice_index ys a) asks.due ∙ due_one old.store.due a lt in
@@ -47,19 +46,19 @@ module _ (g : Game) (i : ℕ) (c : Context) where
         asked = asks.asked;
         long = ap (λ (ys : List ℕ). length ys) asks.due ∙ due_length old.store.due a 1;
         links = λ p x call link e.
-            ap (slice_index new.store.due) (ap₂ (λ (m n : ℕ). place_at g old.table.contexts.items i m n) e.0 e.1 ∙ sym at) ∙ here;
+            ap (slice_index new.store.due) (ap₂ (λ (m n : ℕ). place_at g old.blocks.contexts.items i m n) e.0 e.1 ∙ sym at) ∙ here;
         rest = λ k. elim (cases_eq k a) [
-          | inl e ↦ inr (subst (λ (z : ℕ). IsLinkOf g old.table.contexts.items i c z) (sym e) is, ap (slice_index new.store.due) e ∙ here)
+          | inl e ↦ inr (subst (λ (z : ℕ). IsLinkOf g old.blocks.contexts.items i c z) (sym e) is, ap (slice_index new.store.due) e ∙ here)
           | inr ne ↦ inl (ap (λ (ys : List ℕ). slice_index ys k) asks.due ∙ due_other old.store.due a 1 k ne)
         ];
       }
 
   -- those at some pairs, and then those at others
   pub frees_more : (old mid new : Work) (These Those All : ℕ → ℕ → Type 0) → FreesLinks g old mid i c These → FreesLinks g mid new i c Those
-      → ((p x : ℕ) → IsCell g old.table.contexts.items i c p x → All p x → These p x ⊎ Those p x) → FreesLinks g old new i c All
+      → ((p x : ℕ) → IsCell g old.blocks.contexts.items i c p x → All p x → These p x ⊎ Those p x) → FreesLinks g old new i c All
   frees_more old mid new These Those All one two parts = record {
     others = record {
-      table = two.others.table ∙ one.others.table;
+      known = two.others.known ∙ one.others.known;
       to = two.others.to ∙ one.others.to;
       waves = two.others.waves ∙ one.others.waves;
       marks = two.others.marks ∙ one.others.marks;
@@ -70,19 +69,19 @@ module _ (g : Game) (i : ℕ) (c : Context) where
     links = λ p x call link all. elim (parts p x link.cell all) [
       | inl these ↦
           let was = one.links p x call link these in
-          elim (two.rest (place_at g old.table.contexts.items i p x)) [ inl same ↦ same ∙ was | inr now ↦ now.1 ]
+          elim (two.rest (place_at g old.blocks.contexts.items i p x)) [ inl same ↦ same ∙ was | inr now ↦ now.1 ]
       | inr those ↦
-          subst (λ (t : Table). slice_index new.store.due (place_at g t.contexts.items i p x) ≡ 1) one.others.table
-          (two.links p x call (subst (λ (t : Table). IsLink g t.contexts.items i c p x call) (sym one.others.table) link) those)
+          subst (λ (t : Known). slice_index new.store.due (place_at g t.blocks.contexts.items i p x) ≡ 1) one.others.known
+          (two.links p x call (subst (λ (t : Known). IsLink g t.blocks.contexts.items i c p x call) (sym one.others.known) link) those)
     ];
     rest = λ k. elim (two.rest k) [
-      | inr now ↦ inr (subst (λ (t : Table). IsLinkOf g t.contexts.items i c k) one.others.table now.0, now.1)
+      | inr now ↦ inr (subst (λ (t : Known). IsLinkOf g t.blocks.contexts.items i c k) one.others.known now.0, now.1)
       | inl same ↦ elim (one.rest k) [ inl was ↦ inl (same ∙ was) | inr was ↦ inr (was.0, same ∙ was.1) ]
     ];
   }
 
   -- pairs that are among these
-  pub frees_these : (old new : Work) (These Those : ℕ → ℕ → Type 0) → FreesLinks g old new i c These → ((p x : ℕ) → IsCell g old.table.contexts.items i c p x → Those p x → These p x)
+  pub frees_these : (old new : Work) (These Those : ℕ → ℕ → Type 0) → FreesLinks g old new i c These → ((p x : ℕ) → IsCell g old.blocks.contexts.items i c p x → Those p x → These p x)
       → FreesLinks g old new i c Those
   frees_these old new These Those frees among = record {
     others = frees.others;
@@ -92,10 +91,10 @@ module _ (g : Game) (i : ℕ) (c : Context) where
     rest = frees.rest;
   }
 
-  -- the vectors are as long as they were
+  -- the lists are as long as they were
   pub frees_long : (old new : Work) (These : ℕ → ℕ → Type 0) → FreesLinks g old new i c These → AreLong old → AreLong new
   frees_long old new These frees long =
-      let same = ap (λ (t : Table). length t.heights.items) frees.others.table in
+      let same = ap (λ (t : Known). length t.heights) frees.others.known in
       record {
         marks = ap (λ (ms : List Bool). length ms) frees.others.marks ∙ long.marks ∙ sym same;
         asked = ap (λ (ys : List ℕ). length ys) frees.asked ∙ long.asked ∙ sym same;

@@ -1,10 +1,10 @@
--- Vectors grow by a context's places.
-use Rattle.std.proofs.Common.{◌≡◌, ℕ, ◌+◌, ◌-◌, ◌*◌, ◌<◌, ◌≤◌, Bool, true, false, List, [], ◌∷◌, ◌++◌, length, take, replicate, refl, sym, ap, ap₂, ◌∙◌, subst, arith, inl, inr}
+-- Lists grow by a context's places.
+use Rattle.std.proofs.Common.{◌≡◌, ℕ, ◌+◌, ◌-◌, ◌*◌, ◌<◌, ◌≤◌, Bool, true, false, List, [], ◌∷◌, ◌++◌, length, replicate, refl, sym, ap, ap₂, ◌∙◌, subst, arith, inl, inr}
 use Rattle.std.specs.Prelude.{slice_get, slice_index, Some}
 use Rattle.std.proofs.lemmas.Bool.{cases_lt}
 use Rattle.std.proofs.lemmas.Nat.{mul-add-lt}
 use Rattle.std.proofs.Math.Nat.{mul-le-mul}
-use Rattle.std.proofs.lemmas.List.{length-replicate, length-append, length_push, get_or-replicate, get_or_append_left, get_or-append_right, take_all, append_assoc, append-nil}
+use Rattle.std.proofs.lemmas.List.{length-replicate, length-append, length_push, get_or-replicate, get_or_append_left, get_or-append_right, append_assoc, append-nil}
 use Rattle.std.proofs.lemmas.List.{replicate-append-replicate}
 use Rattle.cw_game.specs.Games.{Game}
 use Rattle.cw_game.specs.Pairs.{call_in}
@@ -14,20 +14,12 @@ use Rattle.cw_solve.specs.Rounds.{positions}
 use Rattle.cw_linked.specs.Added.{PushesPlaces, MarksState, MarksLinks, PushesNext, ArePushed}
 use Rattle.cw_linked.specs.Founds.{class_of}
 
--- a vector that grows
-pub resized : (old new : List ℕ) (end len more v : ℕ) → new ≡ take end old ++ replicate (end - len) v → len ≡ length old → end ≡ len + more → new ≡ old ++ replicate more v
-resized old new end len more v is long size =
-    is ∙ ap (λ (ys : List ℕ). ys ++ replicate (end - len) v) (take_all end old (omega (arith, long, size)))
-    ∙ ap (λ (n : ℕ). old ++ replicate n v) (rest end len more size)
-  where
-    rest : (end len more : ℕ) → end ≡ len + more → end - len ≡ more
-    rest end len more e = omega (arith, e)
-
+-- how long a list is that grows
 pub grown_length : (old new : List ℕ) (more v : ℕ) → new ≡ old ++ replicate more v → length new ≡ length old + more
 grown_length old new more v is =
     ap (λ (ys : List ℕ). length ys) is ∙ length-append old (replicate more v) ∙ ap (λ (n : ℕ). length old + n) (length-replicate {A = ℕ} more v)
 
--- what stands behind a vector that grows by zeros
+-- what stands behind a list that grows by zeros
 module _ (old new : List ℕ) (more : ℕ) (is : new ≡ old ++ replicate more 0) where
   pub grown_before : (k : ℕ) → k < length old → slice_index new k ≡ slice_index old k
   grown_before k lt = ap (λ (ys : List ℕ). slice_index ys k) is ∙ get_or_append_left old (replicate more 0) 0 k lt
@@ -39,6 +31,7 @@ module _ (old new : List ℕ) (more : ℕ) (is : new ≡ old ++ replicate more 0
 -- no place yet, one, and so many more
 pub no_places : (old : Stored) → PushesPlaces old old 0
 no_places old = record {
+  heights = sym (append-nil old.heights);
   asked = sym (append-nil old.asked);
   due = sym (append-nil old.due);
   to = sym (append-nil old.to);
@@ -50,6 +43,7 @@ no_places old = record {
 
 pub one_place : (old new : Stored) (mark : Bool) → Pushes old new mark → PushesPlaces old new 1
 one_place old new mark pushes = record {
+  heights = pushes.heights;
   asked = pushes.asked;
   due = pushes.due;
   to = pushes.to;
@@ -61,6 +55,7 @@ one_place old new mark pushes = record {
 
 pub plain_places : (old new : Stored) (many : ℕ) → PushesPlain old new many → PushesPlaces old new many
 plain_places old new many pushes = record {
+  heights = pushes.heights;
   asked = pushes.asked;
   due = pushes.due;
   to = pushes.to;
@@ -76,6 +71,7 @@ more_zeros old mid new m n one two =
 
 pub more_places : (old mid new : Stored) (m n : ℕ) → PushesPlaces old mid m → PushesPlaces mid new n → PushesPlaces old new (m + n)
 more_places old mid new m n one two = record {
+  heights = more_zeros old.heights mid.heights new.heights m n one.heights two.heights;
   asked = more_zeros old.asked mid.asked new.asked m n one.asked two.asked;
   due = more_zeros old.due mid.due new.due m n one.due two.due;
   to = more_zeros old.to mid.to new.to m n one.to two.to;

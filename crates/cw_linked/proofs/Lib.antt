@@ -28,6 +28,7 @@ pub mod Linking
 pub mod Tieing
 pub mod Tightening
 pub mod Edging
+pub mod Reaching
 pub mod Sourcing
 pub mod Pushing
 pub mod Promising
@@ -44,3 +45,4 @@ pub mod Solving
 pub mod Dividing
 pub mod Blocking
 pub mod Homing
+pub mod Plain

@@ -1,4 +1,4 @@
--- A link of the least key is taken from the vectors, and tied: what the solver keeps then.
+-- A link of the least key is taken from the store, and tied: what the solver keeps then.
 use Rattle.std.proofs.Common.{◌≡◌, ℕ, ◌+◌, ◌*◌, ◌/◌, ◌<◌, List, Some, length, set, refl, sym, ap, ◌∙◌, subst, arith, inl, inr, Bool}
 use Rattle.std.specs.Prelude.{slice_get, slice_index}
 use Rattle.std.proofs.lemmas.Bool.{cases_eq}
@@ -7,11 +7,9 @@ use Rattle.std.proofs.lemmas.List.{length-set, get_or-set_same, get_or-set_other
 use Rattle.cw_game.specs.Games.{Game}
 use Rattle.cw_game.specs.Pairs.{Called, call_in}
 use Rattle.cw_solve.specs.declared.contexts.Context.{Context}
-use Rattle.cw_solve.specs.declared.table.Table.{Table}
 use Rattle.cw_solve.specs.Contexts.{IsSetOf}
 use Rattle.cw_product.specs.Routed.{AreRouted}
 use Rattle.cw_solve.specs.Rounds.{IsCell, holds_by}
-use Rattle.cw_solve.specs.Tables.{IsTable}
 use Rattle.cw_solve.proofs.Slots.{same_slot}
 use Rattle.cw_linked.specs.declared.work.Cell.{Cell}
 use Rattle.cw_linked.specs.declared.work.Work.{Work}
@@ -20,7 +18,7 @@ use Rattle.cw_linked.specs.Popped.{FreesLink, IsWork}
 use Rattle.cw_linked.specs.Queues.{found_of, AreLong, AreHigh, IsLinkAt, AreDue, IsCellAt}
 use Rattle.cw_linked.specs.Steps.{with_keys, Frees, IsReady, IsIt}
 use Rattle.cw_linked.specs.Tied.{IsFreed}
-use Rattle.cw_linked.specs.Works.{AreUpTo, place_at, value_at}
+use Rattle.cw_linked.specs.Works.{Known, known_of, IsKnown, AreUpTo, place_at, value_at}
 use Rattle.cw_linked.proofs.Bounding.{place_is}
 use Rattle.cw_linked.proofs.Popping.{least_above}
 use Rattle.cw_linked.proofs.Staying.{callers_on, marked_on}
@@ -38,16 +36,16 @@ half_odd a h n e half =
 -- A link of the least key waits no more.
 module _ (g : Game) (functions : ℕ) (routed : AreRouted g functions) (alike : AreAlike g) (old new : Work) (work : IsWork g old) (place moves : ℕ) (frees : FreesLink old new place moves) where
   abbrev Contexts : List Context
-  Contexts = old.table.contexts.items
+  Contexts = old.blocks.contexts.items
 
-  tables : old.table ≡ new.table
-  tables = sym frees.others.table
+  unchanged : known_of old ≡ known_of new
+  unchanged = sym frees.others.known
 
-  lengths : length new.table.heights.items ≡ length old.table.heights.items
-  lengths = ap (λ (t : Table). length t.heights.items) frees.others.table
+  lengths : length new.store.heights ≡ length old.store.heights
+  lengths = ap (λ (t : Known). length t.heights) frees.others.known
 
-  pub freed_table : IsTable g new.table
-  freed_table = subst (IsTable g) tables work.table
+  pub freed_known : IsKnown g (known_of new)
+  freed_known = subst (IsKnown g) unchanged work.known
 
   pub freed_long : AreLong new
   freed_long = record {
@@ -60,13 +58,13 @@ module _ (g : Game) (functions : ℕ) (routed : AreRouted g functions) (alike : 
 
   freed_high : AreHigh new
   freed_high =
-      let due : AreUpTo (set old.store.due place 0) (2 * old.table.written + 1)
-      = up_to_set old.store.due place 0 (2 * old.table.written + 1) (omega (arith, frees.within, work.long.due)) (omega arith) work.high.due in
+      let due : AreUpTo (set old.store.due place 0) (2 * old.written + 1)
+      = up_to_set old.store.due place 0 (2 * old.written + 1) (omega (arith, frees.within, work.long.due)) (omega arith) work.high.due in
       record {
-        heights = subst (λ (t : Table). AreUpTo t.heights.items t.written) tables work.high.heights;
-        asked = subst (λ (t : Table). AreUpTo new.store.asked (2 * t.written + 2)) tables (subst (λ (ys : List ℕ). AreUpTo ys (2 * old.table.written + 2)) (sym frees.asked) work.high.asked);
-        due = subst (λ (t : Table). AreUpTo new.store.due (2 * t.written + 1)) tables (subst (λ (ys : List ℕ). AreUpTo ys (2 * old.table.written + 1)) (sym frees.due) due);
-        waves = subst (λ (t : Table). AreUpTo new.store.waves t.written) tables (subst (λ (ys : List ℕ). AreUpTo ys old.table.written) (sym frees.others.waves) work.high.waves);
+        heights = subst (λ (t : Known). AreUpTo t.heights t.written) unchanged work.high.heights;
+        asked = subst (λ (t : Known). AreUpTo new.store.asked (2 * t.written + 2)) unchanged (subst (λ (ys : List ℕ). AreUpTo ys (2 * old.written + 2)) (sym frees.asked) work.high.asked);
+        due = subst (λ (t : Known). AreUpTo new.store.due (2 * t.written + 1)) unchanged (subst (λ (ys : List ℕ). AreUpTo ys (2 * old.written + 1)) (sym frees.due) due);
+        waves = subst (λ (t : Known). AreUpTo new.store.waves t.written) unchanged (subst (λ (ys : List ℕ). AreUpTo ys old.written) (sym frees.others.waves) work.high.waves);
       }
 
   free_here : slice_index new.store.due place ≡ 0
@@ -78,21 +76,21 @@ module _ (g : Game) (functions : ℕ) (routed : AreRouted g functions) (alike : 
     | inr ne ↦
         let same : slice_index new.store.due k ≡ slice_index old.store.due k = ap (λ (ys : List ℕ). slice_index ys k) frees.due ∙ get_or-set_other old.store.due place k 0 0 ne in
         let h = work.dues k (omega (arith, lt, lengths)) (omega (arith, some, same)) in (
-          subst (λ (t : Table). IsLinkAt g t.contexts.items k) tables h.0,
+          subst (λ (t : Known). IsLinkAt g t.blocks.contexts.items k) unchanged h.0,
           λ tied. let low = h.1 (subst (λ (ys : List ℕ). 0 < slice_index ys k) frees.others.to tied) in omega (arith, low, same),
         )
   ]
 
   module _ (link : Cell) (at : IsCellAt g new place link) where
     is_cell : IsCell g Contexts link.at.number link.at.context link.pos.0 link.state.0
-    is_cell = subst (λ (t : Table). IsCell g t.contexts.items link.at.number link.at.context link.pos.0 link.state.0) frees.others.table at.is
+    is_cell = subst (λ (t : Known). IsCell g t.blocks.contexts.items link.at.number link.at.context link.pos.0 link.state.0) frees.others.known at.is
 
     place_here : place ≡ place_at g Contexts link.at.number link.pos.0 link.state.0
-    place_here = at.place ∙ sym (place_is g new.table.contexts.items link.at.number link.at.context link.pos.0 link.state.0 at.is.at)
-        ∙ ap (λ (t : Table). place_at g t.contexts.items link.at.number link.pos.0 link.state.0) frees.others.table
+    place_here = at.place ∙ sym (place_is g new.blocks.contexts.items link.at.number link.at.context link.pos.0 link.state.0 at.is.at)
+        ∙ ap (λ (t : Known). place_at g t.blocks.contexts.items link.at.number link.pos.0 link.state.0) frees.others.known
 
     functions_below : (i : ℕ) (c : Context) → slice_get Contexts i ≡ Some c → c.function < functions
-    functions_below = below g functions routed alike old old work.table
+    functions_below = below g functions routed alike old old work.known
 
     waiting : IsLinkAt g Contexts place × (0 < slice_index old.store.to place → 1 < slice_index old.store.due place)
     waiting = work.dues place frees.within frees.some
@@ -123,7 +121,7 @@ module _ (g : Game) (functions : ℕ) (routed : AreRouted g functions) (alike : 
     key = due_is ∙ due_odd
 
     above : AreAbove g Contexts (found_of g old) (2 * moves + 1)
-    above = subst (λ (k : ℕ). AreAbove g Contexts (found_of g old) k) due_odd (least_above g old work.table (slice_index old.store.due place) frees.least)
+    above = subst (λ (k : ℕ). AreAbove g Contexts (found_of g old) k) due_odd (least_above g old work.known (slice_index old.store.due place) frees.least)
 
     abbrev Due : ℕ → ℕ → ℕ → ℕ
     Due = value_at g Contexts (set old.store.due place 0)
@@ -156,41 +154,41 @@ module _ (g : Game) (functions : ℕ) (routed : AreRouted g functions) (alike : 
         let e : l.0 ≡ moves = omega (arith, l.1, key) in
         subst (λ (n : ℕ). IsShrinking g Contexts (found_of g old) link.at.number link.pos.0 link.state.0 call n) e (l.2 (omega (arith, more, due_odd, e)))
 
-    there : IsLink g new.table.contexts.items link.at.number link.at.context link.pos.0 link.state.0 is_link.0
-    there = subst (λ (t : Table). IsLink g t.contexts.items link.at.number link.at.context link.pos.0 link.state.0 is_link.0) tables is_link.1
+    there : IsLink g new.blocks.contexts.items link.at.number link.at.context link.pos.0 link.state.0 is_link.0
+    there = subst (λ (t : Known). IsLink g t.blocks.contexts.items link.at.number link.at.context link.pos.0 link.state.0 is_link.0) unchanged is_link.1
 
     pub is_freed : IsFreed g new link place moves
     is_freed = record {
       firm = record {
-        table = freed_table;
+        known = freed_known;
         long = freed_long;
-        marked = marked_on g old new (ap (λ (t : Table). t.contexts.items) frees.others.table) frees.others.marks work.marked;
+        marked = marked_on g old new (ap (λ (t : Known). t.blocks.contexts.items) frees.others.known) frees.others.marks work.marked;
         high = freed_high;
-        callers = callers_on old new frees.others.table frees.others.to frees.others.lists work.callers;
+        callers = callers_on old new frees.others.known frees.others.to frees.others.lists work.callers;
         dues = freed_dues;
-        right = subst (λ (t : Table). AreRight g t.contexts.items (found_of g new)) tables (subst (λ (s : Found). AreRight g Contexts s) (sym found_new)
+        right = subst (λ (t : Known). AreRight g t.blocks.contexts.items (found_of g new)) unchanged (subst (λ (s : Found). AreRight g Contexts s) (sym found_new)
             (freed_right g functions routed alike Contexts functions_below (found_of g old) work.found link.at.number link.at.context link.pos.0 link.state.0 is_link.0 is_link.1 Due is_free));
       };
       at = at;
-      low = (let h = work.high.due place in let e = ap (λ (t : Table). t.written) tables in omega (arith, h, e, due_odd));
+      low = (let h = work.high.due place in let e = ap (λ (t : Known). t.written) unchanged in omega (arith, h, e, due_odd));
       call = (is_link.0, there);
       free = free_here;
-      closed = subst (λ (t : Table). AllClosed g t.contexts.items (found_of g new) Nothing) tables (subst (λ (s : Found). AllClosed g Contexts s Nothing) (sym found_new) work.found.closed);
-      called = subst (λ (t : Table). AllCalled g t.contexts.items (found_of g new) Nothing) tables (subst (λ (s : Found). AllCalled g Contexts s Nothing) (sym found_new) work.found.called);
-      standing = subst (λ (t : Table). AllStanding g t.contexts.items (found_of g new) (IsIt link.at.number link.pos.0 link.state.0)) tables
+      closed = subst (λ (t : Known). AllClosed g t.blocks.contexts.items (found_of g new) Nothing) unchanged (subst (λ (s : Found). AllClosed g Contexts s Nothing) (sym found_new) work.found.closed);
+      called = subst (λ (t : Known). AllCalled g t.blocks.contexts.items (found_of g new) Nothing) unchanged (subst (λ (s : Found). AllCalled g Contexts s Nothing) (sym found_new) work.found.called);
+      standing = subst (λ (t : Known). AllStanding g t.blocks.contexts.items (found_of g new) (IsIt link.at.number link.pos.0 link.state.0)) unchanged
           (subst (λ (s : Found). AllStanding g Contexts s (IsIt link.at.number link.pos.0 link.state.0)) (sym found_new)
           (freed_standing g functions routed alike Contexts functions_below (found_of g old) work.found link.at.number link.at.context link.pos.0 link.state.0 is_link.0 is_link.1 Due is_free));
       ready = λ call set_is is.
-          subst (λ (t : Table). IsLink g t.contexts.items link.at.number link.at.context link.pos.0 link.state.0 call
+          subst (λ (t : Known). IsLink g t.blocks.contexts.items link.at.number link.at.context link.pos.0 link.state.0 call
           → IsSetOf g set_is (λ y. holds_by moves (height_back g (found_of g new) link.at.number call link.state.0 y))
-          → IsReady g t.contexts.items (found_of g new) link.at.number link.at.context link.pos.0 link.state.0 call moves set_is) tables
+          → IsReady g t.blocks.contexts.items (found_of g new) link.at.number link.at.context link.pos.0 link.state.0 call moves set_is) unchanged
           (subst (λ (s : Found). IsLink g Contexts link.at.number link.at.context link.pos.0 link.state.0 call
           → IsSetOf g set_is (λ y. holds_by moves (height_back g s link.at.number call link.state.0 y))
           → IsReady g Contexts s link.at.number link.at.context link.pos.0 link.state.0 call moves set_is) (sym found_new)
           (λ here read. was_ready call set_is here read)) is;
       shrinks = λ call is tied.
-          subst (λ (t : Table). IsLink g t.contexts.items link.at.number link.at.context link.pos.0 link.state.0 call
-          → IsShrinking g t.contexts.items (found_of g new) link.at.number link.pos.0 link.state.0 call moves) tables
+          subst (λ (t : Known). IsLink g t.blocks.contexts.items link.at.number link.at.context link.pos.0 link.state.0 call
+          → IsShrinking g t.blocks.contexts.items (found_of g new) link.at.number link.pos.0 link.state.0 call moves) unchanged
           (subst (λ (s : Found). IsLink g Contexts link.at.number link.at.context link.pos.0 link.state.0 call
           → IsShrinking g Contexts s link.at.number link.pos.0 link.state.0 call moves) (sym found_new)
           (λ here. was_shrinking call here (subst (λ (ys : List ℕ). 0 < slice_index ys place) frees.others.to tied))) is;

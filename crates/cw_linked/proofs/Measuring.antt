@@ -12,7 +12,7 @@ use Rattle.std.proofs.lemmas.Option.{same_Some}
 use Rattle.cw_game.specs.Games.{Game, returned, Holds}
 use Rattle.cw_game.specs.Pairs.{has, Called, kept_at}
 use Rattle.cw_solve.specs.declared.contexts.Context.{Context}
-use Rattle.cw_solve.specs.declared.table.Table.{Table}
+use Rattle.cw_solve.specs.declared.table.Blocks.{Blocks}
 use Rattle.cw_solve.specs.Contexts.{context, promise_at, IsSetOf}
 use Rattle.cw_product.specs.Routed.{IsState, AreRouted}
 use Rattle.cw_solve.specs.Rounds.{holds_by}
@@ -28,10 +28,10 @@ use Rattle.cw_linked.specs.Popped.{TakesCell, FreesLink, IsWork}
 use Rattle.cw_linked.specs.Queues.{found_of}
 use Rattle.cw_linked.specs.Returns.{AreFew}
 use Rattle.cw_linked.specs.Tied.{IsFreed}
-use Rattle.cw_linked.specs.Works.{place_at}
+use Rattle.cw_linked.specs.Works.{Known, known_of, place_at}
 use Rattle.cw_linked.proofs.Bounding.{place_is}
 use Rattle.cw_linked.proofs.Callers.{is_tied}
-use Rattle.cw_linked.proofs.Takings.{is_table}
+use Rattle.cw_linked.proofs.Takings.{is_known}
 
 -- Counts and sums.
 
@@ -86,37 +86,37 @@ states_most g set = let l = count_by-le-length (has set) (range_with_len 0 g.sta
 module _ (g : Game) (functions : ℕ) (routed : AreRouted g functions) (alike : AreAlike g) (old new : Work) (work : IsWork g old) (place height : ℕ) (takes : TakesCell old new place height) where
   pub taken_less : work_left g new < work_left g old
   taken_less =
-      let after = is_table g functions routed alike old new work place height takes in
+      let after = is_known g functions routed alike old new work place height takes in
       let long = ap (λ (ys : List ℕ). length ys) takes.heights in
-      let same = length-set old.table.heights.items place height in
-      let all : length new.table.heights.items ≡ length old.table.heights.items = long ∙ same in
+      let same = length-set old.store.heights place height in
+      let all : length new.store.heights ≡ length old.store.heights = long ∙ same in
       let counted = after.counted in
-      let before = work.table.counted in
+      let before = work.known.counted in
       let written = takes.written in
-      let sums : sum_by (ties_left g new.table.contexts.items) new.store.to ≡ sum_by (ties_left g old.table.contexts.items) old.store.to
-      = ap (λ (cs : List Context). sum_by (ties_left g cs) new.store.to) takes.contexts ∙ ap (λ (ys : List ℕ). sum_by (ties_left g old.table.contexts.items) ys) takes.to in
-      let room : (4194304 - length new.table.heights.items) * (g.states.count + 2) ≡ (4194304 - length old.table.heights.items) * (g.states.count + 2)
+      let sums : sum_by (ties_left g new.blocks.contexts.items) new.store.to ≡ sum_by (ties_left g old.blocks.contexts.items) old.store.to
+      = ap (λ (b : Blocks). sum_by (ties_left g b.contexts.items) new.store.to) takes.blocks ∙ ap (λ (ys : List ℕ). sum_by (ties_left g old.blocks.contexts.items) ys) takes.to in
+      let room : (4194304 - length new.store.heights) * (g.states.count + 2) ≡ (4194304 - length old.store.heights) * (g.states.count + 2)
       = ap (λ (n : ℕ). (4194304 - n) * (g.states.count + 2)) all in
       omega (arith, room, sums, counted, before, written, all)
 
 -- Nothing but keys and lists changes.
 
-pub kept_left : (g : Game) (old new : Work) → new.table ≡ old.table → new.store.to ≡ old.store.to → work_left g new ≡ work_left g old
-kept_left g old new table to =
-    ap (λ (t : Table). (4194304 - length t.heights.items) * (g.states.count + 2) + count_by is_none t.heights.items + sum_by (ties_left g t.contexts.items) new.store.to) table
-    ∙ ap (λ (ys : List ℕ). (4194304 - length old.table.heights.items) * (g.states.count + 2) + count_by is_none old.table.heights.items + sum_by (ties_left g old.table.contexts.items) ys) to
+pub kept_left : (g : Game) (old new : Work) → known_of new ≡ known_of old → new.store.to ≡ old.store.to → work_left g new ≡ work_left g old
+kept_left g old new known to =
+    ap (λ (t : Known). (4194304 - length t.heights) * (g.states.count + 2) + count_by is_none t.heights + sum_by (ties_left g t.blocks.contexts.items) new.store.to) known
+    ∙ ap (λ (ys : List ℕ). (4194304 - length old.store.heights) * (g.states.count + 2) + count_by is_none old.store.heights + sum_by (ties_left g old.blocks.contexts.items) ys) to
 
 -- A link is tied to a context whose promise is one of its fewer ties.
 
-pub tied_less : (g : Game) (old new : Work) (place number : ℕ) → new.table ≡ old.table → new.store.to ≡ set old.store.to place (number + 1) → place < length old.store.to
-    → promised_in g (slice_get old.table.contexts.items number) < ties_left g old.table.contexts.items (slice_index old.store.to place) → work_left g new < work_left g old
-tied_less g old new place number table to within less =
-    let now : work_left g new ≡ (4194304 - length old.table.heights.items) * (g.states.count + 2) + count_by is_none old.table.heights.items + sum_by (ties_left g old.table.contexts.items)
+pub tied_less : (g : Game) (old new : Work) (place number : ℕ) → known_of new ≡ known_of old → new.store.to ≡ set old.store.to place (number + 1) → place < length old.store.to
+    → promised_in g (slice_get old.blocks.contexts.items number) < ties_left g old.blocks.contexts.items (slice_index old.store.to place) → work_left g new < work_left g old
+tied_less g old new place number known to within less =
+    let now : work_left g new ≡ (4194304 - length old.store.heights) * (g.states.count + 2) + count_by is_none old.store.heights + sum_by (ties_left g old.blocks.contexts.items)
     (set old.store.to place (suc number))
-    = ap (λ (t : Table). (4194304 - length t.heights.items) * (g.states.count + 2) + count_by is_none t.heights.items + sum_by (ties_left g t.contexts.items) new.store.to) table
-    ∙ ap (λ (ys : List ℕ). (4194304 - length old.table.heights.items) * (g.states.count + 2) + count_by is_none old.table.heights.items + sum_by (ties_left g old.table.contexts.items) ys)
+    = ap (λ (t : Known). (4194304 - length t.heights) * (g.states.count + 2) + count_by is_none t.heights + sum_by (ties_left g t.blocks.contexts.items) new.store.to) known
+    ∙ ap (λ (ys : List ℕ). (4194304 - length old.store.heights) * (g.states.count + 2) + count_by is_none old.store.heights + sum_by (ties_left g old.blocks.contexts.items) ys)
     (to ∙ ap (λ (n : ℕ). set old.store.to place n) (add-one number)) in
-    let sums = sum_by-set (ties_left g old.table.contexts.items) old.store.to place (suc number) 0 within in
+    let sums = sum_by-set (ties_left g old.blocks.contexts.items) old.store.to place (suc number) 0 within in
     omega (arith, now, sums, less)
 
 -- A context is added.
@@ -131,23 +131,23 @@ ties_on g contexts c (suc i) le = ap (promised_in g) (before contexts i (omega (
     before (x ∷ xs) zero lt = refl
     before (x ∷ xs) (suc i) lt = before xs i (omega (arith, lt))
 
-pub added_left : (g : Game) (old new : Work) (c : Context) (many : ℕ) → new.table.contexts.items ≡ old.table.contexts.items ++ c ∷ []
-    → new.table.heights.items ≡ old.table.heights.items ++ replicate many 0 → new.store.to ≡ old.store.to ++ replicate many 0
-    → length old.table.heights.items + many ≤ 4194304 → length old.store.to ≡ length old.table.heights.items → AreFew old → work_left g new ≡ work_left g old
+pub added_left : (g : Game) (old new : Work) (c : Context) (many : ℕ) → new.blocks.contexts.items ≡ old.blocks.contexts.items ++ c ∷ []
+    → new.store.heights ≡ old.store.heights ++ replicate many 0 → new.store.to ≡ old.store.to ++ replicate many 0
+    → length old.store.heights + many ≤ 4194304 → length old.store.to ≡ length old.store.heights → AreFew old → work_left g new ≡ work_left g old
 added_left g old new c many contexts heights to room long few =
-    let cs = old.table.contexts.items in
-    let hs = old.table.heights.items in
-    let longer : length new.table.heights.items ≡ length hs + many
+    let cs = old.blocks.contexts.items in
+    let hs = old.store.heights in
+    let longer : length new.store.heights ≡ length hs + many
     = ap (λ (ys : List ℕ). length ys) heights ∙ length-append hs (replicate many 0) ∙ ap (λ (n : ℕ). length hs + n) (length-replicate {A = ℕ} many 0) in
-    let none : count_by is_none new.table.heights.items ≡ count_by is_none hs + many
+    let none : count_by is_none new.store.heights ≡ count_by is_none hs + many
     = ap (λ (ys : List ℕ). count_by is_none ys) heights ∙ sum_by-append (λ (x : ℕ). cond (is_none x) 1 0) hs (replicate many 0) ∙ ap (λ (n : ℕ). count_by is_none hs + n) (none_written many) in
     let same : sum_by (ties_left g (cs ++ c ∷ [])) old.store.to ≡ sum_by (ties_left g cs) old.store.to
     = sum_same (ties_left g (cs ++ c ∷ [])) (ties_left g cs) (length cs) (ties_on g cs c) old.store.to (λ k lt. few k (omega (arith, lt, long))) in
-    let ties : sum_by (ties_left g new.table.contexts.items) new.store.to ≡ sum_by (ties_left g cs) old.store.to + many * (g.states.count + 1)
+    let ties : sum_by (ties_left g new.blocks.contexts.items) new.store.to ≡ sum_by (ties_left g cs) old.store.to + many * (g.states.count + 1)
     = ap (λ (ys : List Context). sum_by (ties_left g ys) new.store.to) contexts ∙ ap (λ (ys : List ℕ). sum_by (ties_left g (cs ++ c ∷ [])) ys) to
     ∙ sum_by-append (ties_left g (cs ++ c ∷ [])) old.store.to (replicate many 0) ∙ both _ _ _ _ same (sum_by-replicate (ties_left g (cs ++ c ∷ [])) many 0) in
     let rooms = room_for (length hs) many (g.states.count) room in
-    let less : (4194304 - length new.table.heights.items) * (g.states.count + 2) ≡ (4194304 - (length hs + many)) * (g.states.count + 2) =
+    let less : (4194304 - length new.store.heights) * (g.states.count + 2) ≡ (4194304 - (length hs + many)) * (g.states.count + 2) =
     ap (λ (n : ℕ). (4194304 - n) * (g.states.count + 2)) longer in
     let product : many * (g.states.count + 2) ≡ many * (g.states.count + 1) + many = times many g.states.count in
     omega (arith, none, ties, rooms, less, product)
@@ -166,7 +166,7 @@ added_left g old new c many contexts heights to room long few =
 module _ (g : Game) (functions : ℕ) (routed : AreRouted g functions) (w : Work) (link : Cell) (place moves : ℕ) (freed : IsFreed g w link place moves)
     (more : 0 < slice_index w.store.to place → 0 < moves) where
   abbrev Contexts : List Context
-  Contexts = w.table.contexts.items
+  Contexts = w.blocks.contexts.items
 
   place_here : place ≡ place_at g Contexts link.at.number link.pos.0 link.state.0
   place_here = freed.at.place ∙ sym (place_is g Contexts link.at.number link.at.context link.pos.0 link.state.0 freed.at.is.at)

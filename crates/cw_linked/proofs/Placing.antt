@@ -8,16 +8,17 @@ use Rattle.std.specs.Prelude.{Some, slice_get}
 use Rattle.std.proofs.lemmas.Option.{slice_get_within, get_or_from_slice_get, slice_get-get_or}
 use Rattle.cw_game.specs.Games.{Game}
 use Rattle.cw_solve.specs.declared.contexts.Context.{Context}
-use Rattle.cw_solve.specs.declared.table.Table.{Table}
+use Rattle.cw_solve.specs.declared.table.Blocks.{Blocks}
 use Rattle.cw_solve.specs.Tabled.{Tabled}
 use Rattle.cw_product.specs.Routed.{AreRouted, IsThere}
 use Rattle.cw_solve.specs.Contexts.{cells_of}
 use Rattle.cw_solve.specs.Rounds.{base, positions}
-use Rattle.cw_solve.specs.Tables.{IsTable, IsTabled}
+use Rattle.cw_solve.specs.Tables.{AreBlocks, IsTabled}
 use Rattle.cw_solve.proofs.Slots.{base_more, base_rises}
 use Rattle.cw_solve.proofs.Tabling.{there_at, base_at}
 use Rattle.cw_linked.specs.declared.work.Work.{Work}
 use Rattle.cw_linked.specs.Queues.{IsOwner, IsCellAt}
+use Rattle.cw_linked.specs.Works.{known_of, IsKnown}
 
 -- where the cells of some first contexts have a place among theirs, one of these has
 owner_upto : (g : Game) (contexts : List Context) (k n : ℕ) → n ≤ length contexts → k < base g contexts n → (i : ℕ) × IsOwner g contexts i k
@@ -30,49 +31,49 @@ owner_upto g contexts k (suc n) le lt =
           (n, (omega (arith, le), after, rw next lt))
     ]
 
-module _ (g : Game) (t : Table) (table : IsTable g t) where
+module _ (g : Game) (b : Blocks) (blocks : AreBlocks g b) where
   abbrev Contexts : List Context
-  Contexts = t.contexts.items
+  Contexts = b.contexts.items
 
   -- where all cells end
-  all_base : base g Contexts (length Contexts) ≡ length t.heights.items
-  all_base = ap (λ (cs : List Context). cells_of g cs) (take_all (length Contexts) Contexts (omega arith)) ∙ sym table.cells
+  all_base : base g Contexts (length Contexts) ≡ cells_of g Contexts
+  all_base = ap (λ (cs : List Context). cells_of g cs) (take_all (length Contexts) Contexts (omega arith))
 
   -- each place is one of a context
-  pub owned : (k : ℕ) → k < length t.heights.items → (i : ℕ) × IsOwner g Contexts i k
+  pub owned : (k : ℕ) → k < cells_of g Contexts → (i : ℕ) × IsOwner g Contexts i k
   owned k lt = owner_upto g Contexts k (length Contexts) (omega arith) (omega (arith, lt, all_base))
 
-  pub base_is : (i d : ℕ) → i < length Contexts → get_or t.bases.items i d ≡ base g Contexts i
-  base_is i d lt = get_or_default t.bases.items i d 0 (omega (arith, lt, table.bases)) ∙ table.begins i lt
+  pub base_is : (i d : ℕ) → i < length Contexts → get_or b.bases.items i d ≡ base g Contexts i
+  base_is i d lt = get_or_default b.bases.items i d 0 (omega (arith, lt, blocks.bases)) ∙ blocks.begins i lt
 
   -- where contexts begin rises
-  pub bases_rise : IsNonDecreasing t.bases.items
+  pub bases_rise : IsNonDecreasing b.bases.items
   bases_rise i j d le lt =
       let e : j ≡ i + (j - i) = omega (arith, le) in
       let rises : base g Contexts i ≤ base g Contexts j = rw e (base_rises g Contexts i (j - i)) in
-      omega (arith, rises, base_is i d (omega (arith, le, lt, table.bases)), base_is j d (omega (arith, lt, table.bases)))
+      omega (arith, rises, base_is i d (omega (arith, le, lt, blocks.bases)), base_is j d (omega (arith, lt, blocks.bases)))
 
   -- where the context begins at or before the place, and the next one, if there is one, behind it
-  pub owns : (k i b : ℕ) → k < length t.heights.items → slice_get t.bases.items i ≡ Some b → b ≤ k
-      → ((next : ℕ) → slice_get t.bases.items (i + 1) ≡ Some next → k < next) → IsOwner g Contexts i k
-  owns k i b within at le ahead =
-      let lt : i < length Contexts = omega (arith, slice_get_within t.bases.items i b at, table.bases) in (
+  pub owns : (k i start : ℕ) → k < cells_of g Contexts → slice_get b.bases.items i ≡ Some start → start ≤ k
+      → ((next : ℕ) → slice_get b.bases.items (i + 1) ≡ Some next → k < next) → IsOwner g Contexts i k
+  owns k i start within at le ahead =
+      let lt : i < length Contexts = omega (arith, slice_get_within b.bases.items i start at, blocks.bases) in (
         lt,
-        omega (arith, le, base_is i b lt, get_or_from_slice_get t.bases.items i b b at),
+        omega (arith, le, base_is i start lt, get_or_from_slice_get b.bases.items i start start at),
         elim (cases_lt (i + 1) (length Contexts)) [
           | inl more ↦
-              let next = slice_get-get_or t.bases.items (i + 1) 0 (omega (arith, more, table.bases)) in
-              omega (arith, ahead (get_or t.bases.items (i + 1) 0) next, base_is (i + 1) 0 more)
+              let next = slice_get-get_or b.bases.items (i + 1) 0 (omega (arith, more, blocks.bases)) in
+              omega (arith, ahead (get_or b.bases.items (i + 1) 0) next, base_is (i + 1) 0 more)
           | inr last ↦
               let e : i + 1 ≡ length Contexts = omega (arith, lt, last) in
               rw e (omega (arith, within, all_base))
         ],
       )
 
-  module _ (k n : ℕ) (within : k < length t.heights.items) (bases : List ℕ) (are : bases ≡ t.bases.items) (bound : n ≤ length bases)
-      (point : IsPartitionPoint (λ b. nat_le b k ≡ true) (λ b. nat_le b k ≡ false) bases n) where
+  module _ (k n : ℕ) (within : k < cells_of g Contexts) (bases : List ℕ) (are : bases ≡ b.bases.items) (bound : n ≤ length bases)
+      (point : IsPartitionPoint (λ start. nat_le start k ≡ true) (λ start. nat_le start k ≡ false) bases n) where
     many : length bases ≡ length Contexts
-    many = ap (λ (bs : List ℕ). length bs) are ∙ table.bases
+    many = ap (λ (bs : List ℕ). length bs) are ∙ blocks.bases
 
     begins : (i : ℕ) → i < length Contexts → get_or bases i 0 ≡ base g Contexts i
     begins i lt = ap (λ (bs : List ℕ). get_or bs i 0) are ∙ base_is i 0 lt
@@ -94,7 +95,7 @@ module _ (g : Game) (t : Table) (table : IsTable g t) where
     pub some_begun : 0 < n
     some_begun = elim (cases_lt 0 n) [
       | inl lt ↦ lt
-      | inr none ↦ absurd (nothing_below (ahead 0 none (slice_get_within Contexts 0 _ table.first)))
+      | inr none ↦ absurd (nothing_below (ahead 0 none (slice_get_within Contexts 0 _ blocks.first)))
     ]
 
     -- and the last one has it
@@ -114,39 +115,39 @@ module _ (g : Game) (t : Table) (table : IsTable g t) where
               rw e (omega (arith, within, all_base))
         ]
 
-module _ (g : Game) (functions : ℕ) (routed : AreRouted g functions) (w : Work) (table : IsTable g w.table) (k i : ℕ) (at : Tabled)
-    (owner : IsOwner g w.table.contexts.items i k) (number : at.number ≡ i)
-    (there : IsTabled w.table at) where
-  own : IsOwner g w.table.contexts.items at.number k
-  own = subst (λ (y : ℕ). IsOwner g w.table.contexts.items y k) (sym number) owner
+module _ (g : Game) (functions : ℕ) (routed : AreRouted g functions) (w : Work) (known : IsKnown g (known_of w)) (k i : ℕ) (at : Tabled)
+    (owner : IsOwner g w.blocks.contexts.items i k) (number : at.number ≡ i)
+    (there : IsTabled w.blocks at) where
+  own : IsOwner g w.blocks.contexts.items at.number k
+  own = subst (λ (y : ℕ). IsOwner g w.blocks.contexts.items y k) (sym number) owner
 
   pub function_there : IsThere g functions at.context.function
-  function_there = there_at g functions routed w.table table at.number at.context there
+  function_there = there_at g functions routed w.blocks known.blocks at.number at.context there
 
-  start_is : (b : ℕ) → b ≡ get_or w.table.bases.items at.number b → b ≡ base g w.table.contexts.items at.number
-  start_is b is = base_at g functions routed w.table table at.number at.context there b is
+  start_is : (b : ℕ) → b ≡ get_or w.blocks.bases.items at.number b → b ≡ base g w.blocks.contexts.items at.number
+  start_is b is = base_at g functions routed w.blocks known.blocks at.number at.context there b is
 
-  pub begins_below : (b : ℕ) → b ≡ get_or w.table.bases.items at.number b → b ≤ k
+  pub begins_below : (b : ℕ) → b ≡ get_or w.blocks.bases.items at.number b → b ≤ k
   begins_below b is = let e = start_is b is in omega (arith, e, own.1)
 
   -- a place among those of the context
-  row : (b s : ℕ) → b ≡ get_or w.table.bases.items at.number b → s ≡ positions g at.context.function → k - b < g.states.count * s
+  row : (b s : ℕ) → b ≡ get_or w.blocks.bases.items at.number b → s ≡ positions g at.context.function → k - b < g.states.count * s
   row b s base_is run =
       let start = start_is b base_is in
-      let more = base_more g w.table.contexts.items at.number at.context there in
+      let more = base_more g w.blocks.contexts.items at.number at.context there in
       let swapped : positions g at.context.function * g.states.count ≡ g.states.count * positions g at.context.function = omega arith in
       subst (λ (y : ℕ). k - b < g.states.count * y) (sym run) (omega (arith, start, more, swapped, own.1, own.2))
 
   pub some_run : (s : ℕ) → s ≡ positions g at.context.function → 0 < s
   some_run s run = omega (arith, run, function_there.begins)
 
-  pub state_below : (b s : ℕ) → b ≡ get_or w.table.bases.items at.number b → s ≡ positions g at.context.function → (k - b) / s < g.states.count
+  pub state_below : (b s : ℕ) → b ≡ get_or w.blocks.bases.items at.number b → s ≡ positions g at.context.function → (k - b) / s < g.states.count
   state_below b s base_is run = div_below (k - b) s g.states.count (some_run s run) (row b s base_is run)
 
   pub few_run : (s : ℕ) → s ≡ positions g at.context.function → s ≤ 1048576
   few_run s run = omega (arith, run, function_there.begins, function_there.ends, routed.short)
 
-  module _ (b s e q : ℕ) (base_is : b ≡ get_or w.table.bases.items at.number b) (run : s ≡ positions g at.context.function) (entry : e ≡ g.entry at.context.function)
+  module _ (b s e q : ℕ) (base_is : b ≡ get_or w.blocks.bases.items at.number b) (run : s ≡ positions g at.context.function) (entry : e ≡ g.entry at.context.function)
       (quotient : q ≡ (k - b) / s) where
     times : q * s ≡ (k - b) / s * s
     times = ap (λ (y : ℕ). y * s) quotient

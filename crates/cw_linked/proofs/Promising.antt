@@ -41,20 +41,20 @@ one_more_out old holds x is here y =
           ]
     ]
 
-module _ (w : Work) (link x to : ℕ) (c : Context) (value : to ≡ slice_index w.store.to link) (some : to ≡ 0 → ⊥) (low : to ≤ length w.table.contexts.items)
-    (at : c ≡ get_or w.table.contexts.items (to - 1) c) where
+module _ (w : Work) (link x to : ℕ) (c : Context) (value : to ≡ slice_index w.store.to link) (some : to ≡ 0 → ⊥) (low : to ≤ length w.blocks.contexts.items)
+    (at : c ≡ get_or w.blocks.contexts.items (to - 1) c) where
   pub is_promised : has c.promise x ≡ true → IsPromised w link x
   is_promised member = (
     c,
     omega (arith, some, value),
-    ap (λ (k : ℕ). slice_get w.table.contexts.items (k - 1)) (sym value) ∙ slice_get-get_or w.table.contexts.items (to - 1) c (omega (arith, some, low)) ∙ ap (λ (y : Context). Some y) (sym at),
+    ap (λ (k : ℕ). slice_get w.blocks.contexts.items (k - 1)) (sym value) ∙ slice_get-get_or w.blocks.contexts.items (to - 1) c (omega (arith, some, low)) ∙ ap (λ (y : Context). Some y) (sym at),
     member,
   )
 
   pub was_promised : IsPromised w link x → has c.promise x ≡ true
   was_promised p =
-      let there : slice_get w.table.contexts.items (to - 1) ≡ Some p.0 = ap (λ (k : ℕ). slice_get w.table.contexts.items (k - 1)) value ∙ p.2 in
-      let same : c ≡ p.0 = at ∙ get_or_from_slice_get w.table.contexts.items (to - 1) p.0 c there in
+      let there : slice_get w.blocks.contexts.items (to - 1) ≡ Some p.0 = ap (λ (k : ℕ). slice_get w.blocks.contexts.items (k - 1)) value ∙ p.2 in
+      let same : c ≡ p.0 = at ∙ get_or_from_slice_get w.blocks.contexts.items (to - 1) p.0 c there in
       ap (λ (y : Context). has y.promise x) same ∙ p.3
 
 -- a call returns to a position

@@ -1,4 +1,4 @@
--- A context is added to the vectors: what stands there then.
+-- A context is added, with its places: what stands in the store then.
 use Rattle.std.proofs.Common.{◌≡◌, ℕ, ◌+◌, ◌-◌, ◌*◌, ◌<◌, ◌≤◌, List, [], ◌∷◌, ◌++◌, cond, true, length, get_or, take, replicate, refl, sym, ap, ◌∙◌, subst, arith, inl, inr}
 use Rattle.std.specs.Prelude.{slice_get, slice_index, count_by}
 use Rattle.std.proofs.lemmas.Bool.{cases_lt}
@@ -12,19 +12,19 @@ use Rattle.cw_links.specs.Marks.{is_marked}
 use Rattle.cw_solve.specs.declared.contexts.Context.{Context}
 use Rattle.cw_solve.specs.Contexts.{size, cells_of, AreNeeded}
 use Rattle.cw_solve.specs.Rounds.{base, positions, IsCell}
-use Rattle.cw_solve.specs.Tables.{is_none, IsTable, AreTabled}
+use Rattle.cw_solve.specs.Tables.{is_none, AreTabled}
 use Rattle.cw_solve.proofs.Fresh.{none_written, values_more}
 use Rattle.cw_solve.proofs.Slots.{within, slot_within}
 use Rattle.cw_linked.specs.declared.work.Work.{Work}
-use Rattle.cw_linked.specs.Added.{AreBlocks, Pushes}
+use Rattle.cw_linked.specs.Added.{IsLaid, Pushes}
 use Rattle.cw_linked.specs.Calls.{AreCallers}
 use Rattle.cw_linked.specs.Founds.{IsLink}
 use Rattle.cw_linked.specs.Queues.{AreLong, AreHigh, IsLinkAt, AreMarked, AreDue}
-use Rattle.cw_linked.specs.Works.{AreUpTo, place_at, value_at}
+use Rattle.cw_linked.specs.Works.{known_of, IsKnown, AreUpTo, place_at, value_at}
 use Rattle.cw_linked.proofs.Adding.{before_push, push_cases}
 use Rattle.cw_linked.proofs.Bounding.{place_is}
 
--- no number of a longer vector is above
+-- no number of a longer list is above
 pub up_to_append : (values : List ℕ) (n v most : ℕ) → v ≤ most → AreUpTo values most → AreUpTo (values ++ replicate n v) most
 up_to_append values n v most le up k =
     elim (cases_lt k (length values)) [
@@ -83,9 +83,9 @@ module _ (g : Game) (contexts : List Context) (new : Context) where
       ∙ ap (λ (k : ℕ). get_or (replicate (size g new.function) v) k 0) rest
       ∙ get_or-replicate (size g new.function) (q * positions g new.function + (p - g.entry new.function)) v 0 row
 
-module _ (g : Game) (old new : Work) (c : Context) (blocks : AreBlocks g old.table) (pushes : Pushes g old new c (size g c.function)) where
+module _ (g : Game) (old new : Work) (c : Context) (laid : IsLaid g (known_of old)) (pushes : Pushes g old new c (size g c.function)) where
   abbrev Contexts : List Context
-  Contexts = old.table.contexts.items
+  Contexts = old.blocks.contexts.items
 
   abbrev More : List Context
   More = Contexts ++ c ∷ []
@@ -93,36 +93,38 @@ module _ (g : Game) (old new : Work) (c : Context) (blocks : AreBlocks g old.tab
   abbrev many : ℕ
   many = size g c.function
 
-  cells : length new.table.heights.items ≡ length old.table.heights.items + many
-  cells = ap (λ (ys : List ℕ). length ys) pushes.heights ∙ length-append old.table.heights.items (replicate many 0)
-      ∙ ap (λ (n : ℕ). length old.table.heights.items + n) (length-replicate {A = ℕ} many 0)
+  cells : length new.store.heights ≡ length old.store.heights + many
+  cells = ap (λ (ys : List ℕ). length ys) pushes.places.heights ∙ length-append old.store.heights (replicate many 0)
+      ∙ ap (λ (n : ℕ). length old.store.heights + n) (length-replicate {A = ℕ} many 0)
 
-  counted : new.table.written + count_by is_none new.table.heights.items ≡ length new.table.heights.items
+  counted : new.written + count_by is_none new.store.heights ≡ length new.store.heights
   counted =
       let w = pushes.written in
-      let hs = ap (λ (ys : List ℕ). count_by is_none ys) pushes.heights in
-      let both = sum_by-append (λ (x : ℕ). cond (is_none x) 1 0) old.table.heights.items (replicate many 0) in
+      let hs = ap (λ (ys : List ℕ). count_by is_none ys) pushes.places.heights in
+      let both = sum_by-append (λ (x : ℕ). cond (is_none x) 1 0) old.store.heights (replicate many 0) in
       let all = none_written many in
-      omega (arith, w, hs, both, all, cells, blocks.counted)
+      omega (arith, w, hs, both, all, cells, laid.counted)
 
-  longer : length new.table.contexts.items ≡ length Contexts + 1
+  longer : length new.blocks.contexts.items ≡ length Contexts + 1
   longer = ap (λ (cs : List Context). length cs) pushes.contexts ∙ length_push Contexts c
 
-  pub pushed_table : AreTabled g More → IsTable g new.table
-  pushed_table tabled = record {
-    first = ap (λ (cs : List Context). slice_get cs 0) pushes.contexts ∙ tabled.first;
-    needed = subst (λ (cs : List Context). AreNeeded g cs) (sym pushes.contexts) tabled.needed;
-    begins = λ i lt. ap (λ (bs : List ℕ). slice_index bs i) pushes.bases
-        ∙ values_more (λ n. cells_of g (take n More)) old.table.bases.items (length Contexts) (length old.table.heights.items) blocks.bases
-        (λ k less. blocks.begins k less ∙ sym (base_before g Contexts c k (omega (arith, less)))) (blocks.cells ∙ sym (base_end g Contexts c)) i (omega (arith, lt, longer))
-        ∙ ap (λ (cs : List Context). cells_of g (take i cs)) (sym pushes.contexts);
-    bases = ap (λ (bs : List ℕ). length bs) pushes.bases ∙ length_push old.table.bases.items (length old.table.heights.items) ∙ ap (λ (n : ℕ). n + 1) blocks.bases ∙ sym longer;
-    cells = cells ∙ ap (λ (n : ℕ). n + many) blocks.cells ∙ sym (cells_longer g Contexts c) ∙ ap (λ (cs : List Context). cells_of g cs) (sym pushes.contexts);
-    few = subst (λ (cs : List Context). cells_of g cs ≤ 4194304) (sym pushes.contexts) tabled.few;
+  pub pushed_known : AreTabled g More → IsKnown g (known_of new)
+  pushed_known tabled = record {
+    blocks = record {
+      first = ap (λ (cs : List Context). slice_get cs 0) pushes.contexts ∙ tabled.first;
+      needed = subst (λ (cs : List Context). AreNeeded g cs) (sym pushes.contexts) tabled.needed;
+      begins = λ i lt. ap (λ (bs : List ℕ). slice_index bs i) pushes.bases
+          ∙ values_more (λ n. cells_of g (take n More)) old.blocks.bases.items (length Contexts) (length old.store.heights) laid.bases
+          (λ k less. laid.begins k less ∙ sym (base_before g Contexts c k (omega (arith, less)))) (laid.cells ∙ sym (base_end g Contexts c)) i (omega (arith, lt, longer))
+          ∙ ap (λ (cs : List Context). cells_of g (take i cs)) (sym pushes.contexts);
+      bases = ap (λ (bs : List ℕ). length bs) pushes.bases ∙ length_push old.blocks.bases.items (length old.store.heights) ∙ ap (λ (n : ℕ). n + 1) laid.bases ∙ sym longer;
+      few = subst (λ (cs : List Context). cells_of g cs ≤ 4194304) (sym pushes.contexts) tabled.few;
+    };
+    cells = cells ∙ ap (λ (n : ℕ). n + many) laid.cells ∙ sym (cells_longer g Contexts c) ∙ ap (λ (cs : List Context). cells_of g cs) (sym pushes.contexts);
     counted = counted;
   }
 
-  longer_by : (xs ys : List ℕ) (v : ℕ) → length xs ≡ length old.table.heights.items → ys ≡ xs ++ replicate many v → length ys ≡ length new.table.heights.items
+  longer_by : (xs ys : List ℕ) (v : ℕ) → length xs ≡ length old.store.heights → ys ≡ xs ++ replicate many v → length ys ≡ length new.store.heights
   longer_by xs ys v long is =
       ap (λ (zs : List ℕ). length zs) is ∙ length-append xs (replicate many v) ∙ ap (λ (n : ℕ). length xs + n) (length-replicate {A = ℕ} many v)
       ∙ ap (λ (n : ℕ). n + many) long ∙ sym cells
@@ -138,14 +140,14 @@ module _ (g : Game) (old new : Work) (c : Context) (blocks : AreBlocks g old.tab
 
   pub pushed_high : AreHigh old → AreHigh new
   pushed_high high = record {
-    heights = subst (λ (n : ℕ). AreUpTo new.table.heights.items n) (sym pushes.written) (subst (λ (ys : List ℕ). AreUpTo ys old.table.written) (sym pushes.heights)
-        (up_to_append old.table.heights.items many 0 old.table.written (omega arith) high.heights));
-    asked = subst (λ (n : ℕ). AreUpTo new.store.asked (2 * n + 2)) (sym pushes.written) (subst (λ (ys : List ℕ). AreUpTo ys (2 * old.table.written + 2)) (sym pushes.places.asked)
-        (up_to_append old.store.asked many 0 (2 * old.table.written + 2) (omega arith) high.asked));
-    due = subst (λ (n : ℕ). AreUpTo new.store.due (2 * n + 1)) (sym pushes.written) (subst (λ (ys : List ℕ). AreUpTo ys (2 * old.table.written + 1)) (sym pushes.places.due)
-        (up_to_append old.store.due many 0 (2 * old.table.written + 1) (omega arith) high.due));
-    waves = subst (λ (n : ℕ). AreUpTo new.store.waves n) (sym pushes.written) (subst (λ (ys : List ℕ). AreUpTo ys old.table.written) (sym pushes.places.waves)
-        (up_to_append old.store.waves many 0 old.table.written (omega arith) high.waves));
+    heights = subst (λ (n : ℕ). AreUpTo new.store.heights n) (sym pushes.written) (subst (λ (ys : List ℕ). AreUpTo ys old.written) (sym pushes.places.heights)
+        (up_to_append old.store.heights many 0 old.written (omega arith) high.heights));
+    asked = subst (λ (n : ℕ). AreUpTo new.store.asked (2 * n + 2)) (sym pushes.written) (subst (λ (ys : List ℕ). AreUpTo ys (2 * old.written + 2)) (sym pushes.places.asked)
+        (up_to_append old.store.asked many 0 (2 * old.written + 2) (omega arith) high.asked));
+    due = subst (λ (n : ℕ). AreUpTo new.store.due (2 * n + 1)) (sym pushes.written) (subst (λ (ys : List ℕ). AreUpTo ys (2 * old.written + 1)) (sym pushes.places.due)
+        (up_to_append old.store.due many 0 (2 * old.written + 1) (omega arith) high.due));
+    waves = subst (λ (n : ℕ). AreUpTo new.store.waves n) (sym pushes.written) (subst (λ (ys : List ℕ). AreUpTo ys old.written) (sym pushes.places.waves)
+        (up_to_append old.store.waves many 0 old.written (omega arith) high.waves));
   }
 
   -- and each of its links' places is marked
@@ -158,13 +160,13 @@ module _ (g : Game) (old new : Work) (c : Context) (blocks : AreBlocks g old.tab
             let place : k ≡ place_at g Contexts l.0 l.2 l.3 = l.6 ∙ place_on g Contexts c l.0 l.1 l.2 l.3 before.cell in
             let is = place_is g Contexts l.0 l.1 l.2 l.3 h in
             let inside = slot_within g Contexts l.0 l.1 l.2 l.3 before.cell in
-            pushes.places.kept k (omega (arith, place, is, inside, blocks.cells, long.marks)) ∙ marked k (l.0, l.1, l.2, l.3, l.4, before, place)
+            pushes.places.kept k (omega (arith, place, is, inside, laid.cells, long.marks)) ∙ marked k (l.0, l.1, l.2, l.3, l.4, before, place)
         | inr h ↦
             let there : IsLink g More (length Contexts) c l.2 l.3 l.4
             = subst (λ (d : Context). IsLink g More (length Contexts) d l.2 l.3 l.4) (sym h.1) (subst (λ (i : ℕ). IsLink g More i l.1 l.2 l.3 l.4) h.0 l.5) in
             let is = place_is g More (length Contexts) c l.2 l.3 there.cell.at in
             let at : k ≡ place_at g More (length Contexts) l.2 l.3 = l.6 ∙ ap (λ (i : ℕ). place_at g More i l.2 l.3) h.0 in
-            let place : k ≡ length old.store.marks + (l.3 * positions g c.function + (l.2 - g.entry c.function)) = omega (arith, at, is, base_end g Contexts c, blocks.cells, long.marks) in
+            let place : k ≡ length old.store.marks + (l.3 * positions g c.function + (l.2 - g.entry c.function)) = omega (arith, at, is, base_end g Contexts c, laid.cells, long.marks) in
             subst (λ (y : ℕ). is_marked new.store.marks y ≡ true) (sym place)
             (pushes.marked l.2 l.3 l.4 there.cell.of there.calls there.class (within g More (length Contexts) c l.2 l.3 there.cell))
       ]
@@ -173,7 +175,7 @@ module _ (g : Game) (old new : Work) (c : Context) (blocks : AreBlocks g old.tab
   pub pushed_callers : AreLong old → AreCallers old → AreCallers new
   pushed_callers long callers = record {
     more = omega (arith, longer, pushes.lists);
-    few = λ k lt. elim (cases_lt k (length old.table.heights.items)) [
+    few = λ k lt. elim (cases_lt k (length old.store.heights)) [
       | inl before ↦
           let e : slice_index new.store.to k ≡ slice_index old.store.to k = ap (λ (ys : List ℕ). slice_index ys k) pushes.places.to
           ∙ get_or_append_left old.store.to (replicate many 0) 0 k (omega (arith, before, long.to)) in
@@ -189,7 +191,7 @@ module _ (g : Game) (old new : Work) (c : Context) (blocks : AreBlocks g old.tab
 
   pub pushed_dues : AreLong old → AreDue g old → AreDue g new
   pushed_dues long dues k lt some =
-      elim (cases_lt k (length old.table.heights.items)) [
+      elim (cases_lt k (length old.store.heights)) [
         | inl before ↦
             let e : slice_index new.store.due k ≡ slice_index old.store.due k = ap (λ (ys : List ℕ). slice_index ys k) pushes.places.due
             ∙ get_or_append_left old.store.due (replicate many 0) 0 k (omega (arith, before, long.due)) in

@@ -7,16 +7,14 @@ use Rattle.cw_core.specs.declared.ids.PosId.{PosId}
 use Rattle.cw_game.specs.declared.spots.Spot.{Spot}
 use Rattle.cw_game.specs.Games.{Game, returned}
 use Rattle.cw_game.specs.Pairs.{has, Called, call_in, kept_at}
-use Rattle.cw_links.specs.Lists.{Chained}
 use Rattle.cw_links.specs.Marks.{is_marked, rank}
 use Rattle.cw_product.specs.declared.turn.Turn.{Turn}
 use Rattle.cw_product.specs.Moves.{pos_id, turn_in}
 use Rattle.cw_solve.specs.declared.contexts.Context.{Context}
-use Rattle.cw_solve.specs.declared.table.Table.{Table}
 use Rattle.cw_product.specs.Routed.{AreRouted, IsOf}
 use Rattle.cw_solve.specs.Contexts.{context, promise_at, IsSetOf}
 use Rattle.cw_solve.specs.Rounds.{slot}
-use Rattle.cw_solve.specs.Tables.{IsTable, HasCell}
+use Rattle.cw_solve.specs.Tables.{HasCell}
 use Rattle.cw_lemmas.proofs.Truths.{not_both}
 use Rattle.cw_solve.proofs.Turning.{is_call}
 use Rattle.cw_linked.specs.declared.work.Cell.{Cell}
@@ -26,7 +24,7 @@ use Rattle.cw_linked.specs.Founds.{Found, class_of, AreAlike, IsLink, height_bac
 use Rattle.cw_linked.specs.Queues.{found_of, IsLinkAt, AreMarked, AreLong, AreHigh, AsksForLink, LowersKeys}
 use Rattle.cw_linked.specs.Returns.{IsPromised, Returns, AsksReturn}
 use Rattle.cw_linked.specs.Steps.{ReturnsThere}
-use Rattle.cw_linked.specs.Works.{heights_of, place_at, value_at}
+use Rattle.cw_linked.specs.Works.{Known, known_of, IsKnown, heights_of, place_at, value_at}
 use Rattle.cw_linked.proofs.Backs.{ReturnsLeft, stands_on, fresh_on, link_step, link_waits, returns_stand}
 use Rattle.cw_linked.proofs.Bounding.{place_is}
 use Rattle.cw_linked.proofs.Callers.{one_call_left, is_tied}
@@ -34,7 +32,7 @@ use Rattle.cw_linked.proofs.Least.{link_of}
 use Rattle.cw_linked.proofs.Taking.{one_call}
 use Rattle.cw_linked.proofs.Telling.{below, nothing, still_standing, two_steps}
 use Rattle.cw_linked.proofs.Turns.{calls_turn}
-use Rattle.cw_linked.proofs.Waits.{first_or_later}
+use Rattle.cw_linked.proofs.Walking.{now_or_later}
 use Rattle.cw_linked.proofs.Working.{found_keys}
 
 -- no call stands where the turn is none
@@ -57,12 +55,12 @@ pub own_state : (g : Game) (alike : AreAlike g) (split : Bool) (q : ℕ) → 0 <
 own_state g alike false q some lt = refl
 own_state g alike true q some lt = alike.same q 0 q lt some lt ∙ alike.own q lt
 
-module _ (g : Game) (functions : ℕ) (routed : AreRouted g functions) (alike : AreAlike g) (w mid new : Work) (table : IsTable g w.table) (step : LowersKeys g w mid) where
+module _ (g : Game) (functions : ℕ) (routed : AreRouted g functions) (alike : AreAlike g) (w mid new : Work) (known : IsKnown g (known_of w)) (step : LowersKeys g w mid) where
   abbrev Contexts : List Context
-  Contexts = w.table.contexts.items
+  Contexts = w.blocks.contexts.items
 
-  tables : w.table ≡ mid.table
-  tables = sym step.others.table
+  unchanged : known_of w ≡ known_of mid
+  unchanged = sym step.others.known
 
   -- of the calls whose link goes there
   pub asked_call_left : (edge place : ℕ) (back : List ℕ) (cell : Cell) → AreMarked g w → is_marked mid.store.marks place ≡ true → rank mid.store.marks place ≡ edge → AsksCaller g mid new place cell
@@ -73,27 +71,29 @@ module _ (g : Game) (functions : ℕ) (routed : AreRouted g functions) (alike : 
       let keys = found_keys g w mid step.others in
       let now : AllCalled g Contexts (found_of g mid) (CallsLeft g Contexts marks (found_of g mid) (edge ∷ back) cell.at.number cell.pos.0 cell.state.0)
       = subst (λ (y : Found). AllCalled g Contexts (found_of g mid) (CallsLeft g Contexts marks y (edge ∷ back) cell.at.number cell.pos.0 cell.state.0)) (sym keys) all in
-      let there : AllCalled g mid.table.contexts.items (found_of g mid) (CallsLeft g mid.table.contexts.items marks (found_of g mid) (edge ∷ back) cell.at.number cell.pos.0 cell.state.0)
-      = subst (λ (t : Table). AllCalled g t.contexts.items (found_of g mid) (CallsLeft g t.contexts.items marks (found_of g mid) (edge ∷ back) cell.at.number cell.pos.0 cell.state.0)) tables now in
-      let links : (k : ℕ) → IsLinkAt g mid.table.contexts.items k → is_marked marks k ≡ true
-      = subst (λ (t : Table). (k : ℕ) → IsLinkAt g t.contexts.items k → is_marked marks k ≡ true) tables marked in
-      let done = one_call_left g functions routed alike mid (subst (IsTable g) tables table) new marks edge place back cell links
+      let there : AllCalled g mid.blocks.contexts.items (found_of g mid) (CallsLeft g mid.blocks.contexts.items marks (found_of g mid) (edge ∷ back) cell.at.number cell.pos.0 cell.state.0)
+      = subst (λ (t : Known). AllCalled g t.blocks.contexts.items (found_of g mid) (CallsLeft g t.blocks.contexts.items marks (found_of g mid) (edge ∷ back) cell.at.number cell.pos.0 cell.state.0))
+      unchanged now in
+      let links : (k : ℕ) → IsLinkAt g mid.blocks.contexts.items k → is_marked marks k ≡ true
+      = subst (λ (t : Known). (k : ℕ) → IsLinkAt g t.blocks.contexts.items k → is_marked marks k ≡ true) unchanged marked in
+      let done = one_call_left g functions routed alike mid (subst (IsKnown g) unchanged known) new marks edge place back cell links
       (subst (λ (ms : List Bool). is_marked ms place ≡ true) step.others.marks here) (subst (λ (ms : List Bool). rank ms place ≡ edge) step.others.marks its) asks there in
       let back_here : AllCalled g Contexts (found_of g new) (CallsLeft g Contexts marks (found_of g mid) back cell.at.number cell.pos.0 cell.state.0)
-      = subst (λ (t : Table). AllCalled g t.contexts.items (found_of g new) (CallsLeft g t.contexts.items marks (found_of g mid) back cell.at.number cell.pos.0 cell.state.0)) (sym tables) done in
+      = subst (λ (t : Known). AllCalled g t.blocks.contexts.items (found_of g new) (CallsLeft g t.blocks.contexts.items marks (found_of g mid) back cell.at.number cell.pos.0 cell.state.0))
+      (sym unchanged) done in
       subst (λ (y : Found). AllCalled g Contexts (found_of g new) (CallsLeft g Contexts marks y back cell.at.number cell.pos.0 cell.state.0)) keys back_here
 
   -- of the links that return there
-  module _ (returns : Chained PosId) (edge : ℕ) (back : List ℕ) (cell : Cell) (pos : PosId) (at : slice_get Contexts cell.at.number ≡ Some cell.at.context)
-      (here : slice_get returns.values edge ≡ Some pos) (asks : AsksReturn g mid new cell pos.0) where
+  module _ (row : List PosId) (n : ℕ) (cell : Cell) (pos : PosId) (at : slice_get Contexts cell.at.number ≡ Some cell.at.context)
+      (here : slice_get row n ≡ Some pos) (asks : AsksReturn g mid new cell pos.0) where
     both : LowersKeys g w new
     both = two_steps g w mid new step asks.step
 
     standing : (k : ℕ) (call : Called) → IsLink g Contexts cell.at.number cell.at.context pos.0 k call → call.back ≡ cell.pos.0
         → (y : ℕ) → y < g.states.count → returned g.states (kept_at call.split k) y ≡ cell.state.0 → IsStanding g Contexts (found_of g new) cell.at.number pos.0 k call y
-    standing = subst (λ (t : Table). (k : ℕ) (call : Called) → IsLink g t.contexts.items cell.at.number cell.at.context pos.0 k call → call.back ≡ cell.pos.0
-        → (y : ℕ) → y < g.states.count → returned g.states (kept_at call.split k) y ≡ cell.state.0 → IsStanding g t.contexts.items (found_of g new) cell.at.number pos.0 k call y)
-        (sym tables) asks.standing
+    standing = subst (λ (t : Known). (k : ℕ) (call : Called) → IsLink g t.blocks.contexts.items cell.at.number cell.at.context pos.0 k call → call.back ≡ cell.pos.0
+        → (y : ℕ) → y < g.states.count → returned g.states (kept_at call.split k) y ≡ cell.state.0 → IsStanding g t.blocks.contexts.items (found_of g new) cell.at.number pos.0 k call y)
+        (sym unchanged) asks.standing
 
     -- what stood but for the states that return to the cell
     stood : (p k : ℕ) (call other : Called) → IsLink g Contexts cell.at.number cell.at.context p k call → call_in (slice_get g.spots p) ≡ Some other → pos.0 ≡ p → other.back ≡ cell.pos.0
@@ -102,33 +102,33 @@ module _ (g : Game) (functions : ℕ) (routed : AreRouted g functions) (alike : 
     stood p k call other link es same back others y lt =
         let one : other ≡ call = one_call (slice_get g.spots p) other call es link.calls in
         elim (cases_eq (returned g.states (kept_at call.split k) y) cell.state.0) [
-          | inr apart ↦ stands_on g functions routed alike w new table both cell.at.number cell.at.context p k call y link
+          | inr apart ↦ stands_on g functions routed alike w new known both cell.at.number cell.at.context p k call y link
               (subst (λ (c : Called). (returned g.states (kept_at c.split k) y ≡ cell.state.0 → ⊥) → IsStanding g Contexts (found_of g w) cell.at.number p k c y) one (others y lt) apart)
           | inl there ↦ subst (λ (z : ℕ). IsLink g Contexts cell.at.number cell.at.context z k call → IsStanding g Contexts (found_of g new) cell.at.number z k call y) same
               (λ is. standing k call is (subst (λ (c : Called). c.back ≡ cell.pos.0) one back) y lt there) link
         ]
 
-    pub asked_return_left : AllStanding g Contexts (found_of g mid) (ReturnsLeft g Contexts (found_of g w) returns (edge ∷ back) cell.at.number cell.pos.0 cell.state.0)
-        → AllStanding g Contexts (found_of g new) (ReturnsLeft g Contexts (found_of g w) returns back cell.at.number cell.pos.0 cell.state.0)
+    pub asked_return_left : AllStanding g Contexts (found_of g mid) (ReturnsLeft g Contexts (found_of g w) row n cell.at.number cell.pos.0 cell.state.0)
+        → AllStanding g Contexts (found_of g new) (ReturnsLeft g Contexts (found_of g w) row (n + 1) cell.at.number cell.pos.0 cell.state.0)
     asked_return_left all i c p k call is =
         elim (later i c p k call is) [
           | inl stands ↦ inl stands
-          | inr rest ↦ elim (first_or_later edge back rest.1.0 rest.1.1) [
-            | inr more ↦ inr (rest.0, (rest.1.0, more, rest.1.2))
+          | inr rest ↦ elim (now_or_later row n pos (pos_id p) here rest.1) [
+            | inr more ↦ inr (rest.0, more)
             | inl now ↦
-                let same : pos.0 ≡ p = ap (λ (y : PosId). y.0) (same_Some pos (pos_id p) (sym here ∙ ap (slice_get returns.values) now ∙ rest.1.2)) in
+                let same : pos.0 ≡ p = ap (λ (y : PosId). y.0) now in
                 let context : cell.at.context ≡ c = same_Some cell.at.context c (sym at ∙ ap (slice_get Contexts) (sym rest.0.2) ∙ is.cell.at) in
                 inl (
-                  fresh_on g functions routed alike w new table both i c p k call is rest.0.4,
+                  fresh_on g functions routed alike w new known both i c p k call is rest.0.4,
                   each i c p k call is rest.0 same context,
                 )
           ]
         ]
       where
-        later : AllStanding g Contexts (found_of g new) (ReturnsLeft g Contexts (found_of g w) returns (edge ∷ back) cell.at.number cell.pos.0 cell.state.0)
-        later = subst (λ (t : Table). AllStanding g t.contexts.items (found_of g new) (ReturnsLeft g Contexts (found_of g w) returns (edge ∷ back) cell.at.number cell.pos.0 cell.state.0)) (sym tables)
-            (still_standing g functions routed alike mid new (subst (IsTable g) tables table) asks.step.others asks.step.lowers _
-            (subst (λ (t : Table). AllStanding g t.contexts.items (found_of g mid) (ReturnsLeft g Contexts (found_of g w) returns (edge ∷ back) cell.at.number cell.pos.0 cell.state.0)) tables all))
+        later : AllStanding g Contexts (found_of g new) (ReturnsLeft g Contexts (found_of g w) row n cell.at.number cell.pos.0 cell.state.0)
+        later = subst (λ (t : Known). AllStanding g t.blocks.contexts.items (found_of g new) (ReturnsLeft g Contexts (found_of g w) row n cell.at.number cell.pos.0 cell.state.0)) (sym unchanged)
+            (still_standing g functions routed alike mid new (subst (IsKnown g) unchanged known) asks.step.others asks.step.lowers _
+            (subst (λ (t : Known). AllStanding g t.blocks.contexts.items (found_of g mid) (ReturnsLeft g Contexts (found_of g w) row n cell.at.number cell.pos.0 cell.state.0)) unchanged all))
 
         each : (i : ℕ) (c : Context) (p k : ℕ) (call : Called) → IsLink g Contexts i c p k call → ReturnsThere g Contexts (found_of g w) cell.at.number cell.pos.0 cell.state.0 i p k
             → pos.0 ≡ p → cell.at.context ≡ c
@@ -154,16 +154,16 @@ tied_some zero e = absurd (false≢true (sym (ap not (eq-eqb 0 0 refl)) ∙ e))
 tied_some (suc v) e = omega arith
 
 -- The link of a call that returns to a cell, and from whose state it returns there.
-module _ (g : Game) (functions : ℕ) (routed : AreRouted g functions) (alike : AreAlike g) (w : Work) (table : IsTable g w.table) (long : AreLong w) (high : AreHigh w)
-    (right : AreRight g w.table.contexts.items (found_of g w)) (cell : Cell) (is : HasCell g w.table cell.at cell.pos.0 cell.state.0) (height : ℕ) (some : 0 < height)
-    (taken : heights_of g w.table cell.at.number cell.pos.0 cell.state.0 ≡ height) (p : ℕ) (of : IsOf g cell.at.context.function p) (returns : Returns g p cell.pos.0)
+module _ (g : Game) (functions : ℕ) (routed : AreRouted g functions) (alike : AreAlike g) (w : Work) (known : IsKnown g (known_of w)) (long : AreLong w) (high : AreHigh w)
+    (right : AreRight g w.blocks.contexts.items (found_of g w)) (cell : Cell) (is : HasCell g w.blocks cell.at cell.pos.0 cell.state.0) (height : ℕ) (some : 0 < height)
+    (taken : heights_of g (known_of w) cell.at.number cell.pos.0 cell.state.0 ≡ height) (p : ℕ) (of : IsOf g cell.at.context.function p) (returns : Returns g p cell.pos.0)
     (call : Called) (es : call_in (slice_get g.spots p) ≡ Some call) (k : ℕ) (class : class_of g call.split cell.state.0 ≡ k)
-    (place : ℕ) (at : place ≡ slot g w.table.contexts.items cell.at.number cell.at.context.function p k) where
+    (place : ℕ) (at : place ≡ slot g w.blocks.contexts.items cell.at.number cell.at.context.function p k) where
   abbrev Cells : List Context
-  Cells = w.table.contexts.items
+  Cells = w.blocks.contexts.items
 
   functions_below : (i : ℕ) (c : Context) → slice_get Cells i ≡ Some c → c.function < functions
-  functions_below = below g functions routed alike w w table
+  functions_below = below g functions routed alike w w known
 
   link : IsLink g Cells cell.at.number cell.at.context p k call
   link = subst (λ (y : ℕ). IsLink g Cells cell.at.number cell.at.context p y call) class
@@ -179,8 +179,8 @@ module _ (g : Game) (functions : ℕ) (routed : AreRouted g functions) (alike : 
   own = subst (λ (y : ℕ). returned g.states (kept_at call.split y) cell.state.0 ≡ cell.state.0) class (own_state g alike call.split cell.state.0 routed.some is.state)
 
   back_height : height_back g (found_of g w) cell.at.number call k cell.state.0 ≡ height
-  back_height = ap (λ (y : ℕ). heights_of g w.table cell.at.number y (returned g.states (kept_at call.split k) cell.state.0)) behind
-      ∙ ap (λ (y : ℕ). heights_of g w.table cell.at.number cell.pos.0 y) own ∙ taken
+  back_height = ap (λ (y : ℕ). heights_of g (known_of w) cell.at.number y (returned g.states (kept_at call.split k) cell.state.0)) behind
+      ∙ ap (λ (y : ℕ). heights_of g (known_of w) cell.at.number cell.pos.0 y) own ∙ taken
 
   pub own_link : IsLinkAt g Cells place
   own_link = (cell.at.number, cell.at.context, p, k, call, link, spot)
@@ -202,21 +202,21 @@ module _ (g : Game) (functions : ℕ) (routed : AreRouted g functions) (alike : 
         let same : promised.0 ≡ context call.function linked.0 = same_Some _ _ (sym goes ∙ linked.1) in
         (linked.0, cell.state.0, linked.1, is.state, sym (ap (λ (y : Context). has y.promise cell.state.0) same) ∙ promised.3, back_height)
 
-    low : height ≤ w.table.written
+    low : height ≤ w.written
     low = let h = high.heights (place_at g Cells cell.at.number cell.pos.0 cell.state.0) in omega (arith, h, taken)
 
     step : LowersKeys g w new
-    step = link_step g functions routed alike w new table long high right cell.at.number cell.at.context p k call link height place some low at shrinks promised.1 asks
+    step = link_step g functions routed alike w new known long high right cell.at.number cell.at.context p k call link height place some low at shrinks promised.1 asks
 
     pub own_asked : AsksReturn g w new cell p
-    own_asked = returns_stand g functions routed alike w new table step cell is height
-        (ap (λ (t : Table). heights_of g t cell.at.number cell.pos.0 cell.state.0) step.others.table ∙ taken) p call es
+    own_asked = returns_stand g functions routed alike w new known step cell is height
+        (ap (λ (t : Known). heights_of g t cell.at.number cell.pos.0 cell.state.0) step.others.known ∙ taken) p call es
         (λ set_of tied goes_to member. subst (λ (y : ℕ). Waits ((found_of g new).due cell.at.number p y) (2 * height + 1)) (sym class)
-        (link_waits g functions routed alike w new table long high right cell.at.number cell.at.context p k call link height place some low at shrinks promised.1 asks))
+        (link_waits g functions routed alike w new known long high right cell.at.number cell.at.context p k call link height place some low at shrinks promised.1 asks))
 
   -- or doesn't promise its state
   pub own_unpromised : (IsPromised w place cell.state.0 → ⊥) → AsksReturn g w w cell p
-  own_unpromised none = returns_stand g functions routed alike w w table (nothing g w long high right) cell is height taken p call es
+  own_unpromised none = returns_stand g functions routed alike w w known (nothing g w long high right) cell is height taken p call es
       (λ set_of tied goes member. absurd (none (
         context call.function set_of,
         (let v = tied_some (value_at g Cells w.store.to cell.at.number p (class_of g call.split cell.state.0)) tied in omega (arith, v, ap (slice_index w.store.to) there)),

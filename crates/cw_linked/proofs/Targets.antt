@@ -26,7 +26,7 @@ use Rattle.cw_linked.specs.Popped.{Finishes}
 use Rattle.cw_linked.specs.Queues.{found_of, IsCellAt}
 use Rattle.cw_linked.specs.Steps.{IsReady}
 use Rattle.cw_linked.specs.Tied.{IsFirm, IsFreed, IsTieable}
-use Rattle.cw_linked.specs.Works.{heights_of, value_at}
+use Rattle.cw_linked.specs.Works.{known_of, heights_of, value_at}
 use Rattle.cw_linked.proofs.Lengthening.{grown_length, grown_before}
 use Rattle.cw_linked.proofs.Measuring.{tied_less, ties_on, added_left, fewer_states}
 use Rattle.cw_linked.proofs.Pushing.{base_before, cell_on, link_on, value_on}
@@ -37,7 +37,7 @@ use Rattle.cw_linked.proofs.Tying.{contained}
 -- a context may be added to what is firm
 pub firm_open : (g : Game) (w : Work) → IsFirm g w → IsOpen g w
 firm_open g w firm = record {
-  blocks = record { begins = firm.table.begins; bases = firm.table.bases; cells = firm.table.cells; counted = firm.table.counted };
+  laid = record { begins = firm.known.blocks.begins; bases = firm.known.blocks.bases; cells = firm.known.cells; counted = firm.known.counted };
   long = firm.long;
   marked = firm.marked;
   high = firm.high;
@@ -49,50 +49,50 @@ firm_open g w firm = record {
 -- the call of a link, as its turn tells it
 module _ (g : Game) (functions : ℕ) (routed : AreRouted g functions) (old : Work) (link : Cell) (place moves : ℕ) (freed : IsFreed g old link place moves) where
   pub call_here : (f : ℕ) (split : Bool) (back : PosId) → Some (turn.Call f split back) ≡ option_map (turn_in g) (slice_get g.spots link.pos.0)
-      → (call : Called) × IsLink g old.table.contexts.items link.at.number link.at.context link.pos.0 link.state.0 call × (call.split ≡ split) × (call.function ≡ f) × (call.back ≡ back.0)
+      → (call : Called) × IsLink g old.blocks.contexts.items link.at.number link.at.context link.pos.0 link.state.0 call × (call.split ≡ split) × (call.function ≡ f) × (call.back ≡ back.0)
   call_here f split back e =
       let t = turn_calls g (slice_get g.spots link.pos.0) f split back e in (
         t.0,
-        subst (λ (y : Called). IsLink g old.table.contexts.items link.at.number link.at.context link.pos.0 link.state.0 y)
+        subst (λ (y : Called). IsLink g old.blocks.contexts.items link.at.number link.at.context link.pos.0 link.state.0 y)
             (one_call (slice_get g.spots link.pos.0) freed.call.0 t.0 freed.call.1.calls t.1) freed.call.1,
         t.2,
         t.3,
         t.4,
       )
 
-  pub back_here : (call : Called) → IsLink g old.table.contexts.items link.at.number link.at.context link.pos.0 link.state.0 call → (back : ℕ) → call.back ≡ back
-      → HasCell g old.table link.at back link.state.0
+  pub back_here : (call : Called) → IsLink g old.blocks.contexts.items link.at.number link.at.context link.pos.0 link.state.0 call → (back : ℕ) → call.back ≡ back
+      → HasCell g old.blocks link.at back link.state.0
   back_here call is back e = record {
     at = freed.at.is.at;
     of = subst (λ (y : ℕ). IsOf g link.at.context.function y) e
-        (back_stays g functions routed link.at.context.function link.pos.0 call (there_at g functions routed old.table freed.firm.table link.at.number link.at.context freed.at.is.at).below
+        (back_stays g functions routed link.at.context.function link.pos.0 call (there_at g functions routed old.blocks freed.firm.known.blocks link.at.number link.at.context freed.at.is.at).below
         freed.at.is.of is.calls);
     state = freed.at.is.state;
   }
 
   pub read_here : (call : Called) (split : Bool) (back set : ℕ) → call.split ≡ split → call.back ≡ back
-      → IsSetOf g set (λ x. holds_by moves (heights_of g old.table link.at.number back (returned g.states (kept_at split link.state.0) x)))
+      → IsSetOf g set (λ x. holds_by moves (heights_of g (known_of old) link.at.number back (returned g.states (kept_at split link.state.0) x)))
       → IsSetOf g set (λ x. holds_by moves (height_back g (found_of g old) link.at.number call link.state.0 x))
   read_here call split back set same behind read =
-      subst (λ (y : ℕ). IsSetOf g set (λ x. holds_by moves (heights_of g old.table link.at.number y (returned g.states (kept_at call.split link.state.0) x)))) (sym behind)
-      (subst (λ (y : Bool). IsSetOf g set (λ x. holds_by moves (heights_of g old.table link.at.number back (returned g.states (kept_at y link.state.0) x)))) (sym same) read)
+      subst (λ (y : ℕ). IsSetOf g set (λ x. holds_by moves (heights_of g (known_of old) link.at.number y (returned g.states (kept_at call.split link.state.0) x)))) (sym behind)
+      (subst (λ (y : Bool). IsSetOf g set (λ x. holds_by moves (heights_of g (known_of old) link.at.number back (returned g.states (kept_at y link.state.0) x)))) (sym same) read)
 
 module _ (g : Game) (functions : ℕ) (routed : AreRouted g functions) (old : Work) (link : Cell) (place moves : ℕ) (freed : IsFreed g old link place moves) (call : Called)
-    (is : IsLink g old.table.contexts.items link.at.number link.at.context link.pos.0 link.state.0 call) (to : Context) (function : call.function ≡ to.function)
+    (is : IsLink g old.blocks.contexts.items link.at.number link.at.context link.pos.0 link.state.0 call) (to : Context) (function : call.function ≡ to.function)
     (read : IsSetOf g to.promise (λ y. holds_by moves (height_back g (found_of g old) link.at.number call link.state.0 y))) where
   abbrev Contexts : List Context
-  Contexts = old.table.contexts.items
+  Contexts = old.blocks.contexts.items
 
   ready : IsReady g Contexts (found_of g old) link.at.number link.at.context link.pos.0 link.state.0 call moves to.promise
   ready = freed.ready call to.promise is read
 
-  inside : place < length old.table.heights.items
-  inside = omega (arith, freed.at.place, slot_within g Contexts link.at.number link.at.context link.pos.0 link.state.0 freed.at.is, freed.firm.table.cells)
+  inside : place < length old.store.heights
+  inside = omega (arith, freed.at.place, slot_within g Contexts link.at.number link.at.context link.pos.0 link.state.0 freed.at.is, freed.firm.known.cells)
 
   pub is_needed : IsNeeded g to
   is_needed = subst (λ (f : ℕ). IsNeeded g (context f to.promise)) function
       (of_call link.at.context moves link.pos.0 link.state.0 to.promise call
-      (freed.firm.table.needed.needed link.at.context (contained Contexts link.at.number link.at.context freed.at.is.at))
+      (freed.firm.known.blocks.needed.needed link.at.context (contained Contexts link.at.number link.at.context freed.at.is.at))
       freed.at.is.of freed.at.is.state is.calls ready.promise)
 
   -- where it is added
@@ -100,14 +100,14 @@ module _ (g : Game) (functions : ℕ) (routed : AreRouted g functions) (old : Wo
     abbrev More : List Context
     More = Contexts ++ to ∷ []
 
-    height_kept : (q : ℕ) → q < g.states.count → heights_of g mid.table link.at.number link.pos.0 q ≡ heights_of g old.table link.at.number link.pos.0 q
+    height_kept : (q : ℕ) → q < g.states.count → heights_of g (known_of mid) link.at.number link.pos.0 q ≡ heights_of g (known_of old) link.at.number link.pos.0 q
     height_kept q lt =
-        ap (λ (cs : List Context). value_at g cs mid.table.heights.items link.at.number link.pos.0 q) adds.contexts
+        ap (λ (cs : List Context). value_at g cs mid.store.heights link.at.number link.pos.0 q) adds.contexts
         ∙ ap (λ (ys : List ℕ). value_at g More ys link.at.number link.pos.0 q) adds.heights
-        ∙ value_on g Contexts to old.table.heights.items (replicate (size g to.function) 0) freed.firm.table.cells link.at.number link.at.context link.pos.0 q
+        ∙ value_on g Contexts to old.store.heights (replicate (size g to.function) 0) freed.firm.known.cells link.at.number link.at.context link.pos.0 q
         (record { at = is.cell.at; of = is.cell.of; state = lt })
 
-    ready_then : IsReady g mid.table.contexts.items (found_of g mid) link.at.number link.at.context link.pos.0 link.state.0 call moves to.promise
+    ready_then : IsReady g mid.blocks.contexts.items (found_of g mid) link.at.number link.at.context link.pos.0 link.state.0 call moves to.promise
     ready_then = record {
       promise = ready.promise;
       later = λ q lt e none. ready.later q lt e (sym (height_kept q lt) ∙ none);
@@ -126,7 +126,7 @@ module _ (g : Game) (functions : ℕ) (routed : AreRouted g functions) (old : Wo
           ∙ ap (λ (cs : List Context). slot g cs link.at.number link.at.context.function link.pos.0 link.state.0) (sym adds.contexts);
     }
 
-    tieable_then : (number : ℕ) → slice_get mid.table.contexts.items number ≡ Some to → IsTieable g mid link place moves number call.back to
+    tieable_then : (number : ℕ) → slice_get mid.blocks.contexts.items number ≡ Some to → IsTieable g mid link place moves number call.back to
     tieable_then number there = record {
       firm = adds.firm;
       at = at_then;
@@ -149,10 +149,10 @@ module _ (g : Game) (functions : ℕ) (routed : AreRouted g functions) (old : Wo
     -- as much is left to do
     left_then : work_left g mid ≡ work_left g old
     left_then = added_left g old mid to (size g to.function) adds.contexts adds.heights adds.to
-        (let more = grown_length old.table.heights.items mid.table.heights.items (size g to.function) 0 adds.heights in let t = adds.firm.table in omega (arith, more, t.cells, t.few))
+        (let more = grown_length old.store.heights mid.store.heights (size g to.function) 0 adds.heights in let t = adds.firm.known in omega (arith, more, t.cells, t.blocks.few))
         freed.firm.long.to freed.firm.callers.few
 
-    ties_then : ties_left g mid.table.contexts.items (slice_index mid.store.to place) ≡ ties_left g Contexts (slice_index old.store.to place)
+    ties_then : ties_left g mid.blocks.contexts.items (slice_index mid.store.to place) ≡ ties_left g Contexts (slice_index old.store.to place)
     ties_then =
         ap (λ (cs : List Context). ties_left g cs (slice_index mid.store.to place)) adds.contexts
         ∙ ap (λ (n : ℕ). ties_left g More n) (grown_before old.store.to mid.store.to (size g to.function) adds.to place (omega (arith, inside, freed.firm.long.to)))
@@ -175,26 +175,26 @@ module _ (g : Game) (functions : ℕ) (routed : AreRouted g functions) (old : Wo
   module _ (mid : Work) (number : ℕ) (numbered : IsNumbered g old mid to number) where
     pub is_tieable : IsTieable g mid link place moves number call.back to
     is_tieable = elim numbered.grows [
-      | inl same ↦ subst (λ (w : Work). slice_get w.table.contexts.items number ≡ Some to → IsTieable g w link place moves number call.back to) (sym same) (tieable_now number) numbered.there
+      | inl same ↦ subst (λ (w : Work). slice_get w.blocks.contexts.items number ≡ Some to → IsTieable g w link place moves number call.back to) (sym same) (tieable_now number) numbered.there
       | inr adds ↦ tieable_then mid adds number numbered.there
     ]
 
     left : work_left g mid ≡ work_left g old
     left = elim numbered.grows [ inl same ↦ ap (work_left g) same | inr adds ↦ left_then mid adds ]
 
-    ties : ties_left g mid.table.contexts.items (slice_index mid.store.to place) ≡ ties_left g Contexts (slice_index old.store.to place)
-    ties = elim numbered.grows [ inl same ↦ ap (λ (w : Work). ties_left g w.table.contexts.items (slice_index w.store.to place)) same | inr adds ↦ ties_then mid adds ]
+    ties : ties_left g mid.blocks.contexts.items (slice_index mid.store.to place) ≡ ties_left g Contexts (slice_index old.store.to place)
+    ties = elim numbered.grows [ inl same ↦ ap (λ (w : Work). ties_left g w.blocks.contexts.items (slice_index w.store.to place)) same | inr adds ↦ ties_then mid adds ]
 
     -- less is left to do
     pub is_less : (0 < slice_index old.store.to place → 0 < moves) → (new : Work) → Finishes g mid new (set mid.store.to place (number + 1)) → work_left g new < work_left g old
     is_less more new finishes =
-        let promised : promised_in g (slice_get mid.table.contexts.items number) ≡ promised_in g (Some to) = ap (promised_in g) numbered.there in
+        let promised : promised_in g (slice_get mid.blocks.contexts.items number) ≡ promised_in g (Some to) = ap (promised_in g) numbered.there in
         let fewer = fewer_states g functions routed old link place moves freed more call is to.promise read in
-        let less = tied_less g mid new place number finishes.table finishes.to within_mid (omega (arith, promised, fewer, ties)) in
+        let less = tied_less g mid new place number finishes.known finishes.to within_mid (omega (arith, promised, fewer, ties)) in
         omega (arith, less, left)
       where
         within_mid : place < length mid.store.to
         within_mid =
             let t = is_tieable in
-            let lt = slot_within g mid.table.contexts.items link.at.number link.at.context link.pos.0 link.state.0 t.at.is in
-            omega (arith, t.at.place, lt, t.firm.table.cells, t.firm.long.to)
+            let lt = slot_within g mid.blocks.contexts.items link.at.number link.at.context link.pos.0 link.state.0 t.at.is in
+            omega (arith, t.at.place, lt, t.firm.known.cells, t.firm.long.to)

@@ -5,19 +5,19 @@ use Rattle.std.specs.Prelude.{slice_get, slice_index, nat_eq, nat_lt}
 use Rattle.std.proofs.lemmas.Bool.{cases_eq}
 use Rattle.cw_game.specs.Games.{Game, Holds}
 use Rattle.cw_game.specs.Pairs.{has, is_call_in}
+use Rattle.cw_links.specs.Keys.{asked_with}
 use Rattle.cw_solve.specs.declared.contexts.Context.{Context}
-use Rattle.cw_solve.specs.declared.table.Table.{Table}
 use Rattle.cw_solve.specs.Tabled.{Tabled}
 use Rattle.cw_product.specs.Routed.{AreRouted}
 use Rattle.cw_solve.specs.Rounds.{slot, IsCell}
-use Rattle.cw_solve.specs.Tables.{IsTable, HasCell}
+use Rattle.cw_solve.specs.Tables.{HasCell}
 use Rattle.cw_solve.proofs.Slots.{slot_within}
 use Rattle.cw_solve.proofs.Tabling.{there_at}
 use Rattle.cw_linked.specs.declared.work.Work.{Work}
 use Rattle.cw_linked.specs.Founds.{Found, AreAlike, AreRight, Waits, IsClosed, AllClosed, AllCalled, AllStanding}
-use Rattle.cw_linked.specs.Queues.{found_of, AreLong, AreSameBut, asked_with, AsksForCell, AreHigh, IsLinkAt, AreDue, LowersKeys, AsksTold}
+use Rattle.cw_linked.specs.Queues.{found_of, AreLong, AreSameBut, AsksForCell, AreHigh, IsLinkAt, AreDue, LowersKeys, AsksTold}
 use Rattle.cw_linked.specs.Steps.{with_keys, Lowers, IsBound}
-use Rattle.cw_linked.specs.Works.{heights_of, AreUpTo, place_at, value_at}
+use Rattle.cw_linked.specs.Works.{Known, known_of, IsKnown, heights_of, AreUpTo, place_at, value_at}
 use Rattle.cw_linked.proofs.Asking.{chosen_then, chosen_else}
 use Rattle.std.proofs.lemmas.Bool.{cases_Bool as decide}
 use Rattle.cw_linked.proofs.Bounding.{place_is}
@@ -28,9 +28,9 @@ use Rattle.cw_linked.proofs.Working.{Keys, found_keys, is_asked, cell_lowers, ce
 -- what waits as a link is one, where the links and their keys are as before
 pub same_dues : (g : Game) (old new : Work) → AreSameBut old new → new.store.due ≡ old.store.due → AreDue g old → AreDue g new
 same_dues g old new same due are k lt some =
-    let before = subst (λ (t : Table). k < length t.heights.items) same.table lt in
+    let before = subst (λ (t : Known). k < length t.heights) same.known lt in
     let h = are k before (subst (λ (ys : List ℕ). 0 < slice_index ys k) due some) in (
-      subst (λ (t : Table). IsLinkAt g t.contexts.items k) (sym same.table) h.0,
+      subst (λ (t : Known). IsLinkAt g t.blocks.contexts.items k) (sym same.known) h.0,
       λ tied. subst (λ (ys : List ℕ). 1 < slice_index ys k) (sym due) (h.1 (subst (λ (ys : List ℕ). 0 < slice_index ys k) same.to tied)),
     )
 
@@ -56,12 +56,12 @@ asked_length heights asked place key =
       | inr h ↦ ap (λ (y : List ℕ). length y) (chosen_else _ (set asked place key) asked h)
     ]
 
-module _ (g : Game) (functions : ℕ) (routed : AreRouted g functions) (alike : AreAlike g) (old new : Work) (table : IsTable g old.table) where
+module _ (g : Game) (functions : ℕ) (routed : AreRouted g functions) (alike : AreAlike g) (old new : Work) (known : IsKnown g (known_of old)) where
   abbrev Contexts : List Context
-  Contexts = old.table.contexts.items
+  Contexts = old.blocks.contexts.items
 
   pub below : (i : ℕ) (c : Context) → slice_get Contexts i ≡ Some c → c.function < functions
-  below i c at = (there_at g functions routed old.table table i c at).below
+  below i c at = (there_at g functions routed old.blocks known.blocks i c at).below
 
   -- where only keys change, and become lower, what is asked for is still asked for
   module _ (same : AreSameBut old new) (lowers : Lowers g Contexts (found_of g old) (value_at g Contexts new.store.asked) (value_at g Contexts new.store.due)) where
@@ -79,22 +79,22 @@ module _ (g : Game) (functions : ℕ) (routed : AreRouted g functions) (alike : 
 
   -- A cell that is lost within so many moves is asked for.
   module _ (long : AreLong old) (high : AreHigh old) (right : AreRight g Contexts (found_of g old)) (j : ℕ) (d : Context) (r x : ℕ) (is : IsCell g Contexts j d r x) (n place : ℕ)
-      (some : 0 < n) (low : n ≤ old.table.written + 1) (at : place ≡ slot g Contexts j d.function r x) (lost : Holds g n r x (has d.promise) ≡ false) (asks : AsksForCell old new place (2 * n)) where
+      (some : 0 < n) (low : n ≤ old.written + 1) (at : place ≡ slot g Contexts j d.function r x) (lost : Holds g n r x (has d.promise) ≡ false) (asks : AsksForCell old new place (2 * n)) where
     here : place ≡ place_at g Contexts j r x
     here = at ∙ sym (place_is g Contexts j d r x is.at)
 
-    inside : place < length old.table.heights.items
-    inside = omega (arith, at, slot_within g Contexts j d r x is, table.cells)
+    inside : place < length old.store.heights
+    inside = omega (arith, at, slot_within g Contexts j d r x is, known.cells)
 
     twice : 0 < 2 * n
     twice = omega (arith, some)
 
     is_long : AreLong new
     is_long =
-        let same = ap (λ (t : Table). length t.heights.items) asks.others.table in
+        let same = ap (λ (t : Known). length t.heights) asks.others.known in
         record {
           marks = ap (λ (ms : List Bool). length ms) asks.others.marks ∙ long.marks ∙ sym same;
-          asked = ap (λ (y : List ℕ). length y) asks.asked ∙ asked_length old.table.heights.items old.store.asked place (2 * n) ∙ long.asked ∙ sym same;
+          asked = ap (λ (y : List ℕ). length y) asks.asked ∙ asked_length old.store.heights old.store.asked place (2 * n) ∙ long.asked ∙ sym same;
           due = ap (λ (y : List ℕ). length y) asks.due ∙ long.due ∙ sym same;
           to = ap (λ (y : List ℕ). length y) asks.others.to ∙ long.to ∙ sym same;
           waves = ap (λ (y : List ℕ). length y) asks.others.waves ∙ long.waves ∙ sym same;
@@ -102,13 +102,13 @@ module _ (g : Game) (functions : ℕ) (routed : AreRouted g functions) (alike : 
 
     is_high : AreHigh new
     is_high =
-        let few : AreUpTo (asked_with old.table.heights.items old.store.asked place (2 * n)) (2 * old.table.written + 2)
-        = asked_up_to old.table.heights.items old.store.asked place (2 * n) (2 * old.table.written + 2) (omega (arith, inside, long.asked)) (omega (arith, low)) high.asked in
+        let few : AreUpTo (asked_with old.store.heights old.store.asked place (2 * n)) (2 * old.written + 2)
+        = asked_up_to old.store.heights old.store.asked place (2 * n) (2 * old.written + 2) (omega (arith, inside, long.asked)) (omega (arith, low)) high.asked in
         record {
-          heights = subst (λ (t : Table). AreUpTo t.heights.items t.written) (sym asks.others.table) high.heights;
-          asked = subst (λ (t : Table). AreUpTo new.store.asked (2 * t.written + 2)) (sym asks.others.table) (subst (λ (y : List ℕ). AreUpTo y (2 * old.table.written + 2)) (sym asks.asked) few);
-          due = subst (λ (t : Table). AreUpTo new.store.due (2 * t.written + 1)) (sym asks.others.table) (subst (λ (y : List ℕ). AreUpTo y (2 * old.table.written + 1)) (sym asks.due) high.due);
-          waves = subst (λ (t : Table). AreUpTo new.store.waves t.written) (sym asks.others.table) (subst (λ (y : List ℕ). AreUpTo y old.table.written) (sym asks.others.waves) high.waves);
+          heights = subst (λ (t : Known). AreUpTo t.heights t.written) (sym asks.others.known) high.heights;
+          asked = subst (λ (t : Known). AreUpTo new.store.asked (2 * t.written + 2)) (sym asks.others.known) (subst (λ (y : List ℕ). AreUpTo y (2 * old.written + 2)) (sym asks.asked) few);
+          due = subst (λ (t : Known). AreUpTo new.store.due (2 * t.written + 1)) (sym asks.others.known) (subst (λ (y : List ℕ). AreUpTo y (2 * old.written + 1)) (sym asks.due) high.due);
+          waves = subst (λ (t : Known). AreUpTo new.store.waves t.written) (sym asks.others.known) (subst (λ (y : List ℕ). AreUpTo y old.written) (sym asks.others.waves) high.waves);
         }
 
     pub asked_step : LowersKeys g old new
@@ -126,8 +126,8 @@ module _ (g : Game) (functions : ℕ) (routed : AreRouted g functions) (alike : 
     asked_waits = (is_asked g functions routed alike old new below long j d r x place (2 * n) is here inside twice asks).here
 
   -- so is one of which the taken heights tell it
-  pub told_asked : AreLong old → AreHigh old → AreRight g Contexts (found_of g old) → (at : Tabled) (p q : ℕ) → HasCell g old.table at p q → (within place : ℕ)
-      → IsBound g (heights_of g old.table) at.number p q at.context.promise within → is_call_in (slice_get g.spots p) ≡ false → 0 < within → within ≤ old.table.written + 1
+  pub told_asked : AreLong old → AreHigh old → AreRight g Contexts (found_of g old) → (at : Tabled) (p q : ℕ) → HasCell g old.blocks at p q → (within place : ℕ)
+      → IsBound g (heights_of g (known_of old)) at.number p q at.context.promise within → is_call_in (slice_get g.spots p) ≡ false → 0 < within → within ≤ old.written + 1
       → place ≡ slot g Contexts at.number at.context.function p q → AsksForCell old new place (2 * within) → AsksTold g old new at p q
   told_asked long high right at p q is within place bound plain some low here asks =
       let lost = bound_is_lost g functions routed alike Contexts below (found_of g old) right at.number at.context p q within is plain bound some in
@@ -140,9 +140,9 @@ module _ (g : Game) (functions : ℕ) (routed : AreRouted g functions) (alike : 
       }
 
 -- nothing changes
-pub nothing : (g : Game) (old : Work) → AreLong old → AreHigh old → AreRight g old.table.contexts.items (found_of g old) → LowersKeys g old old
+pub nothing : (g : Game) (old : Work) → AreLong old → AreHigh old → AreRight g old.blocks.contexts.items (found_of g old) → LowersKeys g old old
 nothing g old long high right = record {
-  others = record { table = refl; to = refl; waves = refl; marks = refl; lists = refl };
+  others = record { known = refl; to = refl; waves = refl; marks = refl; lists = refl };
   long = long;
   high = high;
   lowers = record { cells = λ i c p q is lt. (lt, omega arith); links = λ i c p k call is lt. (lt, omega arith) };
@@ -151,22 +151,22 @@ nothing g old long high right = record {
 }
 
 -- nothing is told of the cell
-pub told_none : (g : Game) (functions : ℕ) (routed : AreRouted g functions) (alike : AreAlike g) (old : Work) → IsTable g old.table → AreLong old → AreHigh old
-    → AreRight g old.table.contexts.items (found_of g old)
-    → (at : Tabled) (p q : ℕ) → (is_call_in (slice_get g.spots p) ≡ false → IsBound g (heights_of g old.table) at.number p q at.context.promise 0) → AsksTold g old old at p q
-told_none g functions routed alike old table long high right at p q bound = record {
+pub told_none : (g : Game) (functions : ℕ) (routed : AreRouted g functions) (alike : AreAlike g) (old : Work) → IsKnown g (known_of old) → AreLong old → AreHigh old
+    → AreRight g old.blocks.contexts.items (found_of g old)
+    → (at : Tabled) (p q : ℕ) → (is_call_in (slice_get g.spots p) ≡ false → IsBound g (heights_of g (known_of old)) at.number p q at.context.promise 0) → AsksTold g old old at p q
+told_none g functions routed alike old known long high right at p q bound = record {
   step = nothing g old long high right;
   closed = λ none plain.
-      closed_untold g functions routed alike old.table.contexts.items (below g functions routed alike old old table) (found_of g old) at.number at.context p q (bound plain) none plain;
+      closed_untold g functions routed alike old.blocks.contexts.items (below g functions routed alike old old known) (found_of g old) at.number at.context p q (bound plain) none plain;
   due = refl;
 }
 
 -- a cell that is taken needn't be asked for
-pub told_taken : (g : Game) (old : Work) → AreLong old → AreHigh old → AreRight g old.table.contexts.items (found_of g old) → (at : Tabled) (p q height : ℕ)
-    → height ≡ heights_of g old.table at.number p q → 0 < height → AsksTold g old old at p q
+pub told_taken : (g : Game) (old : Work) → AreLong old → AreHigh old → AreRight g old.blocks.contexts.items (found_of g old) → (at : Tabled) (p q height : ℕ)
+    → height ≡ heights_of g (known_of old) at.number p q → 0 < height → AsksTold g old old at p q
 told_taken g old long high right at p q height is some = record {
   step = nothing g old long high right;
-  closed = λ none plain n lost. let z : heights_of g old.table at.number p q ≡ 0 = none in absurd (omega (arith, is, some, z));
+  closed = λ none plain n lost. let z : heights_of g (known_of old) at.number p q ≡ 0 = none in absurd (omega (arith, is, some, z));
   due = refl;
 }
 
@@ -174,7 +174,7 @@ told_taken g old long high right at p q height is some = record {
 pub two_steps : (g : Game) (old mid new : Work) → LowersKeys g old mid → LowersKeys g mid new → LowersKeys g old new
 two_steps g old mid new a b = record {
   others = record {
-    table = b.others.table ∙ a.others.table;
+    known = b.others.known ∙ a.others.known;
     to = b.others.to ∙ a.others.to;
     waves = b.others.waves ∙ a.others.waves;
     marks = b.others.marks ∙ a.others.marks;
@@ -192,12 +192,13 @@ two_steps g old mid new a b = record {
         let y = later.links i c p k call is x.0 in
         (y.0, omega (arith, y.1, x.1));
   };
-  right = subst (λ (t : Table). AreRight g t.contexts.items (found_of g new)) a.others.table b.right;
+  right = subst (λ (t : Known). AreRight g t.blocks.contexts.items (found_of g new)) a.others.known b.right;
   dues = λ are. b.dues (a.dues are);
 }
   where
-    later : Lowers g old.table.contexts.items (with_keys (found_of g old) (value_at g old.table.contexts.items mid.store.asked) (value_at g old.table.contexts.items mid.store.due))
-        (value_at g old.table.contexts.items new.store.asked) (value_at g old.table.contexts.items new.store.due)
-    later = subst (λ (s : Found). Lowers g old.table.contexts.items s (value_at g old.table.contexts.items new.store.asked) (value_at g old.table.contexts.items new.store.due))
+    later : Lowers g old.blocks.contexts.items (with_keys (found_of g old) (value_at g old.blocks.contexts.items mid.store.asked) (value_at g old.blocks.contexts.items mid.store.due))
+        (value_at g old.blocks.contexts.items new.store.asked) (value_at g old.blocks.contexts.items new.store.due)
+    later = subst (λ (s : Found). Lowers g old.blocks.contexts.items s (value_at g old.blocks.contexts.items new.store.asked) (value_at g old.blocks.contexts.items new.store.due))
         (found_keys g old mid a.others)
-        (subst (λ (t : Table). Lowers g t.contexts.items (found_of g mid) (value_at g t.contexts.items new.store.asked) (value_at g t.contexts.items new.store.due)) a.others.table b.lowers)
+        (subst (λ (t : Known). Lowers g t.blocks.contexts.items (found_of g mid) (value_at g t.blocks.contexts.items new.store.asked) (value_at g t.blocks.contexts.items new.store.due))
+        a.others.known b.lowers)

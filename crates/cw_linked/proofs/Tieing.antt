@@ -1,4 +1,4 @@
--- A link is tied in the vectors, and what is left to do then is done state by state.
+-- A link is tied in the store, and what is left to do then is done state by state.
 use Rattle.std.proofs.Common.{◌≡◌, ℕ, suc, ◌+◌, ◌<◌, ◌≤◌, List, Some, length, set, sym, ap, ◌∙◌, subst, arith, inl, inr}
 use Rattle.std.specs.Prelude.{slice_get, slice_index}
 use Rattle.std.proofs.lemmas.Bool.{cases_eq, cases_lt}
@@ -7,12 +7,11 @@ use Rattle.std.proofs.lemmas.Option.{same_Some}
 use Rattle.cw_game.specs.Games.{Game, returned}
 use Rattle.cw_game.specs.Pairs.{Called, call_in, kept_at}
 use Rattle.cw_solve.specs.declared.contexts.Context.{Context}
-use Rattle.cw_solve.specs.declared.table.Table.{Table}
 use Rattle.cw_solve.specs.Tabled.{Tabled}
 use Rattle.cw_solve.specs.Contexts.{context}
 use Rattle.cw_product.specs.Routed.{AreRouted}
 use Rattle.cw_solve.specs.Rounds.{IsCell}
-use Rattle.cw_solve.specs.Tables.{IsTable, HasCell}
+use Rattle.cw_solve.specs.Tables.{HasCell}
 use Rattle.cw_lemmas.proofs.Truths.{not_both}
 use Rattle.cw_linked.specs.declared.work.Cell.{Cell}
 use Rattle.cw_linked.specs.declared.work.Work.{Work}
@@ -22,7 +21,7 @@ use Rattle.cw_linked.specs.Queues.{found_of, AreLong, AreHigh, LowersKeys, IsCel
 use Rattle.cw_linked.specs.Returns.{Returns, AsksReturn}
 use Rattle.cw_linked.specs.Steps.{IsSame, CallsBy, IsIt}
 use Rattle.cw_linked.specs.Tied.{CallsFrom}
-use Rattle.cw_linked.specs.Works.{heights_of, place_at, value_at}
+use Rattle.cw_linked.specs.Works.{Known, known_of, IsKnown, heights_of, place_at, value_at}
 use Rattle.cw_linked.proofs.Backs.{stands_on}
 use Rattle.cw_linked.proofs.Bounding.{place_is}
 use Rattle.cw_linked.proofs.Callers.{is_tied}
@@ -33,13 +32,13 @@ use Rattle.cw_linked.proofs.Taking.{one_call}
 use Rattle.cw_linked.proofs.Telling.{below, still_standing, still_called, nothing}
 use Rattle.cw_linked.proofs.Working.{found_keys}
 
-pub tied_callers : (old new : Work) (place number : ℕ) → AreCallers old → place < length old.table.heights.items → number < length old.table.contexts.items
-    → length old.store.to ≡ length old.table.heights.items
-    → new.table ≡ old.table → length new.store.lists ≡ length old.store.lists → new.store.to ≡ set old.store.to place (number + 1) → AreCallers new
-tied_callers old new place number c inside few long table lists to = record {
-  more = (let e = ap (λ (t : Table). length t.contexts.items) table in omega (arith, e, lists, c.more));
-  few = λ k lt. subst (λ (ys : List ℕ). slice_index ys k ≤ length new.table.contexts.items) (sym to)
-      (subst (λ (t : Table). slice_index (set old.store.to place (number + 1)) k ≤ length t.contexts.items) (sym table)
+pub tied_callers : (old new : Work) (place number : ℕ) → AreCallers old → place < length old.store.heights → number < length old.blocks.contexts.items
+    → length old.store.to ≡ length old.store.heights
+    → known_of new ≡ known_of old → length new.store.lists ≡ length old.store.lists → new.store.to ≡ set old.store.to place (number + 1) → AreCallers new
+tied_callers old new place number c inside few long known lists to = record {
+  more = (let e = ap (λ (t : Known). length t.blocks.contexts.items) known in omega (arith, e, lists, c.more));
+  few = λ k lt. subst (λ (ys : List ℕ). slice_index ys k ≤ length new.blocks.contexts.items) (sym to)
+      (subst (λ (t : Known). slice_index (set old.store.to place (number + 1)) k ≤ length t.blocks.contexts.items) (sym known)
       (elim (cases_eq k place) [
         | inl e ↦ let v : slice_index (set old.store.to place (number + 1)) k ≡ number + 1 = ap (slice_index (set old.store.to place (number + 1))) e
             ∙ get_or-set_same old.store.to place (number + 1) 0 (omega (arith, inside, long)) in omega (arith, v, few)
@@ -47,29 +46,29 @@ tied_callers old new place number c inside few long table lists to = record {
       ]));
 }
   where
-    old_length : (k : ℕ) → k < length new.table.heights.items → k < length old.table.heights.items
-    old_length k lt = subst (λ (t : Table). k < length t.heights.items) table lt
+    old_length : (k : ℕ) → k < length new.store.heights → k < length old.store.heights
+    old_length k lt = subst (λ (t : Known). k < length t.heights) known lt
 
 module _ (g : Game) (functions : ℕ) (routed : AreRouted g functions) (alike : AreAlike g) where
   -- A callee that isn't lost from a state has no call to ask for.
-  pub unlost_call : (w : Work) → IsTable g w.table → AreLong w → AreHigh w → AreRight g w.table.contexts.items (found_of g w) → (place : ℕ) (cell : Cell)
-      → heights_of g w.table cell.at.number cell.pos.0 cell.state.0 ≡ 0 → AsksCaller g w w place cell
-  unlost_call w table long high right place cell none = record {
+  pub unlost_call : (w : Work) → IsKnown g (known_of w) → AreLong w → AreHigh w → AreRight g w.blocks.contexts.items (found_of g w) → (place : ℕ) (cell : Cell)
+      → heights_of g (known_of w) cell.at.number cell.pos.0 cell.state.0 ≡ 0 → AsksCaller g w w place cell
+  unlost_call w known long high right place cell none = record {
     step = nothing g w long high right;
     called = λ i c p q call is es goes at.
-        called_none g functions routed alike w.table.contexts.items (below g functions routed alike w w table) (found_of g w) i p q call es
-        (ap (λ (y : ℕ). heights_of g w.table y (g.entry call.function) q) goes.0 ∙ ap (λ (y : ℕ). heights_of g w.table cell.at.number y q) goes.1
-        ∙ ap (λ (y : ℕ). heights_of g w.table cell.at.number cell.pos.0 y) goes.2 ∙ none);
+        called_none g functions routed alike w.blocks.contexts.items (below g functions routed alike w w known) (found_of g w) i p q call es
+        (ap (λ (y : ℕ). heights_of g (known_of w) y (g.entry call.function) q) goes.0 ∙ ap (λ (y : ℕ). heights_of g (known_of w) cell.at.number y q) goes.1
+        ∙ ap (λ (y : ℕ). heights_of g (known_of w) cell.at.number cell.pos.0 y) goes.2 ∙ none);
   }
 
   -- and no link
-  pub unlost_return : (w : Work) → AreLong w → AreHigh w → AreRight g w.table.contexts.items (found_of g w) → (cell : Cell) (p : ℕ) → heights_of g w.table cell.at.number cell.pos.0 cell.state.0 ≡ 0
-      → AsksReturn g w w cell p
+  pub unlost_return : (w : Work) → AreLong w → AreHigh w → AreRight g w.blocks.contexts.items (found_of g w) → (cell : Cell) (p : ℕ)
+      → heights_of g (known_of w) cell.at.number cell.pos.0 cell.state.0 ≡ 0 → AsksReturn g w w cell p
   unlost_return w long high right cell p none = record {
     step = nothing g w long high right;
     standing = λ k call link back x lt same tied set goes member some.
-        let e : height_back g (found_of g w) cell.at.number call k x ≡ 0 = ap (λ (y : ℕ). heights_of g w.table cell.at.number y (returned g.states (kept_at call.split k) x)) back
-        ∙ ap (λ (y : ℕ). heights_of g w.table cell.at.number cell.pos.0 y) same ∙ none in
+        let e : height_back g (found_of g w) cell.at.number call k x ≡ 0 = ap (λ (y : ℕ). heights_of g (known_of w) cell.at.number y (returned g.states (kept_at call.split k) x)) back
+        ∙ ap (λ (y : ℕ). heights_of g (known_of w) cell.at.number cell.pos.0 y) same ∙ none in
         absurd (omega (arith, e, some));
   }
 
@@ -80,15 +79,15 @@ module _ (g : Game) (functions : ℕ) (routed : AreRouted g functions) (alike : 
   pub none_from : (cs : List Context) (s : Found) (j r x from : ℕ) → g.states.count ≤ from → AllCalled g cs s (CallsFrom g j r x from) → AllCalled g cs s Nothing
   none_from cs s j r x from most all i c p q is = elim (all i c p q is) [ inl called ↦ inl called | inr rest ↦ absurd (let lt = is.state in omega (arith, lt, most, rest.1)) ]
 
-  module _ (w mid new : Work) (table : IsTable g w.table) (step : LowersKeys g w mid) where
+  module _ (w mid new : Work) (known : IsKnown g (known_of w)) (step : LowersKeys g w mid) where
     abbrev Contexts : List Context
-    Contexts = w.table.contexts.items
+    Contexts = w.blocks.contexts.items
 
-    tables : w.table ≡ mid.table
-    tables = sym step.others.table
+    unchanged : known_of w ≡ known_of mid
+    unchanged = sym step.others.known
 
-    mid_table : IsTable g mid.table
-    mid_table = subst (IsTable g) tables table
+    mid_known : IsKnown g (known_of mid)
+    mid_known = subst (IsKnown g) unchanged known
 
     pub one_from : (place : ℕ) (link : Cell) → IsCellAt g w place link → (cell : Cell) → slice_get Contexts cell.at.number ≡ Some cell.at.context → cell.pos.0 ≡ g.entry cell.at.context.function
         → slice_index w.store.to place ≡ suc cell.at.number → AsksCaller g mid new place cell
@@ -104,9 +103,9 @@ module _ (g : Game) (functions : ℕ) (routed : AreRouted g functions) (alike : 
         ]
       where
         later : AllCalled g Contexts (found_of g new) (CallsFrom g link.at.number link.pos.0 link.state.0 cell.state.0)
-        later = subst (λ (t : Table). AllCalled g t.contexts.items (found_of g new) (CallsFrom g link.at.number link.pos.0 link.state.0 cell.state.0)) (sym tables)
-            (still_called g functions routed alike mid new mid_table asks.step.others asks.step.lowers _
-            (subst (λ (t : Table). AllCalled g t.contexts.items (found_of g mid) (CallsFrom g link.at.number link.pos.0 link.state.0 cell.state.0)) tables all))
+        later = subst (λ (t : Known). AllCalled g t.blocks.contexts.items (found_of g new) (CallsFrom g link.at.number link.pos.0 link.state.0 cell.state.0)) (sym unchanged)
+            (still_called g functions routed alike mid new mid_known asks.step.others asks.step.lowers _
+            (subst (λ (t : Known). AllCalled g t.blocks.contexts.items (found_of g mid) (CallsFrom g link.at.number link.pos.0 link.state.0 cell.state.0)) unchanged all))
 
         asked : (call : Called) → call_in (slice_get g.spots p) ≡ Some call → IsSame i p (class_of g call.split q) link.at.number link.pos.0 link.state.0 → q ≡ cell.state.0
             → IsCalled g (found_of g new) i p q
@@ -118,15 +117,15 @@ module _ (g : Game) (functions : ℕ) (routed : AreRouted g functions) (alike : 
             let here : place ≡ place_at g Contexts i p k = at.place ∙ sym (place_is g Contexts link.at.number link.at.context link.pos.0 link.state.0 at.is.at) ∙ sym spot in
             let value : value_at g Contexts w.store.to i p k ≡ suc cell.at.number = ap (slice_index w.store.to) (sym here) ∙ goes in
             let now : value_at g Contexts mid.store.to i p k ≡ suc cell.at.number = ap (λ (ys : List ℕ). value_at g Contexts ys i p k) step.others.to ∙ value in
-            let there : value_at g mid.table.contexts.items mid.store.to i p k ≡ suc cell.at.number =
-            subst (λ (t : Table). value_at g t.contexts.items mid.store.to i p k ≡ suc cell.at.number) tables now in
+            let there : value_at g mid.blocks.contexts.items mid.store.to i p k ≡ suc cell.at.number =
+            subst (λ (t : Known). value_at g t.blocks.contexts.items mid.store.to i p k ≡ suc cell.at.number) unchanged now in
             let to : (found_of g mid).to i p k ≡ cell.at.number = omega (arith, there) in
-            let is_mid : IsCell g mid.table.contexts.items i c p q = subst (λ (t : Table). IsCell g t.contexts.items i c p q) tables is in
-            let linked : IsLink g Contexts i c p k call = link_of g functions routed alike Contexts (below g functions routed alike w w table) i c p q call is es in
-            let l = step.right.linked i c p k call linked (is_tied (value_at g mid.table.contexts.items mid.store.to i p k) cell.at.number there) in
+            let is_mid : IsCell g mid.blocks.contexts.items i c p q = subst (λ (t : Known). IsCell g t.blocks.contexts.items i c p q) unchanged is in
+            let linked : IsLink g Contexts i c p k call = link_of g functions routed alike Contexts (below g functions routed alike w w known) i c p q call is es in
+            let l = step.right.linked i c p k call linked (is_tied (value_at g mid.blocks.contexts.items mid.store.to i p k) cell.at.number there) in
             let function : context call.function l.0 ≡ cell.at.context = same_Some _ _ (sym l.1 ∙ ap (slice_get Contexts) to ∙ callee) in
             let begins : g.entry call.function ≡ cell.pos.0 = ap (λ (y : Context). g.entry y.function) function ∙ sym entry in
-            asks.called i c p q call is_mid es (to, begins, state) (subst (λ (t : Table). place ≡ place_at g t.contexts.items i p k) tables here)
+            asks.called i c p q call is_mid es (to, begins, state) (subst (λ (t : Known). place ≡ place_at g t.blocks.contexts.items i p k) unchanged here)
 
     -- A link, state by state.
     module _ (link : Cell) (back : ℕ) (returns : Returns g link.pos.0 back) (cell : Cell) (asks : AsksReturn g mid new cell link.pos.0) (at : cell.at ≡ link.at) (pos : cell.pos.0 ≡ back) where
@@ -138,51 +137,51 @@ module _ (g : Game) (functions : ℕ) (routed : AreRouted g functions) (alike : 
           → IsStanding g Contexts (found_of g new) link.at.number link.pos.0 link.state.0 call y
       one_again before call is y lt less =
           elim (cases_lt (returned g.states (kept_at call.split link.state.0) y) cell.state.0) [
-            | inl earlier ↦ subst (λ (t : Table). IsStanding g t.contexts.items (found_of g new) link.at.number link.pos.0 link.state.0 call y) (sym tables)
-                (stands_on g functions routed alike mid new mid_table asks.step link.at.number link.at.context link.pos.0 link.state.0 call y is_mid
-                (subst (λ (t : Table). IsStanding g t.contexts.items (found_of g mid) link.at.number link.pos.0 link.state.0 call y) tables (before call is y lt earlier)))
+            | inl earlier ↦ subst (λ (t : Known). IsStanding g t.blocks.contexts.items (found_of g new) link.at.number link.pos.0 link.state.0 call y) (sym unchanged)
+                (stands_on g functions routed alike mid new mid_known asks.step link.at.number link.at.context link.pos.0 link.state.0 call y is_mid
+                (subst (λ (t : Known). IsStanding g t.blocks.contexts.items (found_of g mid) link.at.number link.pos.0 link.state.0 call y) unchanged (before call is y lt earlier)))
             | inr most ↦
                 let same : returned g.states (kept_at call.split link.state.0) y ≡ cell.state.0 = omega (arith, less, most) in
                 let one : returns.0 ≡ call = one_call (slice_get g.spots link.pos.0) returns.0 call returns.1 is.calls in
                 let behind : call.back ≡ cell.pos.0 = ap (λ (c : Called). c.back) (sym one) ∙ returns.2 ∙ sym pos in
-                subst (λ (t : Table). IsStanding g t.contexts.items (found_of g new) link.at.number link.pos.0 link.state.0 call y) (sym tables)
-                (subst (λ (a : Tabled). IsLink g mid.table.contexts.items a.number a.context link.pos.0 link.state.0 call
-                → IsStanding g mid.table.contexts.items (found_of g new) a.number link.pos.0 link.state.0 call y) at
+                subst (λ (t : Known). IsStanding g t.blocks.contexts.items (found_of g new) link.at.number link.pos.0 link.state.0 call y) (sym unchanged)
+                (subst (λ (a : Tabled). IsLink g mid.blocks.contexts.items a.number a.context link.pos.0 link.state.0 call
+                → IsStanding g mid.blocks.contexts.items (found_of g new) a.number link.pos.0 link.state.0 call y) at
                 (λ l. asks.standing link.state.0 call l behind y lt same) is_mid)
           ]
         where
-          is_mid : IsLink g mid.table.contexts.items link.at.number link.at.context link.pos.0 link.state.0 call
-          is_mid = subst (λ (t : Table). IsLink g t.contexts.items link.at.number link.at.context link.pos.0 link.state.0 call) tables is
+          is_mid : IsLink g mid.blocks.contexts.items link.at.number link.at.context link.pos.0 link.state.0 call
+          is_mid = subst (λ (t : Known). IsLink g t.blocks.contexts.items link.at.number link.at.context link.pos.0 link.state.0 call) unchanged is
 
       pub others_again : AllStanding g Contexts (found_of g mid) (IsIt link.at.number link.pos.0 link.state.0) → AllStanding g Contexts (found_of g new) (IsIt link.at.number link.pos.0 link.state.0)
-      others_again all = subst (λ (t : Table). AllStanding g t.contexts.items (found_of g new) (IsIt link.at.number link.pos.0 link.state.0)) (sym tables)
-          (still_standing g functions routed alike mid new mid_table asks.step.others asks.step.lowers _
-          (subst (λ (t : Table). AllStanding g t.contexts.items (found_of g mid) (IsIt link.at.number link.pos.0 link.state.0)) tables all))
+      others_again all = subst (λ (t : Known). AllStanding g t.blocks.contexts.items (found_of g new) (IsIt link.at.number link.pos.0 link.state.0)) (sym unchanged)
+          (still_standing g functions routed alike mid new mid_known asks.step.others asks.step.lowers _
+          (subst (λ (t : Known). AllStanding g t.blocks.contexts.items (found_of g mid) (IsIt link.at.number link.pos.0 link.state.0)) unchanged all))
 
-  pub all_again : (w new : Work) → IsTable g w.table → LowersKeys g w new → (link : Cell) → HasCell g w.table link.at link.pos.0 link.state.0
+  pub all_again : (w new : Work) → IsKnown g (known_of w) → LowersKeys g w new → (link : Cell) → HasCell g w.blocks link.at link.pos.0 link.state.0
       → IsTied (found_of g w) link.at.number link.pos.0 link.state.0
-      → (from : ℕ) → g.states.count ≤ from → AllStanding g w.table.contexts.items (found_of g new) (IsIt link.at.number link.pos.0 link.state.0)
-      → ((call : Called) → IsLink g w.table.contexts.items link.at.number link.at.context link.pos.0 link.state.0 call
+      → (from : ℕ) → g.states.count ≤ from → AllStanding g w.blocks.contexts.items (found_of g new) (IsIt link.at.number link.pos.0 link.state.0)
+      → ((call : Called) → IsLink g w.blocks.contexts.items link.at.number link.at.context link.pos.0 link.state.0 call
       → (y : ℕ) → y < g.states.count → returned g.states (kept_at call.split link.state.0) y < from
-      → IsStanding g w.table.contexts.items (found_of g new) link.at.number link.pos.0 link.state.0 call y)
-      → AllStanding g w.table.contexts.items (found_of g new) Nothing
-  all_again w new table step link cell tied from most others before i c p k call is =
+      → IsStanding g w.blocks.contexts.items (found_of g new) link.at.number link.pos.0 link.state.0 call y)
+      → AllStanding g w.blocks.contexts.items (found_of g new) Nothing
+  all_again w new known step link cell tied from most others before i c p k call is =
       elim (others i c p k call is) [
         | inl stands ↦ inl stands
         | inr same ↦
-            let mine : IsLink g w.table.contexts.items link.at.number link.at.context link.pos.0 link.state.0 call = at_link same in
+            let mine : IsLink g w.blocks.contexts.items link.at.number link.at.context link.pos.0 link.state.0 call = at_link same in
             let is_tied_now : IsTied (found_of g new) link.at.number link.pos.0 link.state.0 = subst (λ (s : Found). IsTied s link.at.number link.pos.0 link.state.0)
             (sym (found_keys g w new step.others)) tied in
-            inl (link_is g w.table.contexts.items link.at.number link.at.context link.pos.0 link.state.0 call mine i c p k call is same
-            (λ i c p k call. IsFresh (found_of g new) i p k × ((y : ℕ) → y < g.states.count → IsStanding g w.table.contexts.items (found_of g new) i p k call y)) (
+            inl (link_is g w.blocks.contexts.items link.at.number link.at.context link.pos.0 link.state.0 call mine i c p k call is same
+            (λ i c p k call. IsFresh (found_of g new) i p k × ((y : ℕ) → y < g.states.count → IsStanding g w.blocks.contexts.items (found_of g new) i p k call y)) (
               λ free. absurd (not_both ((found_of g new).tied link.at.number link.pos.0 link.state.0) is_tied_now free),
               λ y lt. before call mine y lt
-                  (let b = (back_of g functions routed alike w.table.contexts.items
-                  (below g functions routed alike w w table) link.at.number link.at.context link.pos.0 link.state.0 call y mine lt).state in omega (arith, b, most)),
+                  (let b = (back_of g functions routed alike w.blocks.contexts.items
+                  (below g functions routed alike w w known) link.at.number link.at.context link.pos.0 link.state.0 call y mine lt).state in omega (arith, b, most)),
             ))
       ]
     where
-      at_link : IsSame i p k link.at.number link.pos.0 link.state.0 → IsLink g w.table.contexts.items link.at.number link.at.context link.pos.0 link.state.0 call
+      at_link : IsSame i p k link.at.number link.pos.0 link.state.0 → IsLink g w.blocks.contexts.items link.at.number link.at.context link.pos.0 link.state.0 call
       at_link same = record {
         cell = cell;
         calls = subst (λ (y : ℕ). call_in (slice_get g.spots y) ≡ Some call) same.1 is.calls;

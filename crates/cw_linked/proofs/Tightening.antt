@@ -7,10 +7,9 @@ use Rattle.cw_game.specs.Games.{Game}
 use Rattle.cw_game.specs.Pairs.{Called}
 use Rattle.cw_links.specs.Marks.{is_marked}
 use Rattle.cw_solve.specs.declared.contexts.Context.{Context}
-use Rattle.cw_solve.specs.declared.table.Table.{Table}
 use Rattle.cw_product.specs.Routed.{AreRouted, IsOf}
 use Rattle.cw_solve.specs.Contexts.{context}
-use Rattle.cw_solve.specs.Tables.{IsTable, HasCell}
+use Rattle.cw_solve.specs.Tables.{HasCell}
 use Rattle.cw_solve.proofs.Falls.{back_stays}
 use Rattle.cw_solve.proofs.Slots.{slot_within}
 use Rattle.cw_linked.specs.declared.work.Cell.{Cell}
@@ -21,9 +20,9 @@ use Rattle.cw_linked.specs.Queues.{found_of, IsLinkAt, AreMarked, AreDue, Lowers
 use Rattle.cw_linked.specs.Returns.{Returns, AreFew}
 use Rattle.cw_linked.specs.Steps.{with_links, Ties, CallsBy, IsIt}
 use Rattle.cw_linked.specs.Tied.{IsFirm, IsTieable, TiesLink, AsksCalls, AsksAgain}
-use Rattle.cw_linked.specs.Works.{AreUpTo, place_at, value_at}
+use Rattle.cw_linked.specs.Works.{Known, known_of, IsKnown, AreUpTo, place_at, value_at}
 use Rattle.cw_linked.proofs.Bounding.{place_is}
-use Rattle.cw_linked.proofs.Finishing.{next_table, next_callers, next_marked, next_right, next_cell, next_closed, next_called}
+use Rattle.cw_linked.proofs.Finishing.{next_known, next_callers, next_marked, next_right, next_cell, next_closed, next_called}
 use Rattle.cw_linked.proofs.Staying.{marked_on}
 use Rattle.cw_linked.proofs.Takings.{found_in}
 use Rattle.cw_linked.proofs.Telling.{below, up_to_set, still_standing, two_steps}
@@ -34,7 +33,7 @@ use Rattle.cw_linked.proofs.Writing.{ties_written}
 module _ (g : Game) (functions : ℕ) (routed : AreRouted g functions) (alike : AreAlike g) (old mid : Work) (link : Cell) (place moves callee back : ℕ) (target : Context)
     (tieable : IsTieable g old link place moves callee back target) where
   abbrev Contexts : List Context
-  Contexts = old.table.contexts.items
+  Contexts = old.blocks.contexts.items
 
   abbrev call : Called
   call = tieable.ready.0
@@ -45,24 +44,24 @@ module _ (g : Game) (functions : ℕ) (routed : AreRouted g functions) (alike : 
   place_here : place ≡ place_at g Contexts link.at.number link.pos.0 link.state.0
   place_here = tieable.at.place ∙ sym (place_is g Contexts link.at.number link.at.context link.pos.0 link.state.0 tieable.at.is.at)
 
-  pub within : place < length old.table.heights.items
-  within = omega (arith, tieable.at.place, slot_within g Contexts link.at.number link.at.context link.pos.0 link.state.0 tieable.at.is, tieable.firm.table.cells)
+  pub within : place < length old.store.heights
+  within = omega (arith, tieable.at.place, slot_within g Contexts link.at.number link.at.context link.pos.0 link.state.0 tieable.at.is, tieable.firm.known.cells)
 
   pub link_marked : is_marked old.store.marks place ≡ true
   link_marked = tieable.firm.marked place (link.at.number, link.at.context, link.pos.0, link.state.0, call, is_link, place_here)
 
   functions_below : (i : ℕ) (c : Context) → slice_get Contexts i ≡ Some c → c.function < functions
-  functions_below = below g functions routed alike old old tieable.firm.table
+  functions_below = below g functions routed alike old old tieable.firm.known
 
   module _ (ties : TiesLink old mid place callee moves) where
-    tables : old.table ≡ mid.table
-    tables = sym ties.table
+    unchanged : known_of old ≡ known_of mid
+    unchanged = sym ties.known
 
     ties_to : mid.store.to ≡ set old.store.to place (suc callee)
     ties_to = ties.to ∙ ap (λ (v : ℕ). set old.store.to place v) (add-one callee)
 
-    lengths : length mid.table.heights.items ≡ length old.table.heights.items
-    lengths = ap (λ (t : Table). length t.heights.items) ties.table
+    lengths : length mid.store.heights ≡ length old.store.heights
+    lengths = ap (λ (t : Known). length t.heights) ties.known
 
     abbrev To : ℕ → ℕ → ℕ → ℕ
     To = λ i p k. value_at g Contexts (set old.store.to place (suc callee)) i p k - 1
@@ -78,11 +77,11 @@ module _ (g : Game) (functions : ℕ) (routed : AreRouted g functions) (alike : 
 
     found_mid : found_of g mid ≡ After
     found_mid =
-        ap (λ (t : Table). found_in g t.contexts.items t.heights.items mid.store.asked mid.store.to mid.store.waves mid.store.due) ties.table
-        ∙ ap (λ (ys : List ℕ). found_in g Contexts old.table.heights.items ys mid.store.to mid.store.waves mid.store.due) ties.asked
-        ∙ ap (λ (ys : List ℕ). found_in g Contexts old.table.heights.items old.store.asked ys mid.store.waves mid.store.due) ties_to
-        ∙ ap (λ (ys : List ℕ). found_in g Contexts old.table.heights.items old.store.asked (set old.store.to place (suc callee)) ys mid.store.due) ties.waves
-        ∙ ap (λ (ys : List ℕ). found_in g Contexts old.table.heights.items old.store.asked (set old.store.to place (suc callee)) (set old.store.waves place moves) ys) ties.due
+        ap (λ (t : Known). found_in g t.blocks.contexts.items t.heights mid.store.asked mid.store.to mid.store.waves mid.store.due) ties.known
+        ∙ ap (λ (ys : List ℕ). found_in g Contexts old.store.heights ys mid.store.to mid.store.waves mid.store.due) ties.asked
+        ∙ ap (λ (ys : List ℕ). found_in g Contexts old.store.heights old.store.asked ys mid.store.waves mid.store.due) ties_to
+        ∙ ap (λ (ys : List ℕ). found_in g Contexts old.store.heights old.store.asked (set old.store.to place (suc callee)) ys mid.store.due) ties.waves
+        ∙ ap (λ (ys : List ℕ). found_in g Contexts old.store.heights old.store.asked (set old.store.to place (suc callee)) (set old.store.waves place moves) ys) ties.due
 
     is_tied_there : Ties g Contexts (found_of g old) To Wave Tied link.at.number link.pos.0 link.state.0 callee moves
     is_tied_there =
@@ -104,14 +103,14 @@ module _ (g : Game) (functions : ℕ) (routed : AreRouted g functions) (alike : 
           let same = ap (λ (ys : List ℕ). slice_index ys k) ties.due in
           let to : slice_index mid.store.to k ≡ slice_index old.store.to k = ap (λ (ys : List ℕ). slice_index ys k) ties_to ∙ get_or-set_other old.store.to place k (suc callee) 0 ne in
           let h = tieable.firm.dues k (omega (arith, lt, lengths)) (omega (arith, some, same)) in (
-            subst (λ (t : Table). IsLinkAt g t.contexts.items k) tables h.0,
+            subst (λ (t : Known). IsLinkAt g t.blocks.contexts.items k) unchanged h.0,
             λ tied. let low = h.1 (omega (arith, tied, to)) in omega (arith, low, same),
           )
     ]
 
     pub mid_firm : IsFirm g mid
     mid_firm = record {
-      table = subst (IsTable g) tables tieable.firm.table;
+      known = subst (IsKnown g) unchanged tieable.firm.known;
       long = record {
         marks = ap (λ (ms : List Bool). length ms) ties.marks ∙ tieable.firm.long.marks ∙ sym lengths;
         asked = ap (λ (ys : List ℕ). length ys) ties.asked ∙ tieable.firm.long.asked ∙ sym lengths;
@@ -120,16 +119,16 @@ module _ (g : Game) (functions : ℕ) (routed : AreRouted g functions) (alike : 
         waves = ap (λ (ys : List ℕ). length ys) ties.waves ∙ length-set old.store.waves place moves ∙ tieable.firm.long.waves ∙ sym lengths;
       };
       high = record {
-        heights = subst (λ (t : Table). AreUpTo t.heights.items t.written) tables tieable.firm.high.heights;
-        asked = subst (λ (t : Table). AreUpTo mid.store.asked (2 * t.written + 2)) tables (subst (λ (ys : List ℕ). AreUpTo ys (2 * old.table.written + 2)) (sym ties.asked) tieable.firm.high.asked);
-        due = subst (λ (t : Table). AreUpTo mid.store.due (2 * t.written + 1)) tables (subst (λ (ys : List ℕ). AreUpTo ys (2 * old.table.written + 1)) (sym ties.due) tieable.firm.high.due);
-        waves = subst (λ (t : Table). AreUpTo mid.store.waves t.written) tables (subst (λ (ys : List ℕ). AreUpTo ys old.table.written) (sym ties.waves)
-            (up_to_set old.store.waves place moves old.table.written (omega (arith, within, tieable.firm.long.waves)) tieable.low tieable.firm.high.waves));
+        heights = subst (λ (t : Known). AreUpTo t.heights t.written) unchanged tieable.firm.high.heights;
+        asked = subst (λ (t : Known). AreUpTo mid.store.asked (2 * t.written + 2)) unchanged (subst (λ (ys : List ℕ). AreUpTo ys (2 * old.written + 2)) (sym ties.asked) tieable.firm.high.asked);
+        due = subst (λ (t : Known). AreUpTo mid.store.due (2 * t.written + 1)) unchanged (subst (λ (ys : List ℕ). AreUpTo ys (2 * old.written + 1)) (sym ties.due) tieable.firm.high.due);
+        waves = subst (λ (t : Known). AreUpTo mid.store.waves t.written) unchanged (subst (λ (ys : List ℕ). AreUpTo ys old.written) (sym ties.waves)
+            (up_to_set old.store.waves place moves old.written (omega (arith, within, tieable.firm.long.waves)) tieable.low tieable.firm.high.waves));
       };
-      marked = marked_on g old mid (ap (λ (t : Table). t.contexts.items) ties.table) ties.marks tieable.firm.marked;
+      marked = marked_on g old mid (ap (λ (t : Known). t.blocks.contexts.items) ties.known) ties.marks tieable.firm.marked;
       callers = ties.callers;
       dues = dues;
-      right = subst (λ (t : Table). AreRight g t.contexts.items (found_of g mid)) tables (subst (λ (s : Found). AreRight g Contexts s) (sym found_mid)
+      right = subst (λ (t : Known). AreRight g t.blocks.contexts.items (found_of g mid)) unchanged (subst (λ (s : Found). AreRight g Contexts s) (sym found_mid)
           (tied_right g functions routed alike Contexts functions_below (found_of g old) tieable.firm.right link.at.number link.at.context link.pos.0 link.state.0 call is_link free moves
           target.promise tieable.ready.4
           callee there To Wave Tied is_tied_there));
@@ -138,31 +137,31 @@ module _ (g : Game) (functions : ℕ) (routed : AreRouted g functions) (alike : 
     -- before the calls of the link are asked for
     pub mid_at : IsCellAt g mid place link
     mid_at = record {
-      is = subst (λ (t : Table). HasCell g t link.at link.pos.0 link.state.0) tables tieable.at.is;
+      is = subst (λ (t : Known). HasCell g t.blocks link.at link.pos.0 link.state.0) unchanged tieable.at.is;
       place = tieable.at.place ∙ sym (place_is g Contexts link.at.number link.at.context link.pos.0 link.state.0 tieable.at.is.at)
-          ∙ ap (λ (t : Table). place_at g t.contexts.items link.at.number link.pos.0 link.state.0) tables
-          ∙ place_is g mid.table.contexts.items link.at.number link.at.context link.pos.0 link.state.0
-          (subst (λ (t : Table). slice_get t.contexts.items link.at.number ≡ Some link.at.context) tables tieable.at.is.at);
+          ∙ ap (λ (t : Known). place_at g t.blocks.contexts.items link.at.number link.pos.0 link.state.0) unchanged
+          ∙ place_is g mid.blocks.contexts.items link.at.number link.at.context link.pos.0 link.state.0
+          (subst (λ (t : Known). slice_get t.blocks.contexts.items link.at.number ≡ Some link.at.context) unchanged tieable.at.is.at);
     }
 
     pub mid_goes : slice_index mid.store.to place ≡ suc callee
     mid_goes = ap (λ (ys : List ℕ). slice_index ys place) ties_to ∙ get_or-set_same old.store.to place (suc callee) 0 (omega (arith, within, tieable.firm.long.to))
 
-    pub mid_there : slice_get mid.table.contexts.items callee ≡ Some target
-    mid_there = subst (λ (t : Table). slice_get t.contexts.items callee ≡ Some target) tables tieable.there
+    pub mid_there : slice_get mid.blocks.contexts.items callee ≡ Some target
+    mid_there = subst (λ (t : Known). slice_get t.blocks.contexts.items callee ≡ Some target) unchanged tieable.there
 
-    pub mid_called : AllCalled g mid.table.contexts.items (found_of g mid) (CallsBy g link.at.number link.pos.0 link.state.0)
-    mid_called = subst (λ (t : Table). AllCalled g t.contexts.items (found_of g mid) (CallsBy g link.at.number link.pos.0 link.state.0)) tables
+    pub mid_called : AllCalled g mid.blocks.contexts.items (found_of g mid) (CallsBy g link.at.number link.pos.0 link.state.0)
+    mid_called = subst (λ (t : Known). AllCalled g t.blocks.contexts.items (found_of g mid) (CallsBy g link.at.number link.pos.0 link.state.0)) unchanged
         (subst (λ (s : Found). AllCalled g Contexts s (CallsBy g link.at.number link.pos.0 link.state.0)) (sym found_mid)
         (tied_called g functions routed alike Contexts functions_below (found_of g old) tieable.firm.right link.at.number link.at.context link.pos.0 link.state.0 call is_link free moves
         target.promise tieable.ready.4
         callee there To Wave Tied is_tied_there tieable.called))
 
-    mid_closed : AllClosed g mid.table.contexts.items (found_of g mid) Nothing
-    mid_closed = subst (λ (t : Table). AllClosed g t.contexts.items (found_of g mid) Nothing) tables (subst (λ (s : Found). AllClosed g Contexts s Nothing) (sym found_mid) tieable.closed)
+    mid_closed : AllClosed g mid.blocks.contexts.items (found_of g mid) Nothing
+    mid_closed = subst (λ (t : Known). AllClosed g t.blocks.contexts.items (found_of g mid) Nothing) unchanged (subst (λ (s : Found). AllClosed g Contexts s Nothing) (sym found_mid) tieable.closed)
 
-    mid_standing : AllStanding g mid.table.contexts.items (found_of g mid) (IsIt link.at.number link.pos.0 link.state.0)
-    mid_standing = subst (λ (t : Table). AllStanding g t.contexts.items (found_of g mid) (IsIt link.at.number link.pos.0 link.state.0)) tables
+    mid_standing : AllStanding g mid.blocks.contexts.items (found_of g mid) (IsIt link.at.number link.pos.0 link.state.0)
+    mid_standing = subst (λ (t : Known). AllStanding g t.blocks.contexts.items (found_of g mid) (IsIt link.at.number link.pos.0 link.state.0)) unchanged
         (subst (λ (s : Found). AllStanding g Contexts s (IsIt link.at.number link.pos.0 link.state.0)) (sym found_mid)
         (tied_standing g functions routed alike Contexts functions_below (found_of g old) tieable.firm.right link.at.number link.at.context link.pos.0 link.state.0 call is_link free moves
         target.promise tieable.ready.4
@@ -180,51 +179,51 @@ module _ (g : Game) (functions : ℕ) (routed : AreRouted g functions) (alike : 
 
     -- and after
     module _ (one : Work) (calls : AsksCalls g mid one) where
-      pub one_table : IsTable g one.table
-      one_table = next_table g functions routed alike mid one mid_firm.table calls.step
+      pub one_known : IsKnown g (known_of one)
+      one_known = next_known g functions routed alike mid one mid_firm.known calls.step
 
-      pub one_right : AreRight g one.table.contexts.items (found_of g one)
-      one_right = next_right g functions routed alike mid one mid_firm.table calls.step
+      pub one_right : AreRight g one.blocks.contexts.items (found_of g one)
+      one_right = next_right g functions routed alike mid one mid_firm.known calls.step
 
       pub one_few : AreFew one
-      one_few = (next_callers g functions routed alike mid one mid_firm.table calls.step mid_firm.callers).few
+      one_few = (next_callers g functions routed alike mid one mid_firm.known calls.step mid_firm.callers).few
 
       pub one_marked : AreMarked g one
-      one_marked = next_marked g functions routed alike mid one mid_firm.table calls.step mid_firm.marked
+      one_marked = next_marked g functions routed alike mid one mid_firm.known calls.step mid_firm.marked
 
-      pub one_cell : HasCell g one.table link.at link.pos.0 link.state.0
-      one_cell = next_cell g functions routed alike mid one mid_firm.table calls.step link mid_at.is
+      pub one_cell : HasCell g one.blocks link.at link.pos.0 link.state.0
+      one_cell = next_cell g functions routed alike mid one mid_firm.known calls.step link mid_at.is
 
       pub one_tied : IsTied (found_of g one) link.at.number link.pos.0 link.state.0
       one_tied = subst (λ (s : Found). IsTied s link.at.number link.pos.0 link.state.0) (sym (found_keys g mid one calls.step.others)) mid_tied
 
-      pub one_standing : AllStanding g one.table.contexts.items (found_of g one) (IsIt link.at.number link.pos.0 link.state.0)
-      one_standing = subst (λ (t : Table). AllStanding g t.contexts.items (found_of g one) (IsIt link.at.number link.pos.0 link.state.0)) (sym calls.step.others.table)
-          (still_standing g functions routed alike mid one mid_firm.table calls.step.others calls.step.lowers _ mid_standing)
+      pub one_standing : AllStanding g one.blocks.contexts.items (found_of g one) (IsIt link.at.number link.pos.0 link.state.0)
+      one_standing = subst (λ (t : Known). AllStanding g t.blocks.contexts.items (found_of g one) (IsIt link.at.number link.pos.0 link.state.0)) (sym calls.step.others.known)
+          (still_standing g functions routed alike mid one mid_firm.known calls.step.others calls.step.lowers _ mid_standing)
 
       module _ (new : Work) (again : AsksAgain g one new) where
         both : LowersKeys g mid new
         both = two_steps g mid one new calls.step again.step
 
-        one_called : AllCalled g one.table.contexts.items (found_of g one) Nothing
-        one_called = subst (λ (t : Table). AllCalled g t.contexts.items (found_of g one) Nothing) (sym calls.step.others.table) calls.called
+        one_called : AllCalled g one.blocks.contexts.items (found_of g one) Nothing
+        one_called = subst (λ (t : Known). AllCalled g t.blocks.contexts.items (found_of g one) Nothing) (sym calls.step.others.known) calls.called
 
         pub tied_all : Finishes g old new (set old.store.to place (callee + 1))
         tied_all = record {
           kept = record {
-            table = next_table g functions routed alike mid new mid_firm.table both;
+            known = next_known g functions routed alike mid new mid_firm.known both;
             long = both.long;
-            marked = next_marked g functions routed alike mid new mid_firm.table both mid_firm.marked;
+            marked = next_marked g functions routed alike mid new mid_firm.known both mid_firm.marked;
             high = both.high;
-            callers = next_callers g functions routed alike mid new mid_firm.table both mid_firm.callers;
+            callers = next_callers g functions routed alike mid new mid_firm.known both mid_firm.callers;
             dues = both.dues mid_firm.dues;
             found = record {
-              right = next_right g functions routed alike mid new mid_firm.table both;
-              closed = next_closed g functions routed alike mid new mid_firm.table both mid_closed;
-              called = next_called g functions routed alike one new one_table again.step one_called;
-              standing = subst (λ (t : Table). AllStanding g t.contexts.items (found_of g new) Nothing) (sym again.step.others.table) again.standing;
+              right = next_right g functions routed alike mid new mid_firm.known both;
+              closed = next_closed g functions routed alike mid new mid_firm.known both mid_closed;
+              called = next_called g functions routed alike one new one_known again.step one_called;
+              standing = subst (λ (t : Known). AllStanding g t.blocks.contexts.items (found_of g new) Nothing) (sym again.step.others.known) again.standing;
             };
           };
-          table = both.others.table ∙ ties.table;
+          known = both.others.known ∙ ties.known;
           to = both.others.to ∙ ties.to;
         }

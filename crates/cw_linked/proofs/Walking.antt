@@ -1,14 +1,15 @@
--- A walk along a list of links: what is left of it, and its next step.
-use Rattle.std.proofs.Common.{◌≡◌, ◌≢◌, ◌<◌, ℕ, zero, suc, inl, inr, Bool, true, false, List, [], ◌∷◌, ◌++◌, eqb, Option, Some, length, refl, sym, ap, ◌∙◌, subst, arith}
-use Rattle.std.specs.Prelude.{slice_get, if◌then◌else◌}
+-- A walk along a list of links, and along a row: what is left of it, and its next step.
+use Rattle.std.proofs.Common.{◌≡◌, ◌≢◌, ◌+◌, ◌<◌, ◌≤◌, ℕ, zero, suc, inl, inr, Bool, true, false, List, [], ◌∷◌, ◌++◌, eqb, Option, Some, length, refl, sym, ap, ◌∙◌, subst, arith}
+use Rattle.std.specs.Prelude.{◌⊎◌, slice_get, if◌then◌else◌, Contains}
 use Rattle.std.specs.List.{concat}
-use Rattle.std.proofs.lemmas.Bool.{cases_eq, eq-eqb, ne_eqb, eqb-true}
-use Rattle.std.proofs.lemmas.Option.{none-some}
+use Rattle.std.proofs.lemmas.Bool.{cases_eq, cases_lt, eq-eqb, ne_eqb, eqb-true}
+use Rattle.std.proofs.lemmas.Option.{none-some, same_Some, slice_get_within}
 use Rattle.cw_links.specs.Lists.{list_at, AreApart}
 use Rattle.cw_links.specs.Rows.{has, Once}
-use Rattle.cw_links.proofs.Rows.{Once-append_left, Once-append_right, apart-append}
-use Rattle.cw_linked.specs.Walks.{from, rest_of}
+use Rattle.cw_links.proofs.NodeRows.{Once-append_left, Once-append_right, apart-append}
+use Rattle.cw_linked.specs.Walks.{from, rest_of, IsFrom}
 use Rattle.cw_links.proofs.CallerLemmas.{Once-from_IsDistinct}
+use Rattle.cw_links.proofs.FlatRows.{stands_at}
 
 once_in : (lists : List (List ℕ)) (l : ℕ) → Once (concat lists) → Once (list_at lists l)
 once_in [] l o = tt
@@ -101,3 +102,17 @@ pub walk_goes_on : (lists before : List (List ℕ)) → lists ≡ before → (ce
 walk_goes_on lists before same cells l edge now next here at apart within =
     subst (λ (ls : List (List ℕ)). StepsOn (list_at ls l) edge now next) same
     (walk_steps lists cells l edge now next here (subst (λ (ls : List (List ℕ)). slice_get (rest_of (list_at ls l) now) 0 ≡ now) (sym same) at) apart within)
+
+-- A walk along a row begins with the whole row; what is left is the value at its number or behind it; and at last nothing is left.
+
+pub row_whole : {T : Type 0} (row : List T) (v : T) → Contains row v → IsFrom row 0 v
+row_whole row v h = (h.0, omega arith, stands_at row v h)
+
+pub now_or_later : {T : Type 0} (row : List T) (n : ℕ) (v w : T) → slice_get row n ≡ Some v → IsFrom row n w → (v ≡ w) ⊎ IsFrom row (n + 1) w
+now_or_later row n v w here (k, le, is) = elim (cases_lt n k) [
+  | inl lt ↦ inr (k, omega (arith, lt), is)
+  | inr ge ↦ let same : n ≡ k = omega (arith, le, ge) in inl (same_Some v w (sym here ∙ ap (slice_get row) same ∙ is))
+]
+
+pub row_done : {T : Type 0} (row : List T) (n : ℕ) (v : T) → length row ≤ n → IsFrom row n v → ⊥
+row_done row n v past (k, le, is) = let lt = slice_get_within row k v is in omega (arith, past, le, lt)

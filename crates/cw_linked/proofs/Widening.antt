@@ -1,5 +1,5 @@
 -- A context is pushed: it is one of few, and what stands there then.
-use Rattle.std.proofs.Common.{◌≡◌, ℕ, suc, ◌+◌, ◌-◌, ◌<◌, ◌≤◌, List, [], ◌∷◌, ◌++◌, length, replicate, refl, sym, ap, ◌∙◌, subst, arith}
+use Rattle.std.proofs.Common.{◌≡◌, ℕ, suc, ◌+◌, ◌-◌, ◌<◌, ◌≤◌, List, [], ◌∷◌, ◌++◌, length, refl, ap, ◌∙◌, subst, arith}
 use Rattle.std.specs.Prelude.{Contains}
 use Rattle.std.proofs.Math.Nat.{mul-le-mul}
 use Rattle.std.proofs.lemmas.List.{length_push}
@@ -8,7 +8,6 @@ use Rattle.std.proofs.lemmas.List.Sums.{sum_by-cons}
 use Rattle.cw_game.specs.Games.{Game}
 use Rattle.cw_links.specs.Stores.{Stored, with_lists}
 use Rattle.cw_solve.specs.declared.contexts.Context.{Context}
-use Rattle.cw_solve.specs.declared.table.Table.{Table}
 use Rattle.cw_solve.specs.Contexts.{size, cells_of}
 use Rattle.cw_product.specs.Routed.{IsThere, AreRouted}
 use Rattle.cw_solve.specs.Tables.{AreTabled}
@@ -42,32 +41,29 @@ module _ (g : Game) (functions : ℕ) (routed : AreRouted g functions) where
         let le = few_by (contexts ++ c ∷ []) (λ d is. size_some d.function (there g functions routed d (tabled.needed.needed d is))) in
         omega (arith, le, tabled.few, length_push contexts c)
 
-pub few_cells : (g : Game) (w : Work) (c : Context) → IsOpen g w → AreTabled g (w.table.contexts.items ++ c ∷ []) → length w.table.heights.items + size g c.function ≤ 4194304
-few_cells g w c kept tabled = omega (arith, kept.blocks.cells, tabled.few, cells_longer g w.table.contexts.items c)
+pub few_cells : (g : Game) (w : Work) (c : Context) → IsOpen g w → AreTabled g (w.blocks.contexts.items ++ c ∷ []) → length w.store.heights + size g c.function ≤ 4194304
+few_cells g w c kept tabled = omega (arith, kept.laid.cells, tabled.few, cells_longer g w.blocks.contexts.items c)
 
--- Lists are made, places are added to the store, and the context to the table.
-pub pushes_then : (g : Game) (old mid new : Work) (c : Context) (reached : Stored) (many : ℕ) → reached ≡ with_lists old.store reached.lists → length old.store.lists ≤ length reached.lists
-    → length old.table.contexts.items + 2 ≤ length reached.lists → PushesPlaces reached mid.store (size g c.function) → MarksLinks g reached.marks mid.store.marks c.function (size g c.function)
-    → mid.table ≡ old.table → PushesContext mid new c many → many ≡ size g c.function → Pushes g old new c (size g c.function)
-pushes_then g old mid new c reached many same more enough added marked table pushes size_is =
-    let places = subst (λ (s : Stored). PushesPlaces s mid.store (size g c.function)) same added in
-    let there : PushesContext mid new c (size g c.function) = subst (λ (n : ℕ). PushesContext mid new c n) size_is pushes in
-    let all : PushesPlaces old.store mid.store (size g c.function) = record {
-      asked = places.asked;
-      due = places.due;
-      to = places.to;
-      waves = places.waves;
-      long = places.long;
-      kept = places.kept;
-      lists = omega (arith, more, added.lists);
-    } in
+-- Lists are made, places are added to the store, and the context to the others.
+pub pushes_then : (g : Game) (old new : Work) (c : Context) (reached : Stored) (base : ℕ) → reached ≡ with_lists old.store reached.lists → length old.store.lists ≤ length reached.lists
+    → length old.blocks.contexts.items + 2 ≤ length reached.lists → PushesPlaces reached new.store (size g c.function) → MarksLinks g reached.marks new.store.marks c.function (size g c.function)
+    → PushesContext old.blocks new.blocks c base → base ≡ length old.store.heights → new.written ≡ old.written → Pushes g old new c (size g c.function)
+pushes_then g old new c reached base same more enough added marked pushes begins written =
+    let places = subst (λ (s : Stored). PushesPlaces s new.store (size g c.function)) same added in
     record {
-      contexts = there.contexts ∙ ap (λ (t : Table). t.contexts.items ++ c ∷ []) table;
-      bases = there.bases ∙ ap (λ (t : Table). t.bases.items ++ length t.heights.items ∷ []) table;
-      written = there.written ∙ ap (λ (t : Table). t.written) table;
-      heights = there.heights ∙ ap (λ (t : Table). t.heights.items ++ replicate (size g c.function) 0) table;
-      places = subst (λ (s : Stored). PushesPlaces old.store s (size g c.function)) (sym there.store) all;
-      marked = subst (λ (s : Stored). MarksLinks g old.store.marks s.marks c.function (size g c.function)) (sym there.store)
-          (subst (λ (s : Stored). MarksLinks g s.marks mid.store.marks c.function (size g c.function)) same marked);
-      lists = (let e = ap (λ (s : Stored). length s.lists) there.store in omega (arith, enough, added.lists, e));
+      contexts = pushes.contexts;
+      bases = pushes.bases ∙ ap (λ (n : ℕ). old.blocks.bases.items ++ n ∷ []) begins;
+      written = written;
+      places = record {
+        heights = places.heights;
+        asked = places.asked;
+        due = places.due;
+        to = places.to;
+        waves = places.waves;
+        long = places.long;
+        kept = places.kept;
+        lists = omega (arith, more, added.lists);
+      };
+      marked = subst (λ (s : Stored). MarksLinks g s.marks new.store.marks c.function (size g c.function)) same marked;
+      lists = omega (arith, enough, added.lists);
     }

@@ -7,7 +7,7 @@ use Rattle.cw_game.specs.Pairs.{Called, call_in}
 use Rattle.cw_links.specs.Marks.{is_marked}
 use Rattle.cw_links.specs.Stores.{Stored}
 use Rattle.cw_solve.specs.declared.contexts.Context.{Context}
-use Rattle.cw_solve.specs.declared.table.Table.{Table}
+use Rattle.cw_solve.specs.declared.table.Blocks.{Blocks}
 use Rattle.cw_solve.specs.Tabled.{Tabled}
 use Rattle.cw_product.specs.Routed.{IsOf}
 use Rattle.cw_solve.specs.Contexts.{size, cells_of}
@@ -19,17 +19,18 @@ use Rattle.cw_linked.specs.Founds.{class_of, IsLink, AreRight, IsClosed, Nothing
 use Rattle.cw_linked.specs.Queues.{found_of, AreMarked, AreLong, AreHigh, AreDue, AreSameBut, LowersKeys}
 use Rattle.cw_linked.specs.Steps.{IsIt}
 use Rattle.cw_linked.specs.Tied.{IsFirm}
-use Rattle.cw_linked.specs.Works.{place_at, heights_of}
+use Rattle.cw_linked.specs.Works.{Known, known_of, place_at, heights_of}
 
--- a table, whatever its contexts are
-pub record AreBlocks (g : Game) (t : Table) : Type 0 where
-  pub begins : (i : ℕ) → i < length t.contexts.items → slice_index t.bases.items i ≡ cells_of g (take i t.contexts.items)
-  pub bases : length t.bases.items ≡ length t.contexts.items
-  pub cells : length t.heights.items ≡ cells_of g t.contexts.items
-  pub counted : t.written + count_by is_none t.heights.items ≡ length t.heights.items
+-- what is known of cells, whatever their contexts are
+pub record IsLaid (g : Game) (t : Known) : Type 0 where
+  pub begins : (i : ℕ) → i < length t.blocks.contexts.items → slice_index t.blocks.bases.items i ≡ cells_of g (take i t.blocks.contexts.items)
+  pub bases : length t.blocks.bases.items ≡ length t.blocks.contexts.items
+  pub cells : length t.heights ≡ cells_of g t.blocks.contexts.items
+  pub counted : t.written + count_by is_none t.heights ≡ length t.heights
 
--- so many places more, of which nothing waits, and links that go nowhere
+-- so many places more, of which none has a height and nothing waits, and links that go nowhere
 pub record PushesPlaces (old new : Stored) (many : ℕ) : Type 0 where
+  pub heights : new.heights ≡ old.heights ++ replicate many 0
   pub asked : new.asked ≡ old.asked ++ replicate many 0
   pub due : new.due ≡ old.due ++ replicate many 0
   pub to : new.to ≡ old.to ++ replicate many 0
@@ -64,23 +65,19 @@ pub record ArePushed (g : Game) (old new : Stored) (function x p plain : ℕ) : 
       → is_marked new.marks (length old.marks + (r - g.entry function)) ≡ true
   pub rest : (r : ℕ) (call : Called) → r < p → p ≤ r + plain → call_in (slice_get g.spots r) ≡ Some call → class_of g call.split x ≡ x → ⊥
 
--- a context is added to the table, and the rest is the same
-pub record PushesContext (old new : Work) (context : Context) (many : ℕ) : Type 0 where
-  pub contexts : new.table.contexts.items ≡ old.table.contexts.items ++ context ∷ []
-  pub bases : new.table.bases.items ≡ old.table.bases.items ++ length old.table.heights.items ∷ []
-  pub written : new.table.written ≡ old.table.written
-  pub heights : new.table.heights.items ≡ old.table.heights.items ++ replicate many 0
-  pub store : new.store ≡ old.store
+-- a context is added, whose cells begin at this place
+pub record PushesContext (old new : Blocks) (context : Context) (base : ℕ) : Type 0 where
+  pub contexts : new.contexts.items ≡ old.contexts.items ++ context ∷ []
+  pub bases : new.bases.items ≡ old.bases.items ++ base ∷ []
 
 -- a context is added, with so many cells of which none has a height or waits, and links that go nowhere
 pub record Pushes (g : Game) (old new : Work) (context : Context) (many : ℕ) : Type 0 where
-  pub contexts : new.table.contexts.items ≡ old.table.contexts.items ++ context ∷ []
-  pub bases : new.table.bases.items ≡ old.table.bases.items ++ length old.table.heights.items ∷ []
-  pub written : new.table.written ≡ old.table.written
-  pub heights : new.table.heights.items ≡ old.table.heights.items ++ replicate many 0
+  pub contexts : new.blocks.contexts.items ≡ old.blocks.contexts.items ++ context ∷ []
+  pub bases : new.blocks.bases.items ≡ old.blocks.bases.items ++ length old.store.heights ∷ []
+  pub written : new.written ≡ old.written
   pub places : PushesPlaces old.store new.store many
   pub marked : MarksLinks g old.store.marks new.store.marks context.function many
-  pub lists : length old.table.contexts.items + 1 < length new.store.lists
+  pub lists : length old.blocks.contexts.items + 1 < length new.store.lists
 
 -- what is lost begins at a label, which may be bad, and at an exit
 abbrev pub loss_begins_in : Option Spot → Bool
@@ -89,8 +86,8 @@ loss_begins_in (Some (Exit f)) = true
 loss_begins_in _ = false
 
 -- no cell of a context has a height
-abbrev pub HasNoHeights : Game → Table → Tabled → Type 0
-HasNoHeights g t at = (p q : ℕ) → HasCell g t at p q → heights_of g t at.number p q ≡ 0
+abbrev pub HasNoHeights : Game → Known → Tabled → Type 0
+HasNoHeights g t at = (p q : ℕ) → HasCell g t.blocks at p q → heights_of g t at.number p q ≡ 0
 
 -- the place of a link of a context
 abbrev pub IsLinkOf : Game → List Context → (i : ℕ) → Context → ℕ → Type 0
@@ -117,35 +114,35 @@ pub record FreesLinks (g : Game) (old new : Work) (i : ℕ) (c : Context) (These
   pub others : AreSameBut old new
   pub asked : new.store.asked ≡ old.store.asked
   pub long : length new.store.due ≡ length old.store.due
-  pub links : (p x : ℕ) (call : Called) → IsLink g old.table.contexts.items i c p x call → These p x → slice_index new.store.due (place_at g old.table.contexts.items i p x) ≡ 1
-  pub rest : (k : ℕ) → (slice_index new.store.due k ≡ slice_index old.store.due k) ⊎ (IsLinkOf g old.table.contexts.items i c k × (slice_index new.store.due k ≡ 1))
+  pub links : (p x : ℕ) (call : Called) → IsLink g old.blocks.contexts.items i c p x call → These p x → slice_index new.store.due (place_at g old.blocks.contexts.items i p x) ≡ 1
+  pub rest : (k : ℕ) → (slice_index new.store.due k ≡ slice_index old.store.due k) ⊎ (IsLinkOf g old.blocks.contexts.items i c k × (slice_index new.store.due k ≡ 1))
 
 -- the cells of a context at these pairs are asked for
 pub record AsksCells (g : Game) (old new : Work) (j : ℕ) (c : Context) (These : ℕ → ℕ → Type 0) : Type 0 where
   pub step : LowersKeys g old new
-  pub closed : (p q : ℕ) → IsCell g old.table.contexts.items j c p q → These p q → IsClosed g (found_of g new) j c p q
+  pub closed : (p q : ℕ) → IsCell g old.blocks.contexts.items j c p q → These p q → IsClosed g (found_of g new) j c p q
   pub due : new.store.due ≡ old.store.due
 
 -- what the solver keeps but for what waits, whatever the contexts are: one more may be added
 pub record IsOpen (g : Game) (w : Work) : Type 0 where
-  pub blocks : AreBlocks g w.table
+  pub laid : IsLaid g (known_of w)
   pub long : AreLong w
   pub marked : AreMarked g w
   pub high : AreHigh w
   pub callers : AreCallers w
   pub dues : AreDue g w
-  pub right : AreRight g w.table.contexts.items (found_of g w)
+  pub right : AreRight g w.blocks.contexts.items (found_of g w)
 
 -- A context is added, the last one: its cells have no heights, its links go nowhere, and both are asked for. What was there is as before but for keys of cells, and what
 -- is known is missing nowhere where it wasn't, but for a link that is left to do.
 pub record AddsContext (g : Game) (old new : Work) (context : Context) : Type 0 where
   pub firm : IsFirm g new
-  pub contexts : new.table.contexts.items ≡ old.table.contexts.items ++ context ∷ []
-  pub written : new.table.written ≡ old.table.written
-  pub heights : new.table.heights.items ≡ old.table.heights.items ++ replicate (size g context.function) 0
+  pub contexts : new.blocks.contexts.items ≡ old.blocks.contexts.items ++ context ∷ []
+  pub written : new.written ≡ old.written
+  pub heights : new.store.heights ≡ old.store.heights ++ replicate (size g context.function) 0
   pub to : new.store.to ≡ old.store.to ++ replicate (size g context.function) 0
-  pub dues : (k : ℕ) → k < length old.table.heights.items → slice_index new.store.due k ≡ slice_index old.store.due k
-  pub closed : AllClosed g old.table.contexts.items (found_of g old) Nothing → AllClosed g new.table.contexts.items (found_of g new) Nothing
-  pub called : AllCalled g old.table.contexts.items (found_of g old) Nothing → AllCalled g new.table.contexts.items (found_of g new) Nothing
-  pub standing : AllStanding g old.table.contexts.items (found_of g old) Nothing → AllStanding g new.table.contexts.items (found_of g new) Nothing
-  pub others : (j r x : ℕ) → AllStanding g old.table.contexts.items (found_of g old) (IsIt j r x) → AllStanding g new.table.contexts.items (found_of g new) (IsIt j r x)
+  pub dues : (k : ℕ) → k < length old.store.heights → slice_index new.store.due k ≡ slice_index old.store.due k
+  pub closed : AllClosed g old.blocks.contexts.items (found_of g old) Nothing → AllClosed g new.blocks.contexts.items (found_of g new) Nothing
+  pub called : AllCalled g old.blocks.contexts.items (found_of g old) Nothing → AllCalled g new.blocks.contexts.items (found_of g new) Nothing
+  pub standing : AllStanding g old.blocks.contexts.items (found_of g old) Nothing → AllStanding g new.blocks.contexts.items (found_of g new) Nothing
+  pub others : (j r x : ℕ) → AllStanding g old.blocks.contexts.items (found_of g old) (IsIt j r x) → AllStanding g new.blocks.contexts.items (found_of g new) (IsIt j r x)

@@ -14,8 +14,8 @@ use Rattle.cw_linked.specs.Works.{place_at}
 
 -- there is a list for each context, and links go to these
 pub record AreCallers (w : Work) : Type 0 where
-  pub more : length w.table.contexts.items < length w.store.lists
-  pub few : (k : ℕ) → k < length w.table.heights.items → slice_index w.store.to k ≤ length w.table.contexts.items
+  pub more : length w.blocks.contexts.items < length w.store.lists
+  pub few : (k : ℕ) → k < length w.store.heights → slice_index w.store.to k ≤ length w.blocks.contexts.items
 
 -- the calls whose link goes to a cell of an entry, and stands in what is left of its list
 abbrev pub CallsLeft : Game → List Context → List Bool → Found → List ℕ → (j r x : ℕ) → ℕ → ℕ → ℕ → Type 0
@@ -26,10 +26,10 @@ CallsLeft g contexts marks s rest j r x i p q =
 -- the call of the link at a place is asked for, if the link goes to the context of this cell and the state of the cell is of its class
 pub record AsksCaller (g : Game) (old new : Work) (k : ℕ) (cell : Cell) : Type 0 where
   pub step : LowersKeys g old new
-  pub called : (i : ℕ) (c : Context) (p q : ℕ) (call : Called) → IsCell g old.table.contexts.items i c p q → call_in (slice_get g.spots p) ≡ Some call
+  pub called : (i : ℕ) (c : Context) (p q : ℕ) (call : Called) → IsCell g old.blocks.contexts.items i c p q → call_in (slice_get g.spots p) ≡ Some call
       → IsSame ((found_of g old).to i p (class_of g call.split q)) (g.entry call.function) q cell.at.number cell.pos.0 cell.state.0
-      → k ≡ place_at g old.table.contexts.items i p (class_of g call.split q) → IsCalled g (found_of g new) i p q
+      → k ≡ place_at g old.blocks.contexts.items i p (class_of g call.split q) → IsCalled g (found_of g new) i p q
 
 pub record AsksCallers (g : Game) (old new : Work) : Type 0 where
   pub step : LowersKeys g old new
-  pub called : AllCalled g old.table.contexts.items (found_of g new) Nothing
+  pub called : AllCalled g old.blocks.contexts.items (found_of g new) Nothing

@@ -1,63 +1,100 @@
 -- Working definitions: the lists of what waits for pairs, and of what returns to positions, while they are made.
-use Rattle.std.specs.Prelude.{◌≡◌, ◌⊎◌, ℕ, ◌+◌, ◌*◌, ◌<◌, ◌≤◌, true, false, Some, length, slice_get}
+use Rattle.std.specs.Prelude.{◌≡◌, ◌⊎◌, ℕ, ◌+◌, ◌*◌, ◌<◌, ◌≤◌, Bool, true, false, List, Some, length, slice_get, Contains}
 use Rattle.cw_core.specs.declared.ids.PosId.{PosId}
 use Rattle.cw_certs.specs.declared.moves.Move.{Move}
 use Rattle.cw_game.specs.Games.{Game}
 use Rattle.cw_game.specs.Pairs.{Called, call_in}
 use Rattle.cw_links.specs.Lists.{Chained, list_at}
+use Rattle.cw_links.specs.Marks.{is_marked, number}
 use Rattle.cw_product.specs.Moves.{pos_id, next_at}
 use Rattle.cw_linked.specs.declared.edges.Pair.{Pair}
-use Rattle.cw_linked.specs.declared.edges.Changes.{Changes}
-use Rattle.cw_linked.specs.Returns.{HasReturn}
+use Rattle.cw_linked.specs.declared.edges.Source.{Source}
 use Rattle.cw_linked.specs.Steps.{Leads}
-use Rattle.cw_linked.specs.Waiting.{HasIn, keeps_state, IsChange}
+use Rattle.cw_linked.specs.Waiting.{pair_of, HasIn, keeps_state, source_at, IsStepTo, list_of}
 
 -- each value is a pair of the game
 abbrev pub AreFine : Game → Chained Pair → Type 0
 AreFine g pairs = (edge : ℕ) (pair : Pair) → slice_get pairs.values edge ≡ Some pair → (pair.pos.0 < length g.spots) × (pair.state.0 < g.states.count)
 
+-- each link of a list has a source, which leads there where it is a step
+abbrev pub AreSteps : Game → Chained Source → Type 0
+AreSteps g sources = (l edge : ℕ) → Contains (list_at sources.lists l) edge → (source : Source) × (slice_get sources.values edge ≡ Some source) × IsStepTo g source l
+
 -- what was in stays in, and a position is in the list of the one to which this move leads
-pub record AddsSource (g : Game) (old new : Chained PosId) (p : ℕ) (by : Move) : Type 0 where
+pub record AddsSource (g : Game) (old new : Chained Source) (p : ℕ) (by : Move) : Type 0 where
   pub lists : length new.lists ≡ length old.lists
   pub grows : length new.values ≤ length old.values + 1
-  pub keeps : (l : ℕ) (pos : PosId) → HasIn old l pos → HasIn new l pos
-  pub leads : (r x : ℕ) → next_at g p 0 by ≡ Some (r, x) → HasIn new r (pos_id p)
+  pub keeps : (l : ℕ) (source : Source) → HasIn old l source → HasIn new l source
+  pub steps : AreSteps g old → AreSteps g new
+  pub leads : (r x : ℕ) → next_at g p 0 by ≡ Some (r, x) → HasIn new r (source_at g p)
 
 -- the positions before this one are in
-pub record AreSourcesTo (g : Game) (sources : Chained PosId) (m : ℕ) : Type 0 where
+pub record AreSourcesTo (g : Game) (sources : Chained Source) (m : ℕ) : Type 0 where
   pub lists : length sources.lists ≡ length g.spots
   pub few : length sources.values ≤ m * 2
-  pub leads : (p q r x : ℕ) → p < m → keeps_state (slice_get g.spots p) ≡ true → Leads g p q r x → HasIn sources r (pos_id p)
+  pub steps : AreSteps g sources
+  pub leads : (p q r x : ℕ) → p < m → keeps_state (slice_get g.spots p) ≡ true → Leads g p q r x → HasIn sources r (source_at g p)
 
--- what was in stays in, and a pair is in the list of the one to which this move leads
-pub record AddsMove (g : Game) (old new : Changes) (p q : ℕ) (by : Move) : Type 0 where
-  pub lists : length new.pairs.lists ≡ length old.pairs.lists
-  pub marks : length new.marks.items ≡ length old.marks.items
-  pub grows : length new.pairs.values ≤ length old.pairs.values + 1
-  pub fine : AreFine g old.pairs → AreFine g new.pairs
-  pub keeps : (m n r x : ℕ) → IsChange g old m n r x → IsChange g new m n r x
-  pub leads : (r x : ℕ) → next_at g p q by ≡ Some (r, x) → IsChange g new p q r x
+-- what is so of each move from the pairs before this one whose position may change the state, with where it leads
+abbrev pub AreLed : Game → (ℕ → ℕ → ℕ → ℕ → Type 0) → (m n : ℕ) → Type 0
+AreLed g Is m n = (p q r x : ℕ) → (p < m) ⊎ ((p ≡ m) × (q < n)) → q < g.states.count → keeps_state (slice_get g.spots p) ≡ false → Leads g p q r x → Is p q r x
+
+-- the position to which a move leads is marked
+abbrev pub IsReached : List Bool → (p q r x : ℕ) → Type 0
+IsReached marks p q r x = is_marked marks r ≡ true
+
+-- what was marked stays marked, and the position to which this move leads is marked
+pub record MarksMove (g : Game) (old new : List Bool) (p q : ℕ) (by : Move) : Type 0 where
+  pub long : length new ≡ length old
+  pub keeps : (r : ℕ) → is_marked old r ≡ true → is_marked new r ≡ true
+  pub leads : (r x : ℕ) → next_at g p q by ≡ Some (r, x) → is_marked new r ≡ true
 
 -- of all moves at its position
-pub record AddsMoves (g : Game) (old new : Changes) (p q : ℕ) : Type 0 where
-  pub lists : length new.pairs.lists ≡ length old.pairs.lists
-  pub marks : length new.marks.items ≡ length old.marks.items
-  pub grows : length new.pairs.values ≤ length old.pairs.values + 2
-  pub fine : AreFine g old.pairs → AreFine g new.pairs
-  pub keeps : (m n r x : ℕ) → IsChange g old m n r x → IsChange g new m n r x
-  pub leads : (r x : ℕ) → Leads g p q r x → IsChange g new p q r x
+pub record MarksMoves (g : Game) (old new : List Bool) (p q : ℕ) : Type 0 where
+  pub long : length new ≡ length old
+  pub keeps : (r : ℕ) → is_marked old r ≡ true → is_marked new r ≡ true
+  pub leads : (r x : ℕ) → Leads g p q r x → is_marked new r ≡ true
+
+-- the positions to which those before this pair lead are marked
+pub record AreReachedTo (g : Game) (marks : List Bool) (m n : ℕ) : Type 0 where
+  pub long : length marks ≡ length g.spots
+  pub leads : AreLed g (IsReached marks) m n
+
+-- and to which all lead
+pub record AreReached (g : Game) (marks : List Bool) : Type 0 where
+  pub long : length marks ≡ length g.spots
+  pub leads : (p q r x : ℕ) → p < length g.spots → q < g.states.count → keeps_state (slice_get g.spots p) ≡ false → Leads g p q r x → is_marked marks r ≡ true
+
+-- the pair (p, q) is in the list of (r, x)
+abbrev pub IsListed : Game → List Bool → Chained Pair → (p q r x : ℕ) → Type 0
+IsListed g marks pairs p q r x = HasIn pairs (list_of g marks r x) (pair_of p q)
+
+-- what was in stays in, and a pair is in the list of the one to which this move leads
+pub record AddsMove (g : Game) (marks : List Bool) (old new : Chained Pair) (p q : ℕ) (by : Move) : Type 0 where
+  pub lists : length new.lists ≡ length old.lists
+  pub grows : length new.values ≤ length old.values + 1
+  pub fine : AreFine g old → AreFine g new
+  pub keeps : (l : ℕ) (pair : Pair) → HasIn old l pair → HasIn new l pair
+  pub leads : (r x : ℕ) → next_at g p q by ≡ Some (r, x) → IsListed g marks new p q r x
+
+-- of all moves at its position
+pub record AddsMoves (g : Game) (marks : List Bool) (old new : Chained Pair) (p q : ℕ) : Type 0 where
+  pub lists : length new.lists ≡ length old.lists
+  pub grows : length new.values ≤ length old.values + 2
+  pub fine : AreFine g old → AreFine g new
+  pub keeps : (l : ℕ) (pair : Pair) → HasIn old l pair → HasIn new l pair
+  pub leads : (r x : ℕ) → Leads g p q r x → IsListed g marks new p q r x
 
 -- the pairs before this one are in
-pub record AreChangesTo (g : Game) (changes : Changes) (m n : ℕ) : Type 0 where
-  pub lists : length changes.pairs.lists ≡ length g.spots * g.states.count
-  pub marks : length changes.marks.items ≡ length g.spots
-  pub few : length changes.pairs.values ≤ (m * g.states.count + n) * 2
-  pub fine : AreFine g changes.pairs
-  pub leads : (p q r x : ℕ) → (p < m) ⊎ ((p ≡ m) × (q < n)) → q < g.states.count → keeps_state (slice_get g.spots p) ≡ false → Leads g p q r x → IsChange g changes p q r x
+pub record AreChangesTo (g : Game) (marks : List Bool) (pairs : Chained Pair) (m n : ℕ) : Type 0 where
+  pub lists : length pairs.lists ≡ number marks * g.states.count
+  pub few : length pairs.values ≤ (m * g.states.count + n) * 2
+  pub fine : AreFine g pairs
+  pub leads : AreLed g (IsListed g marks pairs) m n
 
 -- the positions before this one are in
 pub record AreReturnsTo (g : Game) (returns : Chained PosId) (m : ℕ) : Type 0 where
   pub lists : length returns.lists ≡ length g.spots
   pub few : length returns.values ≤ m
   pub fine : (edge : ℕ) (pos : PosId) → slice_get returns.values edge ≡ Some pos → pos.0 < length g.spots
-  pub leads : (p : ℕ) (call : Called) → p < m → call_in (slice_get g.spots p) ≡ Some call → HasReturn returns (list_at returns.lists call.back) p
+  pub leads : (p : ℕ) (call : Called) → p < m → call_in (slice_get g.spots p) ≡ Some call → HasIn returns call.back (pos_id p)

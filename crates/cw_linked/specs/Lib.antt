@@ -11,6 +11,7 @@ pub mod Popped
 pub mod Tied
 pub mod Added
 pub mod Edges
+pub mod Plain
 pub mod Measures
 pub mod Solving
 pub mod Links

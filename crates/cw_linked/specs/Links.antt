@@ -9,18 +9,19 @@ use Rattle.cw_linked.specs.Added.{AddsContext}
 use Rattle.cw_linked.specs.Measures.{work_left}
 use Rattle.cw_linked.specs.Popped.{IsWork}
 use Rattle.cw_linked.specs.Solving.{IsBeyond}
+use Rattle.cw_linked.specs.Works.{known_of}
 
 -- the number of a context: it was there, or is added
 pub record IsNumbered (g : Game) (old new : Work) (c : Context) (number : ℕ) : Type 0 where
-  pub there : slice_get new.table.contexts.items number ≡ Some c
+  pub there : slice_get new.blocks.contexts.items number ≡ Some c
   pub grows : (new ≡ old) ⊎ AddsContext g old new c
 
 -- or its cells are too many, and nothing changes
 abbrev pub NumbersContext : Game → (old new : Work) → Context → Option ℕ → Type 0
 NumbersContext g old new c (Some number) = IsNumbered g old new c number
-NumbersContext g old new c None = (new ≡ old) × IsBeyond g new.table c
+NumbersContext g old new c None = (new ≡ old) × IsBeyond g (known_of new) c
 
 -- less is left to do, or a context is needed whose cells are too many
 abbrev pub TakesLink : Game → (old new : Work) → Stepped → Type 0
 TakesLink g old new More = IsWork g new × (work_left g new < work_left g old)
-TakesLink g old new (TooMany c) = (new ≡ old) × IsBeyond g new.table c
+TakesLink g old new (TooMany c) = (new ≡ old) × IsBeyond g (known_of new) c

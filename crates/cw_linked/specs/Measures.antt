@@ -23,6 +23,6 @@ ties_left g contexts (suc i) = promised_in g (slice_get contexts i)
 -- The cells that may still come, each with its height and its link's ties, the cells without a height, and the ties of the links that are there.
 abbrev pub work_left : Game → Work → ℕ
 work_left g w =
-    (4194304 - length w.table.heights.items) * (g.states.count + 2)
-    + count_by is_none w.table.heights.items
-    + sum_by (ties_left g w.table.contexts.items) w.store.to
+    (4194304 - length w.store.heights) * (g.states.count + 2)
+    + count_by is_none w.store.heights
+    + sum_by (ties_left g w.blocks.contexts.items) w.store.to

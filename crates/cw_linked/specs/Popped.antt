@@ -2,7 +2,7 @@
 use Rattle.std.specs.Prelude.{◌≡◌, ℕ, ◌+◌, ◌/◌, ◌<◌, List, length, slice_index, slice_set}
 use Rattle.cw_game.specs.Games.{Game}
 use Rattle.cw_links.specs.Keys.{AreFrom, AreEmpty}
-use Rattle.cw_solve.specs.Tables.{IsTable, HasCell}
+use Rattle.cw_solve.specs.Tables.{HasCell}
 use Rattle.cw_linked.specs.declared.popped.Popped.{Popped}
 use Rattle.cw_linked.specs.declared.popped.Popped.TheVariants.{Nothing as Empty, Cell as OfCell, Link as OfLink}
 use Rattle.cw_linked.specs.declared.work.Cell.{Cell}
@@ -11,18 +11,17 @@ use Rattle.cw_linked.specs.Calls.{AreCallers}
 use Rattle.cw_linked.specs.Founds.{AreRight, AllClosed, AllCalled, AllStanding, AreFound}
 use Rattle.cw_linked.specs.Queues.{found_of, AreMarked, AreLong, AreSameBut, AreHigh, AreDue, IsCellAt}
 use Rattle.cw_linked.specs.Steps.{WaitsFor, CallsThere, ReturnsThere}
-use Rattle.cw_linked.specs.Works.{heights_of}
+use Rattle.cw_linked.specs.Works.{known_of, IsKnown, heights_of}
 
 -- the cell at a place had the least key, and has its height now and waits no more
 pub record TakesCell (old new : Work) (place height : ℕ) : Type 0 where
-  pub within : place < length old.table.heights.items
+  pub within : place < length old.store.heights
   pub some : 0 < slice_index old.store.asked place
   pub half : height ≡ slice_index old.store.asked place / 2
   pub least : AreFrom old.store.asked old.store.due (slice_index old.store.asked place)
-  pub contexts : new.table.contexts.items ≡ old.table.contexts.items
-  pub bases : new.table.bases.items ≡ old.table.bases.items
-  pub heights : new.table.heights.items ≡ slice_set old.table.heights.items place height
-  pub written : new.table.written ≡ old.table.written + 1
+  pub blocks : new.blocks ≡ old.blocks
+  pub heights : new.store.heights ≡ slice_set old.store.heights place height
+  pub written : new.written ≡ old.written + 1
   pub marks : new.store.marks ≡ old.store.marks
   pub asked : new.store.asked ≡ slice_set old.store.asked place 0
   pub due : new.store.due ≡ old.store.due
@@ -32,7 +31,7 @@ pub record TakesCell (old new : Work) (place height : ℕ) : Type 0 where
 
 -- the link at a place had the least key, and waits no more
 pub record FreesLink (old new : Work) (place moves : ℕ) : Type 0 where
-  pub within : place < length old.table.heights.items
+  pub within : place < length old.store.heights
   pub some : 0 < slice_index old.store.due place
   pub half : moves ≡ slice_index old.store.due place / 2
   pub least : AreFrom old.store.asked old.store.due (slice_index old.store.due place)
@@ -48,29 +47,29 @@ Pops old new (OfLink place moves) = FreesLink old new place moves
 
 -- what the solver keeps from step to step
 pub record IsWork (g : Game) (w : Work) : Type 0 where
-  pub table : IsTable g w.table
+  pub known : IsKnown g (known_of w)
   pub long : AreLong w
   pub marked : AreMarked g w
   pub high : AreHigh w
   pub callers : AreCallers w
   pub dues : AreDue g w
-  pub found : AreFound g w.table.contexts.items (found_of g w)
+  pub found : AreFound g w.blocks.contexts.items (found_of g w)
 
 -- what it keeps right after a cell is taken at a height
 pub record IsTaken (g : Game) (w : Work) (cell : Cell) (height : ℕ) : Type 0 where
-  pub table : IsTable g w.table
+  pub known : IsKnown g (known_of w)
   pub long : AreLong w
   pub marked : AreMarked g w
   pub high : AreHigh w
   pub callers : AreCallers w
   pub dues : AreDue g w
-  pub there : HasCell g w.table cell.at cell.pos.0 cell.state.0
+  pub there : HasCell g w.blocks cell.at cell.pos.0 cell.state.0
   pub some : 0 < height
-  pub taken : heights_of g w.table cell.at.number cell.pos.0 cell.state.0 ≡ height
-  pub right : AreRight g w.table.contexts.items (found_of g w)
-  pub closed : AllClosed g w.table.contexts.items (found_of g w) (WaitsFor g cell.at.number cell.pos.0 cell.state.0)
-  pub called : AllCalled g w.table.contexts.items (found_of g w) (CallsThere g (found_of g w) cell.at.number cell.pos.0 cell.state.0)
-  pub standing : AllStanding g w.table.contexts.items (found_of g w) (ReturnsThere g w.table.contexts.items (found_of g w) cell.at.number cell.pos.0 cell.state.0)
+  pub taken : heights_of g (known_of w) cell.at.number cell.pos.0 cell.state.0 ≡ height
+  pub right : AreRight g w.blocks.contexts.items (found_of g w)
+  pub closed : AllClosed g w.blocks.contexts.items (found_of g w) (WaitsFor g cell.at.number cell.pos.0 cell.state.0)
+  pub called : AllCalled g w.blocks.contexts.items (found_of g w) (CallsThere g (found_of g w) cell.at.number cell.pos.0 cell.state.0)
+  pub standing : AllStanding g w.blocks.contexts.items (found_of g w) (ReturnsThere g w.blocks.contexts.items (found_of g w) cell.at.number cell.pos.0 cell.state.0)
 
 -- .. where the cell's place is known
 abbrev pub IsTakenAt : Game → Work → (place height : ℕ) → Type 0
@@ -79,5 +78,5 @@ IsTakenAt g w place height = (cell : Cell) → IsCellAt g w place cell → IsTak
 -- after what waited is asked for, where links go to the contexts of these numbers
 pub record Finishes (g : Game) (old new : Work) (numbers : List ℕ) : Type 0 where
   pub kept : IsWork g new
-  pub table : new.table ≡ old.table
+  pub known : known_of new ≡ known_of old
   pub to : new.store.to ≡ numbers

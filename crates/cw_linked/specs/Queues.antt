@@ -1,9 +1,9 @@
--- Working definitions: what the solver's vectors and its store keep, and what is found in them.
-use Rattle.std.specs.Prelude.{◌≡◌, ℕ, ◌+◌, ◌-◌, ◌*◌, ◌<◌, ◌≤◌, List, not, ◌&&◌, ◌||◌, if◌then◌else◌, true, nat_eq, nat_lt, length, slice_index, slice_set}
+-- Working definitions: what the solver's store keeps, and what is found in them.
+use Rattle.std.specs.Prelude.{◌≡◌, ℕ, ◌+◌, ◌-◌, ◌*◌, ◌<◌, ◌≤◌, List, not, true, nat_eq, length, slice_index}
 use Rattle.cw_game.specs.Games.{Game}
 use Rattle.cw_game.specs.Pairs.{Called}
 use Rattle.cw_links.specs.Marks.{is_marked}
-use Rattle.cw_links.specs.Keys.{lowered}
+use Rattle.cw_links.specs.Keys.{asked_with, lowered}
 use Rattle.cw_solve.specs.declared.contexts.Context.{Context}
 use Rattle.cw_solve.specs.Tabled.{Tabled}
 use Rattle.cw_product.specs.Routed.{IsOf}
@@ -14,43 +14,38 @@ use Rattle.cw_linked.specs.declared.work.Cell.{Cell}
 use Rattle.cw_linked.specs.declared.work.Work.{Work}
 use Rattle.cw_linked.specs.Founds.{Found, IsLink, AreRight, IsClosed, Nothing, AllClosed}
 use Rattle.cw_linked.specs.Steps.{Lowers}
-use Rattle.cw_linked.specs.Works.{place_at, value_at, heights_of, AreUpTo}
+use Rattle.cw_linked.specs.Works.{known_of, place_at, value_at, heights_of, AreUpTo}
 
--- what is found, read off the vectors: a link is tied where its number isn't 0, to the context of the number before
+-- what is found, read off the store: a link is tied where its number isn't 0, to the context of the number before
 abbrev pub found_of : Game → Work → Found
 found_of g w = record {
-  height = heights_of g w.table;
-  asked = value_at g w.table.contexts.items w.store.asked;
-  to = λ i p k. value_at g w.table.contexts.items w.store.to i p k - 1;
-  wave = value_at g w.table.contexts.items w.store.waves;
-  due = value_at g w.table.contexts.items w.store.due;
-  tied = λ i p k. not (nat_eq (value_at g w.table.contexts.items w.store.to i p k) 0);
+  height = heights_of g (known_of w);
+  asked = value_at g w.blocks.contexts.items w.store.asked;
+  to = λ i p k. value_at g w.blocks.contexts.items w.store.to i p k - 1;
+  wave = value_at g w.blocks.contexts.items w.store.waves;
+  due = value_at g w.blocks.contexts.items w.store.due;
+  tied = λ i p k. not (nat_eq (value_at g w.blocks.contexts.items w.store.to i p k) 0);
 }
 
--- each vector has a number for each cell
+-- each list has a number for each cell
 pub record AreLong (w : Work) : Type 0 where
-  pub marks : length w.store.marks ≡ length w.table.heights.items
-  pub asked : length w.store.asked ≡ length w.table.heights.items
-  pub due : length w.store.due ≡ length w.table.heights.items
-  pub to : length w.store.to ≡ length w.table.heights.items
-  pub waves : length w.store.waves ≡ length w.table.heights.items
+  pub marks : length w.store.marks ≡ length w.store.heights
+  pub asked : length w.store.asked ≡ length w.store.heights
+  pub due : length w.store.due ≡ length w.store.heights
+  pub to : length w.store.to ≡ length w.store.heights
+  pub waves : length w.store.waves ≡ length w.store.heights
 
 -- all but the keys of cells and of links is the same
 pub record AreSameBut (old new : Work) : Type 0 where
-  pub table : new.table ≡ old.table
+  pub known : known_of new ≡ known_of old
   pub marks : new.store.marks ≡ old.store.marks
   pub to : new.store.to ≡ old.store.to
   pub waves : new.store.waves ≡ old.store.waves
   pub lists : new.store.lists ≡ old.store.lists
 
--- the keys with this one at a place, unless the cell has a height or a lower key stands there
-abbrev pub asked_with : (heights asked : List ℕ) (place key : ℕ) → List ℕ
-asked_with heights asked place key =
-    if nat_eq (slice_index heights place) 0 && (nat_eq (slice_index asked place) 0 || nat_lt key (slice_index asked place)) then slice_set asked place key else asked
-
 pub record AsksForCell (old new : Work) (place key : ℕ) : Type 0 where
   pub others : AreSameBut old new
-  pub asked : new.store.asked ≡ asked_with old.table.heights.items old.store.asked place key
+  pub asked : new.store.asked ≡ asked_with old.store.heights old.store.asked place key
   pub due : new.store.due ≡ old.store.due
 
 pub record AsksForLink (old new : Work) (place key : ℕ) : Type 0 where
@@ -60,8 +55,8 @@ pub record AsksForLink (old new : Work) (place key : ℕ) : Type 0 where
 
 -- the cell at a place
 pub record IsCellAt (g : Game) (w : Work) (k : ℕ) (cell : Cell) : Type 0 where
-  pub is : HasCell g w.table cell.at cell.pos.0 cell.state.0
-  pub place : k ≡ slot g w.table.contexts.items cell.at.number cell.at.context.function cell.pos.0 cell.state.0
+  pub is : HasCell g w.blocks cell.at cell.pos.0 cell.state.0
+  pub place : k ≡ slot g w.blocks.contexts.items cell.at.number cell.at.context.function cell.pos.0 cell.state.0
 
 -- a context whose cells have the place among theirs
 abbrev pub IsOwner : Game → List Context → (i place : ℕ) → Type 0
@@ -69,10 +64,10 @@ IsOwner g contexts i place = (i < length contexts) × (base g contexts i ≤ pla
 
 -- heights, numbers of moves and keys are no higher than so many cells have heights
 pub record AreHigh (w : Work) : Type 0 where
-  pub heights : AreUpTo w.table.heights.items w.table.written
-  pub asked : AreUpTo w.store.asked (2 * w.table.written + 2)
-  pub due : AreUpTo w.store.due (2 * w.table.written + 1)
-  pub waves : AreUpTo w.store.waves w.table.written
+  pub heights : AreUpTo w.store.heights w.written
+  pub asked : AreUpTo w.store.asked (2 * w.written + 2)
+  pub due : AreUpTo w.store.due (2 * w.written + 1)
+  pub waves : AreUpTo w.store.waves w.written
 
 -- the place of a link
 abbrev pub IsLinkAt : Game → List Context → ℕ → Type 0
@@ -80,19 +75,19 @@ IsLinkAt g contexts k = (i : ℕ) × (c : Context) × (p : ℕ) × (x : ℕ) × 
 
 -- each is marked
 abbrev pub AreMarked : Game → Work → Type 0
-AreMarked g w = (k : ℕ) → IsLinkAt g w.table.contexts.items k → is_marked w.store.marks k ≡ true
+AreMarked g w = (k : ℕ) → IsLinkAt g w.blocks.contexts.items k → is_marked w.store.marks k ≡ true
 
 -- only links wait as such, and one that goes to a context under more than 1
 abbrev pub AreDue : Game → Work → Type 0
-AreDue g w = (k : ℕ) → k < length w.table.heights.items → 0 < slice_index w.store.due k → IsLinkAt g w.table.contexts.items k × (0 < slice_index w.store.to k → 1 < slice_index w.store.due k)
+AreDue g w = (k : ℕ) → k < length w.store.heights → 0 < slice_index w.store.due k → IsLinkAt g w.blocks.contexts.items k × (0 < slice_index w.store.to k → 1 < slice_index w.store.due k)
 
 -- cells and links wait under lower keys, and nothing else changes
 pub record LowersKeys (g : Game) (old new : Work) : Type 0 where
   pub others : AreSameBut old new
   pub long : AreLong new
   pub high : AreHigh new
-  pub lowers : Lowers g old.table.contexts.items (found_of g old) (value_at g old.table.contexts.items new.store.asked) (value_at g old.table.contexts.items new.store.due)
-  pub right : AreRight g old.table.contexts.items (found_of g new)
+  pub lowers : Lowers g old.blocks.contexts.items (found_of g old) (value_at g old.blocks.contexts.items new.store.asked) (value_at g old.blocks.contexts.items new.store.due)
+  pub right : AreRight g old.blocks.contexts.items (found_of g new)
   pub dues : AreDue g old → AreDue g new
 
 -- and a cell is asked for where the taken heights tell that it is lost
@@ -109,4 +104,4 @@ pub record AsksPair (g : Game) (old new : Work) (cell : Cell) (pair : Pair) : Ty
 -- and of all that wait
 pub record AsksWaiting (g : Game) (old new : Work) : Type 0 where
   pub step : LowersKeys g old new
-  pub closed : AllClosed g old.table.contexts.items (found_of g new) Nothing
+  pub closed : AllClosed g old.blocks.contexts.items (found_of g new) Nothing

@@ -5,39 +5,39 @@ use Rattle.cw_game.specs.Pairs.{Called}
 use Rattle.cw_solve.specs.declared.contexts.Context.{Context}
 use Rattle.cw_solve.specs.Contexts.{IsSetOf}
 use Rattle.cw_solve.specs.Rounds.{holds_by}
-use Rattle.cw_solve.specs.Tables.{IsTable}
 use Rattle.cw_linked.specs.declared.work.Cell.{Cell}
 use Rattle.cw_linked.specs.declared.work.Work.{Work}
 use Rattle.cw_linked.specs.Calls.{AreCallers}
 use Rattle.cw_linked.specs.Founds.{IsLink, height_back, IsShrinking, AreRight, Nothing, AllClosed, AllCalled, AllStanding}
 use Rattle.cw_linked.specs.Queues.{found_of, AreMarked, AreLong, AreHigh, AreDue, LowersKeys, IsCellAt}
 use Rattle.cw_linked.specs.Steps.{IsReady, CallsBy, IsIt}
+use Rattle.cw_linked.specs.Works.{known_of, IsKnown}
 
 -- what the solver keeps but for what waits
 pub record IsFirm (g : Game) (w : Work) : Type 0 where
-  pub table : IsTable g w.table
+  pub known : IsKnown g (known_of w)
   pub long : AreLong w
   pub marked : AreMarked g w
   pub high : AreHigh w
   pub callers : AreCallers w
   pub dues : AreDue g w
-  pub right : AreRight g w.table.contexts.items (found_of g w)
+  pub right : AreRight g w.blocks.contexts.items (found_of g w)
 
 -- what it keeps right after a link stopped waiting for so many moves
 pub record IsFreed (g : Game) (w : Work) (link : Cell) (place moves : ℕ) : Type 0 where
   pub firm : IsFirm g w
   pub at : IsCellAt g w place link
-  pub low : moves ≤ w.table.written
-  pub call : (call : Called) × IsLink g w.table.contexts.items link.at.number link.at.context link.pos.0 link.state.0 call
+  pub low : moves ≤ w.written
+  pub call : (call : Called) × IsLink g w.blocks.contexts.items link.at.number link.at.context link.pos.0 link.state.0 call
   pub free : slice_index w.store.due place ≡ 0
-  pub closed : AllClosed g w.table.contexts.items (found_of g w) Nothing
-  pub called : AllCalled g w.table.contexts.items (found_of g w) Nothing
-  pub standing : AllStanding g w.table.contexts.items (found_of g w) (IsIt link.at.number link.pos.0 link.state.0)
-  pub ready : (call : Called) (set : ℕ) → IsLink g w.table.contexts.items link.at.number link.at.context link.pos.0 link.state.0 call
+  pub closed : AllClosed g w.blocks.contexts.items (found_of g w) Nothing
+  pub called : AllCalled g w.blocks.contexts.items (found_of g w) Nothing
+  pub standing : AllStanding g w.blocks.contexts.items (found_of g w) (IsIt link.at.number link.pos.0 link.state.0)
+  pub ready : (call : Called) (set : ℕ) → IsLink g w.blocks.contexts.items link.at.number link.at.context link.pos.0 link.state.0 call
       → IsSetOf g set (λ y. holds_by moves (height_back g (found_of g w) link.at.number call link.state.0 y))
-      → IsReady g w.table.contexts.items (found_of g w) link.at.number link.at.context link.pos.0 link.state.0 call moves set
-  pub shrinks : (call : Called) → IsLink g w.table.contexts.items link.at.number link.at.context link.pos.0 link.state.0 call → 0 < slice_index w.store.to place
-      → IsShrinking g w.table.contexts.items (found_of g w) link.at.number link.pos.0 link.state.0 call moves
+      → IsReady g w.blocks.contexts.items (found_of g w) link.at.number link.at.context link.pos.0 link.state.0 call moves set
+  pub shrinks : (call : Called) → IsLink g w.blocks.contexts.items link.at.number link.at.context link.pos.0 link.state.0 call → 0 < slice_index w.store.to place
+      → IsShrinking g w.blocks.contexts.items (found_of g w) link.at.number link.pos.0 link.state.0 call moves
 
 -- .. where the link's place is known
 abbrev pub IsFreedAt : Game → Work → (place moves : ℕ) → Type 0
@@ -47,18 +47,18 @@ IsFreedAt g w place moves = (link : Cell) → IsCellAt g w place link → IsFree
 pub record IsTieable (g : Game) (w : Work) (link : Cell) (place moves callee back : ℕ) (to : Context) : Type 0 where
   pub firm : IsFirm g w
   pub at : IsCellAt g w place link
-  pub low : moves ≤ w.table.written
+  pub low : moves ≤ w.written
   pub free : slice_index w.store.due place ≡ 0
-  pub closed : AllClosed g w.table.contexts.items (found_of g w) Nothing
-  pub called : AllCalled g w.table.contexts.items (found_of g w) Nothing
-  pub standing : AllStanding g w.table.contexts.items (found_of g w) (IsIt link.at.number link.pos.0 link.state.0)
-  pub there : slice_get w.table.contexts.items callee ≡ Some to
-  pub ready : (call : Called) × IsLink g w.table.contexts.items link.at.number link.at.context link.pos.0 link.state.0 call × (call.back ≡ back) × (call.function ≡ to.function)
-      × IsReady g w.table.contexts.items (found_of g w) link.at.number link.at.context link.pos.0 link.state.0 call moves to.promise
+  pub closed : AllClosed g w.blocks.contexts.items (found_of g w) Nothing
+  pub called : AllCalled g w.blocks.contexts.items (found_of g w) Nothing
+  pub standing : AllStanding g w.blocks.contexts.items (found_of g w) (IsIt link.at.number link.pos.0 link.state.0)
+  pub there : slice_get w.blocks.contexts.items callee ≡ Some to
+  pub ready : (call : Called) × IsLink g w.blocks.contexts.items link.at.number link.at.context link.pos.0 link.state.0 call × (call.back ≡ back) × (call.function ≡ to.function)
+      × IsReady g w.blocks.contexts.items (found_of g w) link.at.number link.at.context link.pos.0 link.state.0 call moves to.promise
 
 -- the link at a place goes to a context, with a promise for so many moves
 pub record TiesLink (old new : Work) (place number moves : ℕ) : Type 0 where
-  pub table : new.table ≡ old.table
+  pub known : known_of new ≡ known_of old
   pub marks : new.store.marks ≡ old.store.marks
   pub asked : new.store.asked ≡ old.store.asked
   pub due : new.store.due ≡ old.store.due
@@ -69,7 +69,7 @@ pub record TiesLink (old new : Work) (place number moves : ℕ) : Type 0 where
 -- the calls of a link are asked for whose callee is lost
 pub record AsksCalls (g : Game) (old new : Work) : Type 0 where
   pub step : LowersKeys g old new
-  pub called : AllCalled g old.table.contexts.items (found_of g new) Nothing
+  pub called : AllCalled g old.blocks.contexts.items (found_of g new) Nothing
 
 -- the calls of a link from a state on
 abbrev pub CallsFrom : Game → (j r x from : ℕ) → ℕ → ℕ → ℕ → Type 0
@@ -78,4 +78,4 @@ CallsFrom g j r x from i p q = CallsBy g j r x i p q × (from ≤ q)
 -- a link stands again
 pub record AsksAgain (g : Game) (old new : Work) : Type 0 where
   pub step : LowersKeys g old new
-  pub standing : AllStanding g old.table.contexts.items (found_of g new) Nothing
+  pub standing : AllStanding g old.blocks.contexts.items (found_of g new) Nothing

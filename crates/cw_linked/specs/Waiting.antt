@@ -1,13 +1,15 @@
 -- Working definitions: what waits for a pair, the same in all contexts.
-use Rattle.std.specs.Prelude.{◌≡◌, ℕ, ◌+◌, ◌*◌, ◌<◌, Bool, true, false, Option, Some, length, slice_get, slice_index_or, Contains}
-use Rattle.cw_core.specs.declared.ids.PosId.{PosId}
+use Rattle.std.specs.Prelude.{◌≡◌, ℕ, ◌+◌, ◌*◌, ◌<◌, Bool, true, false, List, Option, Some, length, slice_get, Contains}
 use Rattle.cw_game.specs.declared.spots.Spot.{Spot}
 use Rattle.cw_game.specs.declared.spots.Spot.TheVariants.{Visit, Step, Branch}
 use Rattle.cw_game.specs.Games.{Game}
+use Rattle.cw_links.specs.Flat.{row_at}
 use Rattle.cw_links.specs.Lists.{Chained, list_at}
+use Rattle.cw_links.specs.Marks.{is_marked, number, rank}
 use Rattle.cw_product.specs.Moves.{pos_id}
 use Rattle.cw_linked.specs.declared.edges.Pair.{Pair}
 use Rattle.cw_linked.specs.declared.edges.Changes.{Changes}
+use Rattle.cw_linked.specs.declared.edges.Source.{Source}
 use Rattle.cw_linked.specs.declared.edges.Waits.{Waits}
 use Rattle.cw_linked.specs.declared.work.Cell.{Cell}
 use Rattle.cw_linked.specs.declared.work.Work.{Work}
@@ -18,9 +20,9 @@ use Rattle.cw_linked.specs.Steps.{Leads, WaitsFor}
 abbrev pub pair_of : (p q : ℕ) → Pair
 pair_of p q = record { pos = record { 0 = p }; state = record { 0 = q } }
 
--- the number of a pair
-abbrev pub pair_number : Game → (p q : ℕ) → ℕ
-pair_number g p q = p * g.states.count + q
+-- the number of the list of a pair whose position is marked: those of a position stand together, behind those of the marked positions before it
+abbrev pub list_of : Game → List Bool → (p q : ℕ) → ℕ
+list_of g marks p q = rank marks p * g.states.count + q
 
 -- a link of a list has a value
 abbrev pub HasIn : {T : Type 0} → Chained T → ℕ → T → Type 0
@@ -33,19 +35,31 @@ keeps_state (Some (Step n)) = true
 keeps_state (Some (Branch m n)) = true
 keeps_state _ = false
 
--- For each position a list, which has the positions that keep the state and lead there.
-pub record AreSources (g : Game) (sources : Chained PosId) : Type 0 where
-  pub lists : length sources.lists ≡ length g.spots
-  pub leads : (p q r x : ℕ) → p < length g.spots → keeps_state (slice_get g.spots p) ≡ true → Leads g p q r x → HasIn sources r (pos_id p)
+abbrev pub is_step : Option Spot → Bool
+is_step (Some (Step n)) = true
+is_step _ = false
+
+abbrev pub source_at : Game → ℕ → Source
+source_at g p = record { pos = pos_id p; step = is_step (slice_get g.spots p) }
+
+-- where a source is a step, it leads to this position
+abbrev pub IsStepTo : Game → Source → ℕ → Type 0
+IsStepTo g source r = source.step ≡ true → slice_get g.spots source.pos.0 ≡ Some (Step r)
+
+-- For each position a row, which has the positions that keep the state and lead there, and tells which of them are steps.
+pub record AreSources (g : Game) (sources : List (List Source)) : Type 0 where
+  pub rows : length sources ≡ length g.spots
+  pub steps : (r : ℕ) (source : Source) → Contains (row_at sources r) source → IsStepTo g source r
+  pub leads : (p q r x : ℕ) → p < length g.spots → keeps_state (slice_get g.spots p) ≡ true → Leads g p q r x → Contains (row_at sources r) (source_at g p)
 
 -- the pair (p, q) is in the list of (r, x), and r is marked
 abbrev pub IsChange : Game → Changes → (p q r x : ℕ) → Type 0
-IsChange g changes p q r x = HasIn changes.pairs (pair_number g r x) (pair_of p q) × (slice_index_or changes.marks.items r false ≡ true)
+IsChange g changes p q r x = HasIn changes.pairs (list_of g changes.marks r x) (pair_of p q) × (is_marked changes.marks r ≡ true)
 
--- For each pair a list, which has the pairs at the other positions from which a move leads there.
+-- For each pair at a marked position a list. That of a pair has the pairs at the other positions from which a move leads there, and all positions to which one leads are marked.
 pub record AreChanges (g : Game) (changes : Changes) : Type 0 where
-  pub lists : length changes.pairs.lists ≡ length g.spots * g.states.count
-  pub marks : length changes.marks.items ≡ length g.spots
+  pub lists : length changes.pairs.lists ≡ number changes.marks * g.states.count
+  pub marks : length changes.marks ≡ length g.spots
   pub fine : (edge : ℕ) (pair : Pair) → slice_get changes.pairs.values edge ≡ Some pair → (pair.pos.0 < length g.spots) × (pair.state.0 < g.states.count)
   pub leads : (p q r x : ℕ) → p < length g.spots → q < g.states.count → keeps_state (slice_get g.spots p) ≡ false → Leads g p q r x → IsChange g changes p q r x
 
@@ -60,4 +74,4 @@ ChangesFor g j r x i p q = (keeps_state (slice_get g.spots p) ≡ false) × Wait
 -- keys become lower, and all that waits for the cell is asked for but for these
 pub record AsksSources (g : Game) (old new : Work) (cell : Cell) : Type 0 where
   pub step : LowersKeys g old new
-  pub closed : AllClosed g old.table.contexts.items (found_of g new) (ChangesFor g cell.at.number cell.pos.0 cell.state.0)
+  pub closed : AllClosed g old.blocks.contexts.items (found_of g new) (ChangesFor g cell.at.number cell.pos.0 cell.state.0)

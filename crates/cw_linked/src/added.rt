@@ -4,9 +4,10 @@ ghost use Rattle.std.specs.Prelude.{◌∷◌, ◌++◌, [], length, OnOk};
 ghost use Rattle.cw_product.specs.Product.{game_of};
 ghost use Rattle.cw_product.specs.Routed.{AreRouted, IsOf};
 ghost use Rattle.cw_solve.specs.Contexts.{size};
-ghost use Rattle.cw_solve.specs.Tables.{IsTable, IsTabled, HasCell, AreTabled};
+ghost use Rattle.cw_solve.specs.Tables.{IsTabled, HasCell, AreTabled};
 ghost use Rattle.cw_linked.specs.Added.{ThePair, AllOf, Each, FreesLinks, Pushes, IsOpen, AddsContext};
 ghost use Rattle.cw_linked.specs.Queues.{AreMarked, AreLong};
+ghost use Rattle.cw_linked.specs.Works.{known_of, IsKnown};
 
 use crate::asked::ask_all;
 use crate::calls::{class_at, is_call, is_same};
@@ -15,7 +16,7 @@ use crate::work::{Work, ask_link};
 use cw_core::{NoMemory, PosId, StateId};
 use cw_product::Game;
 use cw_solve::Context;
-use cw_solve::table::{Tabled, numbered, size, slot};
+use cw_solve::table::{Tabled, numbered, slot};
 use std::alloc::Global;
 
 /// Has the link of a cell wait to be tied, if the cell is that of one.
@@ -27,8 +28,8 @@ fn free_link(
     state: StateId,
 ) -> Result<(), NoMemory>
     requires routed { AreRouted (game_of game.now) (length game.now.graph.parts.items) }
-    requires table { IsTable (game_of game.now) work.old.table }
-    requires cell { HasCell (game_of game.now) work.old.table at.now pos.0 state.0 }
+    requires known { IsKnown (game_of game.now) (known_of work.old) }
+    requires cell { HasCell (game_of game.now) work.old.blocks at.now pos.0 state.0 }
     requires long { AreLong work.old }
     requires marked { AreMarked (game_of game.now) work.old }
     ensures { OnOk result (FreesLinks (game_of game.now) work.old work.new at.now.number at.now.context (ThePair pos.0 state.0)) }
@@ -37,7 +38,7 @@ fn free_link(
         None => Ok(()),
         Some(class) => {
             if is_same(class, state) {
-                let place = slot(game, &work.table, at, pos, state);
+                let place = slot(game, &work.blocks, at, pos, state);
                 ask_link(work, place, 1)?;
                 Ok(())
             } else {
@@ -50,8 +51,8 @@ fn free_link(
 /// Has the links at a position wait to be tied.
 fn free_links(game: &Game, work: &mut Work, at: &Tabled, pos: PosId) -> Result<(), NoMemory>
     requires routed { AreRouted (game_of game.now) (length game.now.graph.parts.items) }
-    requires table { IsTable (game_of game.now) work.old.table }
-    requires tabled { IsTabled work.old.table at.now }
+    requires known { IsKnown (game_of game.now) (known_of work.old) }
+    requires tabled { IsTabled work.old.blocks at.now }
     requires of { IsOf (game_of game.now) at.now.context.function pos.0 }
     requires long { AreLong work.old }
     requires marked { AreMarked (game_of game.now) work.old }
@@ -69,8 +70,8 @@ fn free_links(game: &Game, work: &mut Work, at: &Tabled, pos: PosId) -> Result<(
 /// Has the links of a context wait to be tied.
 fn free_all(game: &Game, work: &mut Work, at: &Tabled) -> Result<(), NoMemory>
     requires routed { AreRouted (game_of game.now) (length game.now.graph.parts.items) }
-    requires table { IsTable (game_of game.now) work.old.table }
-    requires tabled { IsTabled work.old.table at.now }
+    requires known { IsKnown (game_of game.now) (known_of work.old) }
+    requires tabled { IsTabled work.old.blocks at.now }
     requires long { AreLong work.old }
     requires marked { AreMarked (game_of game.now) work.old }
     ensures { OnOk result (FreesLinks (game_of game.now) work.old work.new at.now.number at.now.context Each) }
@@ -82,17 +83,18 @@ fn free_all(game: &Game, work: &mut Work, at: &Tabled) -> Result<(), NoMemory>
     Ok(())
 }
 
-/// Adds a context to the vectors, of which nothing waits.
+/// Adds a context and its places, of which nothing waits.
 fn enlarge(alloc: Global, game: &Game, work: &mut Work, context: &Context) -> Result<(), NoMemory>
     requires routed { AreRouted (game_of game.now) (length game.now.graph.parts.items) }
     requires kept { IsOpen (game_of game.now) work.old }
-    requires contexts { AreTabled (game_of game.now) (work.old.table.contexts.items ++ context.now ∷ []) }
+    requires contexts { AreTabled (game_of game.now) (work.old.blocks.contexts.items ++ context.now ∷ []) }
     ensures { OnOk result (Pushes (game_of game.now) work.old work.new context.now (size (game_of game.now) context.now.function)) }
 {
-    let lists = work.table.contexts.len() as u32 + 2;
+    let lists = work.blocks.contexts.len() as u32 + 2;
+    let base = work.store.places() as u32;
     work.store.reach(alloc, lists)?;
     push_places(game, &mut work.store, context.function)?;
-    push(work, *context, size(game, context.function))?;
+    push(&mut work.blocks, *context, base)?;
     Ok(())
 }
 
@@ -105,12 +107,12 @@ pub(crate) fn add(
 ) -> Result<(), NoMemory>
     requires routed { AreRouted (game_of game.now) (length game.now.graph.parts.items) }
     requires kept { IsOpen (game_of game.now) work.old }
-    requires contexts { AreTabled (game_of game.now) (work.old.table.contexts.items ++ context ∷ []) }
+    requires contexts { AreTabled (game_of game.now) (work.old.blocks.contexts.items ++ context ∷ []) }
     ensures { OnOk result (AddsContext (game_of game.now) work.old work.new context) }
 {
-    let number = work.table.contexts.len();
+    let number = work.blocks.contexts.len();
     enlarge(alloc, game, work, &context)?;
-    let at = numbered(game, &work.table, number);
+    let at = numbered(game, &work.blocks, number);
     free_all(game, work, &at)?;
     ask_all(game, work, &at)?;
     Ok(())

@@ -4,11 +4,12 @@ ghost use Rattle.std.specs.Prelude.{◌≡◌, length, slice_get, OnOk};
 ghost use Rattle.cw_product.specs.Product.{game_of};
 ghost use Rattle.cw_product.specs.Moves.{IsPosition};
 ghost use Rattle.cw_product.specs.Routed.{AreRouted, IsOf};
-ghost use Rattle.cw_solve.specs.Tables.{IsTable, IsTabled};
+ghost use Rattle.cw_solve.specs.Tables.{IsTabled};
 ghost use Rattle.cw_linked.specs.Added.{AllOf, Each, loss_begins_in, HasNoHeights, AsksCells};
 ghost use Rattle.cw_linked.specs.Blocks.{IsBlock};
 ghost use Rattle.cw_linked.specs.Founds.{AreRight};
 ghost use Rattle.cw_linked.specs.Queues.{found_of, AreLong, AreHigh};
+ghost use Rattle.cw_linked.specs.Works.{known_of, IsKnown};
 
 use crate::block::{Block, block_of};
 use crate::told::ask_told;
@@ -38,14 +39,14 @@ fn ask_position(
     pos: PosId,
 ) -> Result<(), NoMemory>
     requires routed { AreRouted (game_of game.now) (length game.now.graph.parts.items) }
-    requires table { IsTable (game_of game.now) work.old.table }
-    requires tabled { IsTabled work.old.table at.now }
-    requires block { IsBlock (game_of game.now) work.old.table at.now block.now }
+    requires known { IsKnown (game_of game.now) (known_of work.old) }
+    requires tabled { IsTabled work.old.blocks at.now }
+    requires block { IsBlock (game_of game.now) work.old.blocks at.now block.now }
     requires of { IsOf (game_of game.now) at.now.context.function pos.0 }
     requires long { AreLong work.old }
     requires high { AreHigh work.old }
-    requires right { AreRight (game_of game.now) work.old.table.contexts.items (found_of (game_of game.now) work.old) }
-    requires fresh { HasNoHeights (game_of game.now) work.old.table at.now }
+    requires right { AreRight (game_of game.now) work.old.blocks.contexts.items (found_of (game_of game.now) work.old) }
+    requires fresh { HasNoHeights (game_of game.now) (known_of work.old) at.now }
     ensures { OnOk result (AsksCells (game_of game.now) work.old work.new at.now.number at.now.context (AllOf pos.0)) }
 {
     if !loss_begins(game, pos) {
@@ -60,15 +61,15 @@ fn ask_position(
 /// Asks for the cells of a context of which none has a height.
 pub(crate) fn ask_all(game: &Game, work: &mut Work, at: &Tabled) -> Result<(), NoMemory>
     requires routed { AreRouted (game_of game.now) (length game.now.graph.parts.items) }
-    requires table { IsTable (game_of game.now) work.old.table }
-    requires tabled { IsTabled work.old.table at.now }
+    requires known { IsKnown (game_of game.now) (known_of work.old) }
+    requires tabled { IsTabled work.old.blocks at.now }
     requires long { AreLong work.old }
     requires high { AreHigh work.old }
-    requires right { AreRight (game_of game.now) work.old.table.contexts.items (found_of (game_of game.now) work.old) }
-    requires fresh { HasNoHeights (game_of game.now) work.old.table at.now }
+    requires right { AreRight (game_of game.now) work.old.blocks.contexts.items (found_of (game_of game.now) work.old) }
+    requires fresh { HasNoHeights (game_of game.now) (known_of work.old) at.now }
     ensures { OnOk result (AsksCells (game_of game.now) work.old work.new at.now.number at.now.context Each) }
 {
-    let block = block_of(game, &work.table, at);
+    let block = block_of(game, &work.blocks, at);
     let function = at.function();
     for p in game.entry(function).0..game.exit(function).0 + 1 {
         ask_position(game, work, at, &block, PosId(p))?;

@@ -3,15 +3,16 @@
 ghost use Rattle.std.specs.Prelude.{◌≡◌, ◌<◌, ◌↔◌, IsTrue, length};
 ghost use Rattle.cw_product.specs.Product.{game_of};
 ghost use Rattle.cw_product.specs.Routed.{AreRouted, IsOf};
+ghost use Rattle.cw_solve.specs.Contexts.{cells_of};
 ghost use Rattle.cw_solve.specs.Rounds.{slot};
-ghost use Rattle.cw_solve.specs.Tables.{IsTable, IsTabled, HasCell};
+ghost use Rattle.cw_solve.specs.Tables.{AreBlocks, IsTabled, HasCell};
 ghost use Rattle.cw_linked.specs.Blocks.{IsBlock};
 ghost use Rattle.cw_linked.specs.Runs.{AreRuns};
 
 use crate::divisor::Divisor;
 use cw_core::{PosId, StateId};
 use cw_product::Game;
-use cw_solve::table::{Table, Tabled, positions};
+use cw_solve::table::{Blocks, Tabled, positions};
 
 /// Where the cells of a context stand: the place of the first one, the first position of its function, and how many positions
 /// it has. To ask the game for these takes as long as all else that finds the place of a cell, so it is asked once for all
@@ -24,15 +25,15 @@ pub(crate) struct Block {
 }
 
 /// The block of a context.
-pub(crate) fn block_of(game: &Game, table: &Table, at: &Tabled) -> Block
+pub(crate) fn block_of(game: &Game, blocks: &Blocks, at: &Tabled) -> Block
     requires routed { AreRouted (game_of game.now) (length game.now.graph.parts.items) }
-    requires table { IsTable (game_of game.now) table.now }
-    requires tabled { IsTabled table.now at.now }
-    ensures { IsBlock (game_of game.now) table.now at.now result }
+    requires blocks { AreBlocks (game_of game.now) blocks.now }
+    requires tabled { IsTabled blocks.now at.now }
+    ensures { IsBlock (game_of game.now) blocks.now at.now result }
 {
     let function = at.function();
     Block {
-        base: table.bases[at.number()],
+        base: blocks.bases[at.number()],
         first: game.entry(function).0,
         many: positions(game, function),
     }
@@ -40,17 +41,17 @@ pub(crate) fn block_of(game: &Game, table: &Table, at: &Tabled) -> Block
 
 /// The block of a context, where the numbers of positions of functions are known.
 #[inline(always)]
-pub(crate) fn block_by(game: &Game, runs: &[Divisor], table: &Table, at: &Tabled) -> Block
+pub(crate) fn block_by(game: &Game, runs: &[Divisor], blocks: &Blocks, at: &Tabled) -> Block
     requires routed { AreRouted (game_of game.now) (length game.now.graph.parts.items) }
     requires runs { AreRuns (game_of game.now) (length game.now.graph.parts.items) runs.now }
-    requires table { IsTable (game_of game.now) table.now }
-    requires tabled { IsTabled table.now at.now }
-    ensures { IsBlock (game_of game.now) table.now at.now result }
+    requires blocks { AreBlocks (game_of game.now) blocks.now }
+    requires tabled { IsTabled blocks.now at.now }
+    ensures { IsBlock (game_of game.now) blocks.now at.now result }
 {
     let function = at.function();
     let run = &runs[function as usize];
     Block {
-        base: table.bases[at.number()],
+        base: blocks.bases[at.number()],
         first: game.entry(function).0,
         many: run.by(),
     }
@@ -58,12 +59,12 @@ pub(crate) fn block_by(game: &Game, runs: &[Divisor], table: &Table, at: &Tabled
 
 /// Whether a position is one of the context's function.
 #[inline(always)]
-pub(crate) fn is_in(game: &Game, table: &Table, at: &Tabled, block: &Block, pos: PosId) -> bool
-    requires block { IsBlock (game_of game.now) table.now at.now block.now }
+pub(crate) fn is_in(game: &Game, blocks: &Blocks, at: &Tabled, block: &Block, pos: PosId) -> bool
+    requires block { IsBlock (game_of game.now) blocks.now at.now block.now }
     ensures { IsTrue result ↔ IsOf (game_of game.now) at.now.context.function pos.0 }
 {
     let _ = game;
-    let _ = table;
+    let _ = blocks;
     let _ = at;
     if pos.0 < block.first {
         return false;
@@ -75,21 +76,21 @@ pub(crate) fn is_in(game: &Game, table: &Table, at: &Tabled, block: &Block, pos:
 #[inline(always)]
 pub(crate) fn place_in(
     game: &Game,
-    table: &Table,
+    blocks: &Blocks,
     at: &Tabled,
     block: &Block,
     pos: PosId,
     state: StateId,
 ) -> usize
     requires routed { AreRouted (game_of game.now) (length game.now.graph.parts.items) }
-    requires table { IsTable (game_of game.now) table.now }
-    requires cell { HasCell (game_of game.now) table.now at.now pos.0 state.0 }
-    requires block { IsBlock (game_of game.now) table.now at.now block.now }
-    ensures is { result ≡ slot (game_of game.now) table.now.contexts.items at.now.number at.now.context.function pos.0 state.0 }
-    ensures within { result < length table.now.heights.items }
+    requires blocks { AreBlocks (game_of game.now) blocks.now }
+    requires cell { HasCell (game_of game.now) blocks.now at.now pos.0 state.0 }
+    requires block { IsBlock (game_of game.now) blocks.now at.now block.now }
+    ensures is { result ≡ slot (game_of game.now) blocks.now.contexts.items at.now.number at.now.context.function pos.0 state.0 }
+    ensures within { result < cells_of (game_of game.now) blocks.now.contexts.items }
 {
     let _ = game;
-    let _ = table;
+    let _ = blocks;
     let _ = at;
     let run = state.0 as usize * block.many as usize;
     block.base as usize + (run + (pos.0 - block.first) as usize)

@@ -8,44 +8,48 @@ ghost use Rattle.cw_product.specs.Moves.{IsState, next_at};
 ghost use Rattle.cw_solve.specs.Asking.{holds_after, holds_by_moves};
 ghost use Rattle.cw_product.specs.Routed.{AreRouted};
 ghost use Rattle.cw_solve.specs.Rounds.{holds_by};
-ghost use Rattle.cw_solve.specs.Tables.{IsTable, IsTabled, HasCell};
+ghost use Rattle.cw_solve.specs.Tables.{IsTabled, HasCell};
 ghost use Rattle.cw_linked.specs.Blocks.{IsBlock};
 ghost use Rattle.cw_linked.specs.Founds.{told};
+ghost use Rattle.cw_linked.specs.Queues.{AreLong};
 ghost use Rattle.cw_linked.specs.Steps.{IsBound};
-ghost use Rattle.cw_linked.specs.Works.{heights_of, AreUpTo};
+ghost use Rattle.cw_linked.specs.Works.{known_of, IsKnown, heights_of, AreUpTo};
 
 use crate::block::{Block, place_in};
+use crate::work::Work;
 use cw_certs::Move;
 use cw_core::{PosId, StateId};
 use cw_game::Spot;
 use cw_product::Game;
-use cw_solve::table::{Table, Tabled};
+use cw_solve::table::{Blocks, Tabled};
 
 /// The height that is taken of a cell, 0 where none is.
 #[inline(always)]
 pub(crate) fn height_in(
     game: &Game,
-    table: &Table,
+    work: &Work,
     at: &Tabled,
     block: &Block,
     pos: PosId,
     state: StateId,
 ) -> u32
     requires routed { AreRouted (game_of game.now) (length game.now.graph.parts.items) }
-    requires table { IsTable (game_of game.now) table.now }
-    requires cell { HasCell (game_of game.now) table.now at.now pos.0 state.0 }
-    requires block { IsBlock (game_of game.now) table.now at.now block.now }
-    ensures is { result ≡ heights_of (game_of game.now) table.now at.now.number pos.0 state.0 }
-    ensures most { (most : ℕ) → AreUpTo table.now.heights.items most → result ≤ most }
+    requires known { IsKnown (game_of game.now) (known_of work.now) }
+    requires long { AreLong work.now }
+    requires cell { HasCell (game_of game.now) work.now.blocks at.now pos.0 state.0 }
+    requires block { IsBlock (game_of game.now) work.now.blocks at.now block.now }
+    ensures is { result ≡ heights_of (game_of game.now) (known_of work.now) at.now.number pos.0 state.0 }
+    ensures most { (most : ℕ) → AreUpTo work.now.store.heights most → result ≤ most }
 {
-    table.heights[place_in(game, table, at, block, pos, state)]
+    let place = place_in(game, &work.blocks, at, block, pos, state);
+    work.store.height(place)
 }
 
 /// The height of the pair to which a move leads that keeps the state, where it is known to which position.
 #[inline(always)]
 fn height_to(
     game: &Game,
-    table: &Table,
+    work: &Work,
     at: &Tabled,
     block: &Block,
     pos: PosId,
@@ -54,26 +58,27 @@ fn height_to(
     to: u32,
 ) -> u32
     requires routed { AreRouted (game_of game.now) (length game.now.graph.parts.items) }
-    requires table { IsTable (game_of game.now) table.now }
-    requires cell { HasCell (game_of game.now) table.now at.now pos.0 state.0 }
-    requires block { IsBlock (game_of game.now) table.now at.now block.now }
+    requires known { IsKnown (game_of game.now) (known_of work.now) }
+    requires long { AreLong work.now }
+    requires cell { HasCell (game_of game.now) work.now.blocks at.now pos.0 state.0 }
+    requires block { IsBlock (game_of game.now) work.now.blocks at.now block.now }
     requires leads { next_at (game_of game.now) pos.0 state.0 by ≡ Some (to, state.0) }
-    requires high { AreUpTo table.now.heights.items 4194304 }
-    ensures tells { (n : ℕ) → holds_by n result ≡ holds_after (told (heights_of (game_of game.now) table.now) at.now.number n) (has at.now.context.promise)
-        (next_at (game_of game.now) pos.0 state.0 by) }
+    requires high { AreUpTo work.now.store.heights 4194304 }
+    ensures tells { (n : ℕ) → holds_by n result ≡ holds_after (told (heights_of (game_of game.now) (known_of work.now)) at.now.number n)
+        (has at.now.context.promise) (next_at (game_of game.now) pos.0 state.0 by) }
     ensures high { result ≤ 4194304 }
-    ensures most { (most : ℕ) → AreUpTo table.now.heights.items most → result ≤ most }
+    ensures most { (most : ℕ) → AreUpTo work.now.store.heights most → result ≤ most }
 {
     let _ = pos;
     let _ = by;
-    height_in(game, table, at, block, PosId(to), state)
+    height_in(game, work, at, block, PosId(to), state)
 }
 
 /// The height of the pair to which a move leads, 0 where none is taken or the move isn't there.
 #[inline(never)]
 fn height_after(
     game: &Game,
-    table: &Table,
+    work: &Work,
     at: &Tabled,
     block: &Block,
     pos: PosId,
@@ -81,18 +86,19 @@ fn height_after(
     by: Move,
 ) -> u32
     requires routed { AreRouted (game_of game.now) (length game.now.graph.parts.items) }
-    requires table { IsTable (game_of game.now) table.now }
-    requires cell { HasCell (game_of game.now) table.now at.now pos.0 state.0 }
-    requires block { IsBlock (game_of game.now) table.now at.now block.now }
-    requires high { AreUpTo table.now.heights.items 4194304 }
-    ensures tells { (n : ℕ) → holds_by n result ≡ holds_after (told (heights_of (game_of game.now) table.now) at.now.number n) (has at.now.context.promise)
-        (next_at (game_of game.now) pos.0 state.0 by) }
+    requires known { IsKnown (game_of game.now) (known_of work.now) }
+    requires long { AreLong work.now }
+    requires cell { HasCell (game_of game.now) work.now.blocks at.now pos.0 state.0 }
+    requires block { IsBlock (game_of game.now) work.now.blocks at.now block.now }
+    requires high { AreUpTo work.now.store.heights 4194304 }
+    ensures tells { (n : ℕ) → holds_by n result ≡ holds_after (told (heights_of (game_of game.now) (known_of work.now)) at.now.number n)
+        (has at.now.context.promise) (next_at (game_of game.now) pos.0 state.0 by) }
     ensures high { result ≤ 4194304 }
-    ensures most { (most : ℕ) → AreUpTo table.now.heights.items most → result ≤ most }
+    ensures most { (most : ℕ) → AreUpTo work.now.store.heights most → result ≤ most }
 {
     match game.next(pos, state, by) {
         None => 0,
-        Some((pos, state)) => height_in(game, table, at, block, pos, state),
+        Some((pos, state)) => height_in(game, work, at, block, pos, state),
     }
 }
 
@@ -133,7 +139,7 @@ fn either(a: u32, b: u32) -> u32
 #[inline(always)]
 fn step_bound(
     game: &Game,
-    table: &Table,
+    work: &Work,
     at: &Tabled,
     block: &Block,
     pos: PosId,
@@ -141,40 +147,42 @@ fn step_bound(
     next: u32,
 ) -> u32
     requires routed { AreRouted (game_of game.now) (length game.now.graph.parts.items) }
-    requires table { IsTable (game_of game.now) table.now }
-    requires cell { HasCell (game_of game.now) table.now at.now pos.0 state.0 }
-    requires block { IsBlock (game_of game.now) table.now at.now block.now }
+    requires known { IsKnown (game_of game.now) (known_of work.now) }
+    requires long { AreLong work.now }
+    requires cell { HasCell (game_of game.now) work.now.blocks at.now pos.0 state.0 }
+    requires block { IsBlock (game_of game.now) work.now.blocks at.now block.now }
     requires step { slice_get (game_of game.now).spots pos.0 ≡ Some (Spot.Step next) }
-    requires high { AreUpTo table.now.heights.items 4194304 }
-    ensures tells { (n : ℕ) → holds_by (suc n) result ≡ holds_by_moves (game_of game.now) (told (heights_of (game_of game.now) table.now) at.now.number n) pos.0 state.0
-        (has at.now.context.promise) (slice_get (game_of game.now).spots pos.0) }
-    ensures high { (most : ℕ) → AreUpTo table.now.heights.items most → result ≤ most + 1 }
+    requires high { AreUpTo work.now.store.heights 4194304 }
+    ensures tells { (n : ℕ) → holds_by (suc n) result ≡ holds_by_moves (game_of game.now)
+        (told (heights_of (game_of game.now) (known_of work.now)) at.now.number n) pos.0 state.0 (has at.now.context.promise) (slice_get (game_of game.now).spots pos.0) }
+    ensures high { (most : ℕ) → AreUpTo work.now.store.heights most → result ≤ most + 1 }
 {
-    one_more(height_to(game, table, at, block, pos, state, Move::On, next))
+    one_more(height_to(game, work, at, block, pos, state, Move::On, next))
 }
 
 /// One more than the greater of the heights of the pairs to which a visit leads.
 #[inline(always)]
 fn visit_bound(
     game: &Game,
-    table: &Table,
+    work: &Work,
     at: &Tabled,
     block: &Block,
     pos: PosId,
     state: StateId,
 ) -> u32
     requires routed { AreRouted (game_of game.now) (length game.now.graph.parts.items) }
-    requires table { IsTable (game_of game.now) table.now }
-    requires cell { HasCell (game_of game.now) table.now at.now pos.0 state.0 }
-    requires block { IsBlock (game_of game.now) table.now at.now block.now }
+    requires known { IsKnown (game_of game.now) (known_of work.now) }
+    requires long { AreLong work.now }
+    requires cell { HasCell (game_of game.now) work.now.blocks at.now pos.0 state.0 }
+    requires block { IsBlock (game_of game.now) work.now.blocks at.now block.now }
     requires visit { weavers_in (slice_get (game_of game.now).spots pos.0) ≡ true }
-    requires high { AreUpTo table.now.heights.items 4194304 }
-    ensures tells { (n : ℕ) → holds_by (suc n) result ≡ holds_by_moves (game_of game.now) (told (heights_of (game_of game.now) table.now) at.now.number n) pos.0 state.0
-        (has at.now.context.promise) (slice_get (game_of game.now).spots pos.0) }
-    ensures high { (most : ℕ) → AreUpTo table.now.heights.items most → result ≤ most + 1 }
+    requires high { AreUpTo work.now.store.heights 4194304 }
+    ensures tells { (n : ℕ) → holds_by (suc n) result ≡ holds_by_moves (game_of game.now)
+        (told (heights_of (game_of game.now) (known_of work.now)) at.now.number n) pos.0 state.0 (has at.now.context.promise) (slice_get (game_of game.now).spots pos.0) }
+    ensures high { (most : ℕ) → AreUpTo work.now.store.heights most → result ≤ most + 1 }
 {
-    let skip = height_to(game, table, at, block, pos, state, Move::Skip, pos.0 + 2);
-    let tried = height_to(game, table, at, block, pos, state, Move::Try, pos.0 + 1);
+    let skip = height_to(game, work, at, block, pos, state, Move::Skip, pos.0 + 2);
+    let tried = height_to(game, work, at, block, pos, state, Move::Try, pos.0 + 1);
     both(skip, tried)
 }
 
@@ -182,7 +190,7 @@ fn visit_bound(
 #[inline(always)]
 fn branch_bound(
     game: &Game,
-    table: &Table,
+    work: &Work,
     at: &Tabled,
     block: &Block,
     pos: PosId,
@@ -191,17 +199,18 @@ fn branch_bound(
     right: u32,
 ) -> u32
     requires routed { AreRouted (game_of game.now) (length game.now.graph.parts.items) }
-    requires table { IsTable (game_of game.now) table.now }
-    requires cell { HasCell (game_of game.now) table.now at.now pos.0 state.0 }
-    requires block { IsBlock (game_of game.now) table.now at.now block.now }
+    requires known { IsKnown (game_of game.now) (known_of work.now) }
+    requires long { AreLong work.now }
+    requires cell { HasCell (game_of game.now) work.now.blocks at.now pos.0 state.0 }
+    requires block { IsBlock (game_of game.now) work.now.blocks at.now block.now }
     requires branch { slice_get (game_of game.now).spots pos.0 ≡ Some (Spot.Branch left right) }
-    requires high { AreUpTo table.now.heights.items 4194304 }
-    ensures tells { (n : ℕ) → holds_by (suc n) result ≡ holds_by_moves (game_of game.now) (told (heights_of (game_of game.now) table.now) at.now.number n) pos.0 state.0
-        (has at.now.context.promise) (slice_get (game_of game.now).spots pos.0) }
-    ensures high { (most : ℕ) → AreUpTo table.now.heights.items most → result ≤ most + 1 }
+    requires high { AreUpTo work.now.store.heights 4194304 }
+    ensures tells { (n : ℕ) → holds_by (suc n) result ≡ holds_by_moves (game_of game.now)
+        (told (heights_of (game_of game.now) (known_of work.now)) at.now.number n) pos.0 state.0 (has at.now.context.promise) (slice_get (game_of game.now).spots pos.0) }
+    ensures high { (most : ℕ) → AreUpTo work.now.store.heights most → result ≤ most + 1 }
 {
-    let first = height_to(game, table, at, block, pos, state, Move::Left, left);
-    let second = height_to(game, table, at, block, pos, state, Move::Right, right);
+    let first = height_to(game, work, at, block, pos, state, Move::Left, left);
+    let second = height_to(game, work, at, block, pos, state, Move::Right, right);
     either(first, second)
 }
 
@@ -210,7 +219,7 @@ fn branch_bound(
 #[inline(always)]
 fn moves_bound(
     game: &Game,
-    table: &Table,
+    work: &Work,
     at: &Tabled,
     block: &Block,
     pos: PosId,
@@ -218,21 +227,22 @@ fn moves_bound(
     spot: Spot,
 ) -> u32
     requires routed { AreRouted (game_of game.now) (length game.now.graph.parts.items) }
-    requires table { IsTable (game_of game.now) table.now }
-    requires cell { HasCell (game_of game.now) table.now at.now pos.0 state.0 }
-    requires block { IsBlock (game_of game.now) table.now at.now block.now }
+    requires known { IsKnown (game_of game.now) (known_of work.now) }
+    requires long { AreLong work.now }
+    requires cell { HasCell (game_of game.now) work.now.blocks at.now pos.0 state.0 }
+    requires block { IsBlock (game_of game.now) work.now.blocks at.now block.now }
     requires spot { Some spot ≡ slice_get (game_of game.now).spots pos.0 }
-    requires high { AreUpTo table.now.heights.items 4194304 }
-    ensures tells { (n : ℕ) → holds_by (suc n) result ≡ holds_by_moves (game_of game.now) (told (heights_of (game_of game.now) table.now) at.now.number n) pos.0 state.0
-        (has at.now.context.promise) (slice_get (game_of game.now).spots pos.0) }
-    ensures high { (most : ℕ) → AreUpTo table.now.heights.items most → result ≤ most + 1 }
+    requires high { AreUpTo work.now.store.heights 4194304 }
+    ensures tells { (n : ℕ) → holds_by (suc n) result ≡ holds_by_moves (game_of game.now)
+        (told (heights_of (game_of game.now) (known_of work.now)) at.now.number n) pos.0 state.0 (has at.now.context.promise) (slice_get (game_of game.now).spots pos.0) }
+    ensures high { (most : ℕ) → AreUpTo work.now.store.heights most → result ≤ most + 1 }
 {
-    let after = |by: Move| height_after(game, table, at, block, pos, state, by);
+    let after = |by: Move| height_after(game, work, at, block, pos, state, by);
     match spot {
-        Spot::Visit(_, _, _) => visit_bound(game, table, at, block, pos, state),
-        Spot::Step(next) => step_bound(game, table, at, block, pos, state, next),
+        Spot::Visit(_, _, _) => visit_bound(game, work, at, block, pos, state),
+        Spot::Step(next) => step_bound(game, work, at, block, pos, state, next),
         Spot::Branch(left, right) => {
-            branch_bound(game, table, at, block, pos, state, left, right)
+            branch_bound(game, work, at, block, pos, state, left, right)
         }
         Spot::Asked(_, _, _) => either(after(Move::Grant), after(Move::Refuse)),
         Spot::Open(_, _, _) => either(after(Move::Opened), after(Move::Failed)),
@@ -243,14 +253,14 @@ fn moves_bound(
 /// The number of moves within which the end of a function is lost: 1 where it isn't the end of `main` and the context doesn't
 /// promise the state, else 0.
 #[inline(never)]
-fn exit_bound(game: &Game, table: &Table, at: &Tabled, function: u32, state: StateId) -> u32
-    requires tabled { IsTabled table.now at.now }
+fn exit_bound(game: &Game, blocks: &Blocks, at: &Tabled, function: u32, state: StateId) -> u32
+    requires tabled { IsTabled blocks.now at.now }
     requires state { IsState (game_of game.now) state.0 }
     requires few { (game_of game.now).states.count ≤ 1024 }
     ensures tells { (n : ℕ) → holds_by (suc n) result ≡ (nat_eq function (game_of game.now).main || has at.now.context.promise state.0) }
     ensures most { result ≤ 1 }
 {
-    if function == u32::from(game.main()) || table.contexts[at.number()].promise.contains(state) {
+    if function == u32::from(game.main()) || blocks.contexts[at.number()].promise.contains(state) {
         0
     } else {
         1
@@ -262,33 +272,34 @@ fn exit_bound(game: &Game, table: &Table, at: &Tabled, function: u32, state: Sta
 #[inline(always)]
 pub(crate) fn bound(
     game: &Game,
-    table: &Table,
+    work: &Work,
     at: &Tabled,
     block: &Block,
     pos: PosId,
     state: StateId,
 ) -> u32
     requires routed { AreRouted (game_of game.now) (length game.now.graph.parts.items) }
-    requires table { IsTable (game_of game.now) table.now }
-    requires cell { HasCell (game_of game.now) table.now at.now pos.0 state.0 }
-    requires block { IsBlock (game_of game.now) table.now at.now block.now }
-    requires high { AreUpTo table.now.heights.items 4194304 }
+    requires known { IsKnown (game_of game.now) (known_of work.now) }
+    requires long { AreLong work.now }
+    requires cell { HasCell (game_of game.now) work.now.blocks at.now pos.0 state.0 }
+    requires block { IsBlock (game_of game.now) work.now.blocks at.now block.now }
+    requires high { AreUpTo work.now.store.heights 4194304 }
     ensures told { is_call_in (slice_get (game_of game.now).spots pos.0) ≡ false
-        → IsBound (game_of game.now) (heights_of (game_of game.now) table.now) at.now.number pos.0 state.0 at.now.context.promise result }
+        → IsBound (game_of game.now) (heights_of (game_of game.now) (known_of work.now)) at.now.number pos.0 state.0 at.now.context.promise result }
     ensures call { is_call_in (slice_get (game_of game.now).spots pos.0) ≡ true → result ≡ 0 }
-    ensures high { (most : ℕ) → AreUpTo table.now.heights.items most → result ≤ most + 1 }
+    ensures high { (most : ℕ) → AreUpTo work.now.store.heights most → result ≤ most + 1 }
 {
     let spot = game.spot(pos);
     match spot {
         Spot::Call(_, _, _) | Spot::SplitCall(_, _, _) => 0,
-        Spot::Exit(function) => exit_bound(game, table, at, function, state),
+        Spot::Exit(function) => exit_bound(game, &work.blocks, at, function, state),
         Spot::Label(_, _, _) => {
             if game.bad(pos, state) {
                 1
             } else {
-                moves_bound(game, table, at, block, pos, state, spot)
+                moves_bound(game, work, at, block, pos, state, spot)
             }
         }
-        _ => moves_bound(game, table, at, block, pos, state, spot),
+        _ => moves_bound(game, work, at, block, pos, state, spot),
     }
 }

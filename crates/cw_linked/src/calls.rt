@@ -5,12 +5,12 @@ ghost use Rattle.cw_game.specs.Pairs.{Called, call_in, is_call_in};
 ghost use Rattle.cw_product.specs.Product.{game_of};
 ghost use Rattle.cw_product.specs.Moves.{IsPosition, IsState};
 ghost use Rattle.cw_product.specs.Routed.{AreRouted};
-ghost use Rattle.cw_solve.specs.Tables.{IsTable, HasCell};
+ghost use Rattle.cw_solve.specs.Tables.{HasCell};
 ghost use Rattle.cw_linked.specs.Calls.{AreCallers, AsksCaller, AsksCallers};
 ghost use Rattle.cw_linked.specs.Founds.{class_of, AreRight, AllCalled};
 ghost use Rattle.cw_linked.specs.Queues.{found_of, AreMarked, AreLong, AreHigh};
 ghost use Rattle.cw_linked.specs.Steps.{CallsThere};
-ghost use Rattle.cw_linked.specs.Works.{heights_of, cell_of};
+ghost use Rattle.cw_linked.specs.Works.{known_of, IsKnown, heights_of, cell_of};
 
 use crate::work::{Cell, Work, ask_cell, cell_at};
 use cw_core::{NoMemory, PosId, StateId};
@@ -56,7 +56,7 @@ pub(crate) fn is_same(a: StateId, b: StateId) -> bool
 /// The greater of the number of moves of the link at a place and a height.
 fn greater(work: &Work, link: usize, height: u32) -> u32
     requires long { AreLong work.now }
-    requires within { link < length work.now.table.heights.items }
+    requires within { link < length work.now.store.heights }
     ensures one { (slice_index work.now.store.waves link ≡ result) ⊎ (height ≡ result) }
     ensures moves { slice_index work.now.store.waves link ≤ result }
     ensures high { height ≤ result }
@@ -68,7 +68,7 @@ fn greater(work: &Work, link: usize, height: u32) -> u32
 /// Whether the link at a place goes to a context.
 fn goes_to(work: &Work, link: usize, at: &Tabled) -> bool
     requires long { AreLong work.now }
-    requires within { link < length work.now.table.heights.items }
+    requires within { link < length work.now.store.heights }
     ensures is { result ≡ true → slice_index work.now.store.to link ≡ suc at.now.number }
     ensures not { result ≡ false → slice_index work.now.store.to link ≡ suc at.now.number → ⊥ }
 {
@@ -91,16 +91,16 @@ fn ask_linked(
     link: usize,
 ) -> Result<(), NoMemory>
     requires routed { AreRouted (game_of game.now) (length game.now.graph.parts.items) }
-    requires table { IsTable (game_of game.now) work.old.table }
-    requires cell { HasCell (game_of game.now) work.old.table at.now pos.0 state.0 }
+    requires known { IsKnown (game_of game.now) (known_of work.old) }
+    requires cell { HasCell (game_of game.now) work.old.blocks at.now pos.0 state.0 }
     requires entry { pos.0 ≡ (game_of game.now).entry at.now.context.function }
-    requires taken { heights_of (game_of game.now) work.old.table at.now.number pos.0 state.0 ≡ height }
+    requires taken { heights_of (game_of game.now) (known_of work.old) at.now.number pos.0 state.0 ≡ height }
     requires some { 0 < height }
-    requires within { link < length work.old.table.heights.items }
+    requires within { link < length work.old.store.heights }
     requires goes { slice_index work.old.store.to link ≡ suc at.now.number }
     requires long { AreLong work.old }
     requires high { AreHigh work.old }
-    requires right { AreRight (game_of game.now) work.old.table.contexts.items (found_of (game_of game.now) work.old) }
+    requires right { AreRight (game_of game.now) work.old.blocks.contexts.items (found_of (game_of game.now) work.old) }
     ensures { OnOk result (AsksCaller (game_of game.now) work.old work.new link (cell_of at.now pos state)) }
 {
     let caller = cell_at(game, work, link);
@@ -108,10 +108,10 @@ fn ask_linked(
         None => Ok(()),
         Some(class) => {
             if is_same(class, caller.state) {
-                let place = slot(game, &work.table, &caller.at, caller.pos, state);
+                let place = slot(game, &work.blocks, &caller.at, caller.pos, state);
                 let most = greater(work, link, height);
                 let within = most + 1;
-                ask_cell(work, place, 2 * within)?;
+                ask_cell(work, place, within)?;
                 Ok(())
             } else {
                 Ok(())
@@ -131,15 +131,15 @@ pub(crate) fn ask_call(
     link: usize,
 ) -> Result<(), NoMemory>
     requires routed { AreRouted (game_of game.now) (length game.now.graph.parts.items) }
-    requires table { IsTable (game_of game.now) work.old.table }
-    requires cell { HasCell (game_of game.now) work.old.table at.now pos.0 state.0 }
+    requires known { IsKnown (game_of game.now) (known_of work.old) }
+    requires cell { HasCell (game_of game.now) work.old.blocks at.now pos.0 state.0 }
     requires entry { pos.0 ≡ (game_of game.now).entry at.now.context.function }
-    requires taken { heights_of (game_of game.now) work.old.table at.now.number pos.0 state.0 ≡ height }
+    requires taken { heights_of (game_of game.now) (known_of work.old) at.now.number pos.0 state.0 ≡ height }
     requires some { 0 < height }
-    requires within { link < length work.old.table.heights.items }
+    requires within { link < length work.old.store.heights }
     requires long { AreLong work.old }
     requires high { AreHigh work.old }
-    requires right { AreRight (game_of game.now) work.old.table.contexts.items (found_of (game_of game.now) work.old) }
+    requires right { AreRight (game_of game.now) work.old.blocks.contexts.items (found_of (game_of game.now) work.old) }
     ensures { OnOk result (AsksCaller (game_of game.now) work.old work.new link (cell_of at.now pos state)) }
 {
     if goes_to(work, link, at) {
@@ -158,17 +158,17 @@ pub(crate) fn ask_callers(
     height: u32,
 ) -> Result<(), NoMemory>
     requires routed { AreRouted (game_of game.now) (length game.now.graph.parts.items) }
-    requires table { IsTable (game_of game.now) work.old.table }
-    requires cell { HasCell (game_of game.now) work.old.table cell.now.at cell.now.pos.0 cell.now.state.0 }
+    requires known { IsKnown (game_of game.now) (known_of work.old) }
+    requires cell { HasCell (game_of game.now) work.old.blocks cell.now.at cell.now.pos.0 cell.now.state.0 }
     requires entry { cell.now.pos.0 ≡ (game_of game.now).entry cell.now.at.context.function }
-    requires taken { heights_of (game_of game.now) work.old.table cell.now.at.number cell.now.pos.0 cell.now.state.0 ≡ height }
+    requires taken { heights_of (game_of game.now) (known_of work.old) cell.now.at.number cell.now.pos.0 cell.now.state.0 ≡ height }
     requires some { 0 < height }
     requires callers { AreCallers work.old }
     requires marked { AreMarked (game_of game.now) work.old }
     requires long { AreLong work.old }
     requires high { AreHigh work.old }
-    requires right { AreRight (game_of game.now) work.old.table.contexts.items (found_of (game_of game.now) work.old) }
-    requires called { AllCalled (game_of game.now) work.old.table.contexts.items (found_of (game_of game.now) work.old)
+    requires right { AreRight (game_of game.now) work.old.blocks.contexts.items (found_of (game_of game.now) work.old) }
+    requires called { AllCalled (game_of game.now) work.old.blocks.contexts.items (found_of (game_of game.now) work.old)
         (CallsThere (game_of game.now) (found_of (game_of game.now) work.old) cell.now.at.number cell.now.pos.0 cell.now.state.0) }
     ensures { OnOk result (AsksCallers (game_of game.now) work.old work.new) }
 {

@@ -1,22 +1,25 @@
 //! What waits for a pair, and which calls return to a position, the same in all contexts.
 
-ghost use Rattle.std.specs.Prelude.{◌≡◌, ◌<◌, ◌≤◌, ◌+◌, ◌*◌, length, slice_get, OnOk, IfOk};
+ghost use Rattle.std.specs.Prelude.{◌≡◌, ℕ, ◌<◌, ◌≤◌, ◌+◌, ◌*◌, true, Some, min, length, slice_get, OnOk, IfOk};
+ghost use Rattle.cw_links.specs.Marks.{is_marked, number};
 ghost use Rattle.cw_product.specs.Product.{game_of};
-ghost use Rattle.cw_product.specs.Moves.{IsPosition, IsState};
+ghost use Rattle.cw_product.specs.Moves.{IsPosition, IsState, next_at};
 ghost use Rattle.cw_product.specs.MovesAt.{first_move, second_move};
 ghost use Rattle.cw_product.specs.Routed.{AreRouted};
 ghost use Rattle.cw_solve.specs.Rounds.{positions};
-ghost use Rattle.cw_linked.specs.Edges.{AddsSource, AddsMove, AddsMoves, AreSourcesTo, AreChangesTo, AreReturnsTo};
+ghost use Rattle.cw_linked.specs.Edges.{AddsSource, MarksMove, MarksMoves, AddsMove, AddsMoves, AreSourcesTo, AreReached, AreReachedTo, AreChangesTo, AreReturnsTo};
+ghost use Rattle.cw_linked.specs.Plain.{IsPlain, ArePlain};
 ghost use Rattle.cw_linked.specs.Returns.{AreReturns};
 ghost use Rattle.cw_linked.specs.Runs.{AreRuns};
-ghost use Rattle.cw_linked.specs.Waiting.{keeps_state, AreSources, AreChanges, AreWaits};
+ghost use Rattle.cw_linked.specs.Steps.{Leads};
+ghost use Rattle.cw_linked.specs.Waiting.{keeps_state, is_step, source_at, AreSources, AreChanges, AreWaits};
 
 use crate::divisor::Divisor;
-use crate::waiting::pair_number;
+use crate::waiting::list_of;
 use cw_certs::Move;
 use cw_core::{NoMemory, PosId, StateId};
 use cw_game::Spot;
-use cw_links::Chains;
+use cw_links::{Chains, Marks, Rows};
 use cw_product::{Game, Turn};
 use cw_solve::table::positions;
 use std::alloc::Global;
@@ -28,26 +31,35 @@ pub(crate) struct Pair {
     pub state: StateId,
 }
 
-/// For each pair those at positions that may change the state, from which a move leads there. A position is marked where one of its
-/// pairs has such.
+/// A position from which a move leads to another one, whatever the state is, and whether that is a step: then it is its one move.
+#[derive(Clone, Copy, Drop)]
+pub(crate) struct Source {
+    pub pos: PosId,
+    pub step: bool,
+}
+
+/// For each pair those at positions that may change the state, from which a move leads there. Only the positions to which such a move
+/// leads are marked, and only their pairs have a list.
 #[derive(Drop)]
 pub(crate) struct Changes {
+    pub marks: Marks,
     pub pairs: Chains<Pair>,
-    pub marks: Vec<bool>,
 }
 
 /// What waits for a pair: for each position those from which a move leads there in the same state, whatever the state is; and all others.
 #[derive(Drop)]
 pub(crate) struct Waits {
-    pub sources: Chains<PosId>,
+    pub sources: Rows<Source>,
     pub changes: Changes,
 }
 
-/// What waits for a pair; for each position those of the calls that return there; for each function its number of positions.
+/// What waits for a pair; for each position those of the calls that return there, and whether nothing waits for it but what leads
+/// there in the same state; for each function its number of positions.
 #[derive(Drop)]
 pub(crate) struct Edges {
     pub waits: Waits,
-    pub returns: Chains<PosId>,
+    pub returns: Rows<PosId>,
+    pub plain: Vec<bool>,
     pub runs: Vec<Divisor>,
 }
 
@@ -64,10 +76,32 @@ fn keeps(game: &Game, pos: PosId) -> bool
     }
 }
 
+/// Whether a step stands at a position.
+fn is_step(game: &Game, pos: PosId) -> bool
+    requires position { IsPosition (game_of game.now) pos.0 }
+    ensures { result ≡ is_step (slice_get (game_of game.now).spots pos.0) }
+{
+    match game.spot(pos) {
+        Spot::Step(_) => true,
+        _ => false,
+    }
+}
+
+/// A position as a source.
+fn as_source(game: &Game, pos: PosId) -> Source
+    requires position { IsPosition (game_of game.now) pos.0 }
+    ensures { result ≡ source_at (game_of game.now) pos.0 }
+{
+    Source {
+        pos,
+        step: is_step(game, pos),
+    }
+}
+
 /// Puts a position into the list of the one to which a move leads, if there is one.
 fn add_source(
     game: &Game,
-    sources: &mut Chains<PosId>,
+    sources: &mut Chains<Source>,
     pos: PosId,
     by: Move,
 ) -> Result<(), NoMemory>
@@ -78,13 +112,13 @@ fn add_source(
     ensures { OnOk result (AddsSource (game_of game.now) sources.old sources.new pos.0 by) }
 {
     if let Some((to, _)) = game.next(pos, StateId(0), by) {
-        sources.push_front(to.0, pos)?;
+        sources.push_front(to.0, as_source(game, pos))?;
     }
     Ok(())
 }
 
 /// Puts a position that keeps the state into the lists of those to which its moves lead.
-fn add_sources(game: &Game, sources: &mut Chains<PosId>, pos: PosId) -> Result<(), NoMemory>
+fn add_sources(game: &Game, sources: &mut Chains<Source>, pos: PosId) -> Result<(), NoMemory>
     requires routed { AreRouted (game_of game.now) (length game.now.graph.parts.items) }
     requires position { IsPosition (game_of game.now) pos.0 }
     requires before { AreSourcesTo (game_of game.now) sources.old pos.0 }
@@ -105,7 +139,7 @@ fn add_sources(game: &Game, sources: &mut Chains<PosId>, pos: PosId) -> Result<(
 }
 
 /// For each position those that keep the state and lead there.
-fn make_sources(alloc: Global, game: &Game) -> Result<Chains<PosId>, NoMemory>
+fn make_sources(alloc: Global, game: &Game) -> Result<Rows<Source>, NoMemory>
     requires routed { AreRouted (game_of game.now) (length game.now.graph.parts.items) }
     ensures { IfOk result (AreSources (game_of game.now)) }
 {
@@ -113,13 +147,95 @@ fn make_sources(alloc: Global, game: &Game) -> Result<Chains<PosId>, NoMemory>
     for p in 0..game.positions() {
         add_sources(game, &mut sources, PosId(p))?;
     }
-    Ok(sources)
+    let rows = Rows::of(alloc, &sources)?;
+    Ok(rows)
+}
+
+/// Marks the position to which a move leads, if it leads to one.
+fn mark_move(game: &Game, marks: &mut [bool], pos: PosId, state: StateId, by: Move)
+    requires position { IsPosition (game_of game.now) pos.0 }
+    requires state { IsState (game_of game.now) state.0 }
+    requires long { length marks.old ≡ length (game_of game.now).spots }
+    ensures { MarksMove (game_of game.now) marks.old marks.new pos.0 state.0 by }
+{
+    if let Some((to, _)) = game.next(pos, state, by) {
+        marks[to.0 as usize] = true;
+    }
+}
+
+/// Marks the positions to which the moves from a pair lead.
+fn mark_moves(
+    game: &Game,
+    marks: &mut [bool],
+    pos: PosId,
+    state: StateId,
+    moves: &(Move, Option<Move>),
+)
+    requires position { IsPosition (game_of game.now) pos.0 }
+    requires state { IsState (game_of game.now) state.0 }
+    requires first { moves.now.0 ≡ first_move (slice_get (game_of game.now).spots pos.0) }
+    requires second { moves.now.1 ≡ second_move (slice_get (game_of game.now).spots pos.0) }
+    requires long { length marks.old ≡ length (game_of game.now).spots }
+    ensures { MarksMoves (game_of game.now) marks.old marks.new pos.0 state.0 }
+{
+    mark_move(game, marks, pos, state, moves.0);
+    if let Some(by) = moves.1 {
+        mark_move(game, marks, pos, state, by);
+    }
+}
+
+/// Marks the positions to which the moves of a position lead that may change the state.
+fn mark_pairs(game: &Game, marks: &mut [bool], pos: PosId)
+    requires position { IsPosition (game_of game.now) pos.0 }
+    requires before { AreReachedTo (game_of game.now) marks.old pos.0 0 }
+    ensures { AreReachedTo (game_of game.now) marks.new (pos.0 + 1) 0 }
+{
+    if keeps(game, pos) {
+        return;
+    }
+    let moves = game.moves(pos);
+    for q in 0..game.states() {
+        mark_moves(game, marks, pos, StateId(q), &moves);
+    }
+}
+
+/// Marks the positions to which a move leads that may change the state.
+fn mark_all(game: &Game, marks: &mut [bool])
+    requires { length marks.old ≡ length (game_of game.now).spots }
+    ensures { AreReached (game_of game.now) marks.new }
+{
+    for p in 0..game.positions() {
+        mark_pairs(game, marks, PosId(p));
+    }
+}
+
+/// The marks, with how many come before a place.
+fn ranked(alloc: Global, marks: &[bool]) -> Result<Marks, NoMemory>
+    requires { length marks.now ≤ 1048576 }
+    ensures { IfOk result (λ all. all ≡ marks.now) }
+{
+    let mut all = Marks::make(alloc);
+    for mark in marks {
+        all.push(*mark)?;
+    }
+    Ok(all)
+}
+
+/// Marks of the positions to which a move leads that may change the state.
+fn make_marks(alloc: Global, game: &Game) -> Result<Marks, NoMemory>
+    requires routed { AreRouted (game_of game.now) (length game.now.graph.parts.items) }
+    ensures { IfOk result (AreReached (game_of game.now)) }
+{
+    let mut reached = vec![in alloc; false; game.positions() as usize]?;
+    mark_all(game, &mut reached);
+    ranked(alloc, &reached)
 }
 
 /// Puts a pair into the list of the one to which a move leads, if there is one.
 fn add_move(
     game: &Game,
-    changes: &mut Changes,
+    marks: &Marks,
+    pairs: &mut Chains<Pair>,
     pos: PosId,
     state: StateId,
     by: Move,
@@ -127,15 +243,15 @@ fn add_move(
     requires routed { AreRouted (game_of game.now) (length game.now.graph.parts.items) }
     requires position { IsPosition (game_of game.now) pos.0 }
     requires state { IsState (game_of game.now) state.0 }
-    requires lists { length changes.old.pairs.lists ≡ length (game_of game.now).spots * (game_of game.now).states.count }
-    requires marks { length changes.old.marks.items ≡ length (game_of game.now).spots }
-    requires few { length changes.old.pairs.values ≤ 16777216 }
-    ensures { OnOk result (AddsMove (game_of game.now) changes.old changes.new pos.0 state.0 by) }
+    requires long { length marks.now ≡ length (game_of game.now).spots }
+    requires marked { (r x : ℕ) → next_at (game_of game.now) pos.0 state.0 by ≡ Some (r, x) → is_marked marks.now r ≡ true }
+    requires lists { length pairs.old.lists ≡ number marks.now * (game_of game.now).states.count }
+    requires few { length pairs.old.values ≤ 16777216 }
+    ensures { OnOk result (AddsMove (game_of game.now) marks.now pairs.old pairs.new pos.0 state.0 by) }
 {
     if let Some((to, then)) = game.next(pos, state, by) {
-        let list = pair_number(game, to, then);
-        changes.pairs.push_front(list, Pair { pos, state })?;
-        changes.marks[to.0 as usize] = true;
+        let list = list_of(game, marks, to, then);
+        pairs.push_front(list, Pair { pos, state })?;
     }
     Ok(())
 }
@@ -143,7 +259,8 @@ fn add_move(
 /// Puts a pair into the lists of those to which its moves lead.
 fn add_moves(
     game: &Game,
-    changes: &mut Changes,
+    marks: &Marks,
+    pairs: &mut Chains<Pair>,
     pos: PosId,
     state: StateId,
     moves: &(Move, Option<Move>),
@@ -153,36 +270,57 @@ fn add_moves(
     requires state { IsState (game_of game.now) state.0 }
     requires first { moves.now.0 ≡ first_move (slice_get (game_of game.now).spots pos.0) }
     requires second { moves.now.1 ≡ second_move (slice_get (game_of game.now).spots pos.0) }
-    requires lists { length changes.old.pairs.lists ≡ length (game_of game.now).spots * (game_of game.now).states.count }
-    requires marks { length changes.old.marks.items ≡ length (game_of game.now).spots }
-    requires few { length changes.old.pairs.values ≤ 16777200 }
-    ensures { OnOk result (AddsMoves (game_of game.now) changes.old changes.new pos.0 state.0) }
+    requires long { length marks.now ≡ length (game_of game.now).spots }
+    requires marked { (r x : ℕ) → Leads (game_of game.now) pos.0 state.0 r x → is_marked marks.now r ≡ true }
+    requires lists { length pairs.old.lists ≡ number marks.now * (game_of game.now).states.count }
+    requires few { length pairs.old.values ≤ 16777200 }
+    ensures { OnOk result (AddsMoves (game_of game.now) marks.now pairs.old pairs.new pos.0 state.0) }
 {
-    add_move(game, changes, pos, state, moves.0)?;
+    add_move(game, marks, pairs, pos, state, moves.0)?;
     match moves.1 {
         None => Ok(()),
         Some(by) => {
-            add_move(game, changes, pos, state, by)?;
+            add_move(game, marks, pairs, pos, state, by)?;
             Ok(())
         }
     }
 }
 
 /// Puts the pairs of a position that may change the state into the lists of those to which their moves lead.
-fn add_pairs(game: &Game, changes: &mut Changes, pos: PosId) -> Result<(), NoMemory>
+fn add_pairs(
+    game: &Game,
+    marks: &Marks,
+    pairs: &mut Chains<Pair>,
+    pos: PosId,
+) -> Result<(), NoMemory>
     requires routed { AreRouted (game_of game.now) (length game.now.graph.parts.items) }
     requires position { IsPosition (game_of game.now) pos.0 }
-    requires before { AreChangesTo (game_of game.now) changes.old pos.0 0 }
-    ensures { OnOk result (AreChangesTo (game_of game.now) changes.new (pos.0 + 1) 0) }
+    requires marked { AreReached (game_of game.now) marks.now }
+    requires before { AreChangesTo (game_of game.now) marks.now pairs.old pos.0 0 }
+    ensures { OnOk result (AreChangesTo (game_of game.now) marks.now pairs.new (pos.0 + 1) 0) }
 {
     if keeps(game, pos) {
         return Ok(());
     }
     let moves = game.moves(pos);
     for q in 0..game.states() {
-        add_moves(game, changes, pos, StateId(q), &moves)?;
+        add_moves(game, marks, pairs, pos, StateId(q), &moves)?;
     }
     Ok(())
+}
+
+/// For each pair at a marked position those at positions that may change the state, from which a move leads there.
+fn make_pairs(alloc: Global, game: &Game, marks: &Marks) -> Result<Chains<Pair>, NoMemory>
+    requires routed { AreRouted (game_of game.now) (length game.now.graph.parts.items) }
+    requires marked { AreReached (game_of game.now) marks.now }
+    ensures { IfOk result (λ pairs. AreChanges (game_of game.now) (record { marks = marks.now; pairs = pairs })) }
+{
+    let lists = marks.marked() * u32::from(game.states());
+    let mut pairs = Chains::make(alloc, lists)?;
+    for p in 0..game.positions() {
+        add_pairs(game, marks, &mut pairs, PosId(p))?;
+    }
+    Ok(pairs)
 }
 
 /// For each pair those at positions that may change the state, from which a move leads there.
@@ -190,13 +328,9 @@ fn make_changes(alloc: Global, game: &Game) -> Result<Changes, NoMemory>
     requires routed { AreRouted (game_of game.now) (length game.now.graph.parts.items) }
     ensures { IfOk result (AreChanges (game_of game.now)) }
 {
-    let pairs = Chains::make(alloc, game.positions() * u32::from(game.states()))?;
-    let marks = vec![in alloc; false; game.positions() as usize]?;
-    let mut changes = Changes { pairs, marks };
-    for p in 0..game.positions() {
-        add_pairs(game, &mut changes, PosId(p))?;
-    }
-    Ok(changes)
+    let marks = make_marks(alloc, game)?;
+    let pairs = make_pairs(alloc, game, &marks)?;
+    Ok(Changes { marks, pairs })
 }
 
 /// Puts a position into the list of the one to which it returns, if a call stands there.
@@ -218,7 +352,7 @@ fn add_return(game: &Game, returns: &mut Chains<PosId>, pos: PosId) -> Result<()
 }
 
 /// For each position those of the calls that return there.
-fn make_returns(alloc: Global, game: &Game) -> Result<Chains<PosId>, NoMemory>
+fn make_returns(alloc: Global, game: &Game) -> Result<Rows<PosId>, NoMemory>
     requires few { length (game_of game.now).spots ≤ 1048576 }
     ensures { IfOk result (AreReturns (game_of game.now)) }
 {
@@ -226,7 +360,59 @@ fn make_returns(alloc: Global, game: &Game) -> Result<Chains<PosId>, NoMemory>
     for p in 0..game.positions() {
         add_return(game, &mut returns, PosId(p))?;
     }
-    Ok(returns)
+    let rows = Rows::of(alloc, &returns)?;
+    Ok(rows)
+}
+
+/// Whether no pair leads to a position that may change the state, and no call returns there.
+fn is_bare(game: &Game, changes: &Changes, returns: &Rows<PosId>, pos: PosId) -> bool
+    requires position { IsPosition (game_of game.now) pos.0 }
+    requires changes { AreChanges (game_of game.now) changes.now }
+    requires returns { AreReturns (game_of game.now) returns.now }
+    ensures { result ≡ true → IsPlain (game_of game.now) 0 pos.0 }
+{
+    let _ = game;
+    if changes.marks.is_marked(pos.0 as usize) {
+        return false;
+    }
+    returns.row(pos.0).is_empty()
+}
+
+/// For each position whether no pair leads there that may change the state, and no call returns there.
+fn make_bare(
+    alloc: Global,
+    game: &Game,
+    changes: &Changes,
+    returns: &Rows<PosId>,
+) -> Result<Vec<bool>, NoMemory>
+    requires changes { AreChanges (game_of game.now) changes.now }
+    requires returns { AreReturns (game_of game.now) returns.now }
+    ensures { IfOk result (λ plain. ArePlain (game_of game.now) 0 (length (game_of game.now).spots) plain.items) }
+{
+    let mut plain = Vec::new(alloc);
+    for p in 0..game.positions() {
+        plain.push(is_bare(game, changes, returns, PosId(p)))?;
+    }
+    Ok(plain)
+}
+
+/// The same, and no function begins there.
+fn make_plain(
+    alloc: Global,
+    game: &Game,
+    changes: &Changes,
+    returns: &Rows<PosId>,
+) -> Result<Vec<bool>, NoMemory>
+    requires changes { AreChanges (game_of game.now) changes.now }
+    requires returns { AreReturns (game_of game.now) returns.now }
+    ensures { IfOk result (λ plain. ArePlain (game_of game.now) (min (length game.now.graph.parts.items) 65536) (length (game_of game.now).spots) plain.items) }
+{
+    let mut plain = make_bare(alloc, game, changes, returns)?;
+    for f in 0..game.graph().parts.len().min(65536) {
+        let entry = game.entry(f as u16);
+        plain[entry.0 as usize] = false;
+    }
+    Ok(plain)
 }
 
 /// The divisor by the number of positions of a function.
@@ -252,9 +438,10 @@ fn make_runs(alloc: Global, game: &Game) -> Result<Vec<Divisor>, NoMemory>
 }
 
 impl Edges {
-    ghost use Rattle.std.specs.Prelude.{length, IfOk};
+    ghost use Rattle.std.specs.Prelude.{length, min, IfOk};
     ghost use Rattle.cw_product.specs.Product.{game_of};
     ghost use Rattle.cw_product.specs.Routed.{AreRouted};
+    ghost use Rattle.cw_linked.specs.Plain.{ArePlain};
     ghost use Rattle.cw_linked.specs.Returns.{AreReturns};
     ghost use Rattle.cw_linked.specs.Runs.{AreRuns};
     ghost use Rattle.cw_linked.specs.Waiting.{AreWaits};
@@ -264,15 +451,18 @@ impl Edges {
         requires routed { AreRouted (game_of game.now) (length game.now.graph.parts.items) }
         ensures waits { IfOk result (λ edges. AreWaits (game_of game.now) edges.waits) }
         ensures returns { IfOk result (λ edges. AreReturns (game_of game.now) edges.returns) }
+        ensures plain { IfOk result (λ edges. ArePlain (game_of game.now) (min (length game.now.graph.parts.items) 65536) (length (game_of game.now).spots) edges.plain.items) }
         ensures runs { IfOk result (λ edges. AreRuns (game_of game.now) (length game.now.graph.parts.items) edges.runs.items) }
     {
         let sources = make_sources(alloc, game)?;
         let changes = make_changes(alloc, game)?;
         let returns = make_returns(alloc, game)?;
+        let plain = make_plain(alloc, game, &changes, &returns)?;
         let runs = make_runs(alloc, game)?;
         Ok(Edges {
             waits: Waits { sources, changes },
             returns,
+            plain,
             runs,
         })
     }

@@ -3,35 +3,44 @@
 ghost use Rattle.std.specs.Prelude.{◌≡◌, ◌<◌, ◌≤◌, length, IsTrue};
 ghost use Rattle.cw_product.specs.Product.{game_of};
 ghost use Rattle.cw_product.specs.Routed.{AreRouted};
-ghost use Rattle.cw_solve.specs.Tables.{IsTable};
+ghost use Rattle.cw_solve.specs.Contexts.{cells_of};
+ghost use Rattle.cw_solve.specs.Tables.{AreBlocks};
 ghost use Rattle.cw_linked.specs.Blocks.{IsBlock};
 ghost use Rattle.cw_linked.specs.Homes.{IsHome, IsHomeOf};
 ghost use Rattle.cw_linked.specs.Queues.{IsCellAt};
 ghost use Rattle.cw_linked.specs.Runs.{AreRuns};
+ghost use Rattle.cw_linked.specs.Works.{known_of, IsKnown};
 
 use crate::block::{Block, block_by};
 use crate::divisor::Divisor;
 use crate::work::{Cell, Work, owner_near};
 use cw_core::{PosId, StateId};
 use cw_product::Game;
-use cw_solve::table::{Table, numbered};
+use cw_solve::table::{Blocks, numbered};
 
-/// Where the cells of a context stand: its number, its block, where the block ends, and what divides its rows. It ends at 0 where no
-/// context is known; the number is then one to look at first.
+/// Where the cells of a context stand: the cell that was looked at last, the block of its context, where the block ends, and what
+/// divides its rows. It ends at 0 where no context is known; the cell's is then one to look at first.
 #[derive(Drop)]
 pub(crate) struct Home {
-    pub number: usize,
+    pub cell: Cell,
     pub block: Block,
     pub past: u32,
     pub run: Divisor,
 }
 
-/// No context is near yet.
-pub(crate) fn no_home() -> Home
+/// No context is near yet. That of `main` is looked at first.
+pub(crate) fn no_home(game: &Game, blocks: &Blocks) -> Home
+    requires routed { AreRouted (game_of game.now) (length game.now.graph.parts.items) }
+    requires blocks { AreBlocks (game_of game.now) blocks.now }
     ensures { result.past ≡ 0 }
 {
+    let at = numbered(game, blocks, 0);
     Home {
-        number: 0,
+        cell: Cell {
+            at,
+            pos: PosId(0),
+            state: StateId(0),
+        },
         block: Block {
             base: 0,
             first: 0,
@@ -55,21 +64,25 @@ fn is_home(home: &Home, place: usize) -> bool
 
 /// Where the cells of the context stand that has a place. A context is looked at first.
 #[inline(never)]
-fn home_of(game: &Game, runs: &[Divisor], table: &Table, near: usize, place: usize) -> Home
+fn home_of(game: &Game, runs: &[Divisor], blocks: &Blocks, near: usize, place: usize) -> Home
     requires routed { AreRouted (game_of game.now) (length game.now.graph.parts.items) }
     requires runs { AreRuns (game_of game.now) (length game.now.graph.parts.items) runs.now }
-    requires table { IsTable (game_of game.now) table.now }
-    requires within { place < length table.now.heights.items }
-    ensures home { IsHomeOf (game_of game.now) table.now.contexts.items result }
+    requires blocks { AreBlocks (game_of game.now) blocks.now }
+    requires within { place < cells_of (game_of game.now) blocks.now.contexts.items }
+    ensures home { IsHomeOf (game_of game.now) blocks.now.contexts.items result }
     ensures from { result.block.base ≤ place }
     ensures before { place < result.past }
 {
-    let at = numbered(game, table, owner_near(game, table, near, place));
-    let block = block_by(game, runs, table, &at);
+    let at = numbered(game, blocks, owner_near(game, blocks, near, place));
+    let block = block_by(game, runs, blocks, &at);
     let run = &runs[at.function() as usize];
     let past = block.base + block.many * game.states() as u32;
     Home {
-        number: at.number(),
+        cell: Cell {
+            at,
+            pos: PosId(0),
+            state: StateId(0),
+        },
         block,
         past,
         run: run.again(),
@@ -78,41 +91,47 @@ fn home_of(game: &Game, runs: &[Divisor], table: &Table, near: usize, place: usi
 
 /// Has the context near that has a place.
 #[inline(always)]
-pub(crate) fn approach(game: &Game, runs: &[Divisor], table: &Table, home: &mut Home, place: usize)
+pub(crate) fn approach(
+    game: &Game,
+    runs: &[Divisor],
+    blocks: &Blocks,
+    home: &mut Home,
+    place: usize,
+)
     requires routed { AreRouted (game_of game.now) (length game.now.graph.parts.items) }
     requires runs { AreRuns (game_of game.now) (length game.now.graph.parts.items) runs.now }
-    requires table { IsTable (game_of game.now) table.now }
-    requires within { place < length table.now.heights.items }
-    requires home { IsHome (game_of game.now) table.now.contexts.items home.old }
-    ensures home { IsHomeOf (game_of game.now) table.now.contexts.items home.new }
+    requires blocks { AreBlocks (game_of game.now) blocks.now }
+    requires within { place < cells_of (game_of game.now) blocks.now.contexts.items }
+    requires home { IsHome (game_of game.now) blocks.now.contexts.items home.old }
+    ensures home { IsHomeOf (game_of game.now) blocks.now.contexts.items home.new }
     ensures from { home.new.block.base ≤ place }
     ensures before { place < home.new.past }
 {
     if is_home(home, place) {
         return;
     }
-    *home = home_of(game, runs, table, home.number, place);
+    *home = home_of(game, runs, blocks, home.cell.at.number(), place);
 }
 
-/// The cell at a place of the context that is near.
+/// Looks at the cell at a place of the context that is near, which stays as it is.
 #[inline(always)]
-pub(crate) fn cell_near(game: &Game, work: &Work, home: &Home, place: usize) -> Cell
+pub(crate) fn look_at(game: &Game, work: &Work, home: &mut Home, place: usize)
     requires routed { AreRouted (game_of game.now) (length game.now.graph.parts.items) }
-    requires table { IsTable (game_of game.now) work.now.table }
-    requires within { place < length work.now.table.heights.items }
-    requires home { IsHomeOf (game_of game.now) work.now.table.contexts.items home.now }
-    requires from { home.now.block.base ≤ place }
-    requires before { place < home.now.past }
-    ensures cell { IsCellAt (game_of game.now) work.now place result }
-    ensures block { IsBlock (game_of game.now) work.now.table result.at home.now.block }
+    requires known { IsKnown (game_of game.now) (known_of work.now) }
+    requires within { place < length work.now.store.heights }
+    requires home { IsHomeOf (game_of game.now) work.now.blocks.contexts.items home.old }
+    requires from { home.old.block.base ≤ place }
+    requires before { place < home.old.past }
+    ensures home { IsHomeOf (game_of game.now) work.now.blocks.contexts.items home.new }
+    ensures cell { IsCellAt (game_of game.now) work.now place home.new.cell }
+    ensures block { IsBlock (game_of game.now) work.now.blocks home.new.cell.at home.new.block }
 {
-    let at = numbered(game, &work.table, home.number);
+    let _ = game;
+    let _ = work;
     let row = place as u32 - home.block.base;
     let state = home.run.quotient(row);
     let pos = home.block.first + (row - state * home.run.by());
-    Cell {
-        at,
-        pos: PosId(pos),
-        state: StateId(state as u16),
-    }
+    let state = state as u16;
+    home.cell.pos = PosId(pos);
+    home.cell.state = StateId(state);
 }

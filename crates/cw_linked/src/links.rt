@@ -37,7 +37,7 @@ fn add_placed(
 ) -> Result<(), NoMemory>
     requires routed { AreRouted (game_of game.now) (length game.now.graph.parts.items) }
     requires kept { IsOpen (game_of game.now) work.old }
-    requires contexts { AreTabled (game_of game.now) (work.old.table.contexts.items ++ context ∷ []) }
+    requires contexts { AreTabled (game_of game.now) (work.old.blocks.contexts.items ++ context ∷ []) }
     ensures { OnOk result (AddsContext (game_of game.now) work.old work.new context) }
 {
     let function = context.function;
@@ -59,11 +59,11 @@ fn number_of(
     requires needed { IsNeeded (game_of game.now) context.now }
     ensures { IfOk result (λ number. NumbersContext (game_of game.now) work.old work.new context.now number) }
 {
-    match places.place_of(&work.table.contexts, context.function, &context.promise) {
+    match places.place_of(&work.blocks.contexts, context.function, &context.promise) {
         Some(number) => Ok(Some(number)),
         None => {
-            let number = work.table.contexts.len();
-            if work.table.heights.len() as u32 + size(game, context.function) > CELLS as u32 {
+            let number = work.blocks.contexts.len();
+            if work.store.places() as u32 + size(game, context.function) > CELLS as u32 {
                 return Ok(None);
             }
             add_placed(alloc, game, work, places, *context)?;
@@ -97,12 +97,12 @@ pub(crate) fn take_link(
     };
     let context = Context {
         function: callee,
-        promise: promise_of(game, &work.table, link, back, split, moves),
+        promise: promise_of(game, work, link, back, split, moves),
     };
     let Some(number) = number_of(alloc, game, work, places, &context)? else {
         return Ok(Stepped::TooMany(context));
     };
-    let to = numbered(game, &work.table, number);
+    let to = numbered(game, &work.blocks, number);
     tie_link(game, work, place, link, back, moves, &to)?;
     Ok(Stepped::More)
 }

@@ -1,6 +1,6 @@
 //! What waits under the least key is taken.
 
-ghost use Rattle.std.specs.Prelude.{◌≤◌, length};
+ghost use Rattle.std.specs.Prelude.{◌≤◌};
 ghost use Rattle.cw_linked.specs.Popped.{Pops};
 ghost use Rattle.cw_linked.specs.Queues.{AreLong};
 
@@ -20,17 +20,14 @@ pub(crate) enum Popped {
 /// Takes what waits under the least key: a cell has its height then, a link doesn't wait any more.
 pub(crate) fn pop(work: &mut Work) -> Popped
     requires long { AreLong work.old }
-    requires few { length work.old.table.heights.items ≤ 4194304 }
-    requires counted { work.old.table.written ≤ 4194304 }
+    requires counted { work.old.written ≤ 4194304 }
     ensures { Pops work.old work.new result }
 {
     match work.store.pop() {
         Taken::Nothing => Popped::Nothing,
         Taken::Cell(place, key) => {
-            let height = key / 2;
-            work.table.heights[place] = height;
-            work.table.written += 1;
-            Popped::Cell(place, height)
+            work.written += 1;
+            Popped::Cell(place, key / 2)
         }
         Taken::Link(place, key) => Popped::Link(place, key / 2),
     }

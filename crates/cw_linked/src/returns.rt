@@ -4,25 +4,25 @@ ghost use Rattle.std.specs.Prelude.{◌≡◌, ◌<◌, true, false, length, OnO
 ghost use Rattle.cw_product.specs.Product.{game_of};
 ghost use Rattle.cw_product.specs.Moves.{IsPosition};
 ghost use Rattle.cw_product.specs.Routed.{AreRouted, IsOf};
-ghost use Rattle.cw_solve.specs.Tables.{IsTable, HasCell};
+ghost use Rattle.cw_solve.specs.Tables.{HasCell};
 ghost use Rattle.cw_linked.specs.Founds.{AreRight, AllStanding};
 ghost use Rattle.cw_linked.specs.Queues.{found_of, AreMarked, AreLong, AreHigh};
 ghost use Rattle.cw_linked.specs.Returns.{AreReturns, AreFew, IsPromised, Returns, AsksReturn, AsksReturns};
 ghost use Rattle.cw_linked.specs.Steps.{ReturnsThere};
-ghost use Rattle.cw_linked.specs.Works.{heights_of, cell_of};
+ghost use Rattle.cw_linked.specs.Works.{known_of, IsKnown, heights_of, cell_of};
 
 use crate::calls::class_at;
 use crate::waiting::is_of;
 use crate::work::{Cell, Work, ask_link};
 use cw_core::{NoMemory, PosId, StateId};
-use cw_links::Chains;
+use cw_links::Rows;
 use cw_product::{Game, Turn};
 use cw_solve::table::{Tabled, slot};
 
 /// Whether the link at a place goes to a context whose promise has the state.
 fn is_promised(work: &Work, link: usize, state: StateId) -> bool
     requires long { AreLong work.now }
-    requires within { link < length work.now.table.heights.items }
+    requires within { link < length work.now.store.heights }
     requires few { AreFew work.now }
     requires state { state.0 < 1024 }
     ensures is { result ≡ true → IsPromised work.now link state.0 }
@@ -32,7 +32,7 @@ fn is_promised(work: &Work, link: usize, state: StateId) -> bool
     if to == 0 {
         false
     } else {
-        work.table.contexts[to - 1].promise.contains(state)
+        work.blocks.contexts[to - 1].promise.contains(state)
     }
 }
 
@@ -60,9 +60,9 @@ fn ask_own(
     pos: PosId,
 ) -> Result<(), NoMemory>
     requires routed { AreRouted (game_of game.now) (length game.now.graph.parts.items) }
-    requires table { IsTable (game_of game.now) work.old.table }
-    requires cell { HasCell (game_of game.now) work.old.table at.now back.0 state.0 }
-    requires taken { heights_of (game_of game.now) work.old.table at.now.number back.0 state.0 ≡ height }
+    requires known { IsKnown (game_of game.now) (known_of work.old) }
+    requires cell { HasCell (game_of game.now) work.old.blocks at.now back.0 state.0 }
+    requires taken { heights_of (game_of game.now) (known_of work.old) at.now.number back.0 state.0 ≡ height }
     requires some { 0 < height }
     requires position { IsPosition (game_of game.now) pos.0 }
     requires of { IsOf (game_of game.now) at.now.context.function pos.0 }
@@ -71,13 +71,13 @@ fn ask_own(
     requires marked { AreMarked (game_of game.now) work.old }
     requires long { AreLong work.old }
     requires high { AreHigh work.old }
-    requires right { AreRight (game_of game.now) work.old.table.contexts.items (found_of (game_of game.now) work.old) }
+    requires right { AreRight (game_of game.now) work.old.blocks.contexts.items (found_of (game_of game.now) work.old) }
     ensures { OnOk result (AsksReturn (game_of game.now) work.old work.new (cell_of at.now back state) pos.0) }
 {
     match class_at(game, pos, state) {
         None => Ok(()),
         Some(class) => {
-            let link = slot(game, &work.table, at, pos, class);
+            let link = slot(game, &work.blocks, at, pos, class);
             if is_promised(work, link, state) {
                 ask_link(work, link, 2 * height + 1)?;
                 Ok(())
@@ -99,16 +99,16 @@ pub(crate) fn ask_return(
     pos: PosId,
 ) -> Result<(), NoMemory>
     requires routed { AreRouted (game_of game.now) (length game.now.graph.parts.items) }
-    requires table { IsTable (game_of game.now) work.old.table }
-    requires cell { HasCell (game_of game.now) work.old.table at.now back.0 state.0 }
-    requires taken { heights_of (game_of game.now) work.old.table at.now.number back.0 state.0 ≡ height }
+    requires known { IsKnown (game_of game.now) (known_of work.old) }
+    requires cell { HasCell (game_of game.now) work.old.blocks at.now back.0 state.0 }
+    requires taken { heights_of (game_of game.now) (known_of work.old) at.now.number back.0 state.0 ≡ height }
     requires some { 0 < height }
     requires position { IsPosition (game_of game.now) pos.0 }
     requires few { AreFew work.old }
     requires marked { AreMarked (game_of game.now) work.old }
     requires long { AreLong work.old }
     requires high { AreHigh work.old }
-    requires right { AreRight (game_of game.now) work.old.table.contexts.items (found_of (game_of game.now) work.old) }
+    requires right { AreRight (game_of game.now) work.old.blocks.contexts.items (found_of (game_of game.now) work.old) }
     ensures { OnOk result (AsksReturn (game_of game.now) work.old work.new (cell_of at.now back state) pos.0) }
 {
     if !is_of(game, at, pos) {
@@ -124,38 +124,29 @@ pub(crate) fn ask_return(
 /// Asks for the links that return to a cell.
 pub(crate) fn ask_returns(
     game: &Game,
-    returns: &Chains<PosId>,
+    returns: &Rows<PosId>,
     work: &mut Work,
     cell: &Cell,
     height: u32,
 ) -> Result<(), NoMemory>
     requires routed { AreRouted (game_of game.now) (length game.now.graph.parts.items) }
     requires returns { AreReturns (game_of game.now) returns.now }
-    requires table { IsTable (game_of game.now) work.old.table }
-    requires cell { HasCell (game_of game.now) work.old.table cell.now.at cell.now.pos.0 cell.now.state.0 }
-    requires taken { heights_of (game_of game.now) work.old.table cell.now.at.number cell.now.pos.0 cell.now.state.0 ≡ height }
+    requires known { IsKnown (game_of game.now) (known_of work.old) }
+    requires cell { HasCell (game_of game.now) work.old.blocks cell.now.at cell.now.pos.0 cell.now.state.0 }
+    requires taken { heights_of (game_of game.now) (known_of work.old) cell.now.at.number cell.now.pos.0 cell.now.state.0 ≡ height }
     requires some { 0 < height }
     requires few { AreFew work.old }
     requires marked { AreMarked (game_of game.now) work.old }
     requires long { AreLong work.old }
     requires high { AreHigh work.old }
-    requires right { AreRight (game_of game.now) work.old.table.contexts.items (found_of (game_of game.now) work.old) }
-    requires standing { AllStanding (game_of game.now) work.old.table.contexts.items (found_of (game_of game.now) work.old)
-        (ReturnsThere (game_of game.now) work.old.table.contexts.items (found_of (game_of game.now) work.old) cell.now.at.number cell.now.pos.0 cell.now.state.0) }
+    requires right { AreRight (game_of game.now) work.old.blocks.contexts.items (found_of (game_of game.now) work.old) }
+    requires standing { AllStanding (game_of game.now) work.old.blocks.contexts.items (found_of (game_of game.now) work.old)
+        (ReturnsThere (game_of game.now) work.old.blocks.contexts.items (found_of (game_of game.now) work.old) cell.now.at.number cell.now.pos.0 cell.now.state.0) }
     ensures { OnOk result (AsksReturns (game_of game.now) work.old work.new) }
 {
-    let mut next = returns.first(cell.pos.0);
-    'walk: while let Some(edge) = next {
-        ask_return(
-            game,
-            work,
-            &cell.at,
-            cell.pos,
-            cell.state,
-            height,
-            *returns.get(edge),
-        )?;
-        next = returns.next(edge);
+    let row = returns.row(cell.pos.0);
+    for pos in row {
+        ask_return(game, work, &cell.at, cell.pos, cell.state, height, *pos)?;
     }
     Ok(())
 }

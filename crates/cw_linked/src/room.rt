@@ -1,6 +1,6 @@
 //! One more context: its cells and its links.
 
-ghost use Rattle.std.specs.Prelude.{◌≡◌, ℕ, ◌≤◌, ◌<◌, ◌+◌, true, false, Some, length, slice_get, OnOk, IfOk};
+ghost use Rattle.std.specs.Prelude.{◌≡◌, ℕ, ◌≤◌, ◌+◌, true, false, Some, length, slice_get, OnOk, IfOk};
 ghost use Rattle.cw_game.specs.Pairs.{Called, call_in, is_call_in};
 ghost use Rattle.cw_product.specs.Product.{game_of};
 ghost use Rattle.cw_product.specs.Moves.{IsPosition, IsState};
@@ -11,12 +11,11 @@ ghost use Rattle.cw_linked.specs.Added.{PushesPlaces, PushesNext, PushesContext,
 ghost use Rattle.cw_linked.specs.Founds.{class_of};
 
 use crate::calls::{class_at, is_call};
-use crate::work::Work;
 use cw_core::{NoMemory, PosId, StateId};
 use cw_links::Store;
 use cw_product::Game;
 use cw_solve::Context;
-use cw_solve::table::size;
+use cw_solve::table::{Blocks, size};
 
 /// Whether a link stands at a position and a state: a call, and the state that stands for those that are alike there.
 fn is_link(game: &Game, pos: PosId, state: StateId) -> bool
@@ -127,15 +126,11 @@ pub(crate) fn push_places(game: &Game, store: &mut Store, function: u16) -> Resu
     push_plain(game, store, function)
 }
 
-/// Adds a context with so many cells, of which none has a height, beside the store.
-pub(crate) fn push(work: &mut Work, context: Context, many: u32) -> Result<(), NoMemory>
-    requires few { length work.old.table.heights.items + many ≤ 4194304 }
-    ensures { OnOk result (PushesContext work.old work.new context many) }
+/// Adds a context whose cells begin at this place.
+pub(crate) fn push(blocks: &mut Blocks, context: Context, base: u32) -> Result<(), NoMemory>
+    ensures { OnOk result (PushesContext blocks.old blocks.new context base) }
 {
-    let cells = work.table.heights.len();
-    let end = cells + many as usize;
-    work.table.heights.resize(end, 0)?;
-    work.table.bases.push(cells as u32)?;
-    work.table.contexts.push(context)?;
+    blocks.bases.push(base)?;
+    blocks.contexts.push(context)?;
     Ok(())
 }

@@ -1,6 +1,6 @@
 //! The solver.
 
-ghost use Rattle.std.specs.Prelude.{◌≡◌, ◌<◌, ◌≤◌, ◌++◌, ◌∷◌, [], length, slice_index, OnOk, IfOk, IfErr};
+ghost use Rattle.std.specs.Prelude.{◌≡◌, ◌<◌, ◌≤◌, ◌++◌, ◌∷◌, [], min, length, slice_index, OnOk, IfOk, IfErr};
 ghost use Rattle.cw_product.specs.Product.{game_of};
 ghost use Rattle.cw_solve.specs.Contexts.{cells_of, AreTheNeeded};
 ghost use Rattle.cw_product.specs.Made.{IsMade};
@@ -9,24 +9,26 @@ ghost use Rattle.cw_solve.specs.Solved.{IsCause};
 ghost use Rattle.cw_solve.specs.Tables.{IsTable, IsDone};
 ghost use Rattle.cw_linked.specs.Homes.{IsHome};
 ghost use Rattle.cw_linked.specs.Links.{TakesLink};
+ghost use Rattle.cw_linked.specs.Plain.{ArePlain};
 ghost use Rattle.cw_linked.specs.Popped.{IsWork, IsTakenAt, Finishes};
 ghost use Rattle.cw_linked.specs.Returns.{AreReturns};
 ghost use Rattle.cw_linked.specs.Runs.{AreRuns};
 ghost use Rattle.cw_linked.specs.Solving.{IsBlankWork, Ends};
 ghost use Rattle.cw_linked.specs.Tied.{IsFreedAt};
 ghost use Rattle.cw_linked.specs.Waiting.{AreWaits};
+ghost use Rattle.cw_linked.specs.Works.{known_of, IsKnown};
 
 use crate::added::add;
 use crate::cells::finish;
 use crate::edges::Edges;
-use crate::home::{Home, approach, cell_near, no_home};
+use crate::home::{Home, approach, look_at, no_home};
 use crate::links::{Stepped, take_link};
 use crate::popped::{Popped, pop};
 use crate::work::{Work, cell_by};
 use cw_core::NoMemory;
 use cw_links::Store;
 use cw_product::Game;
-use cw_solve::table::{Table, main_context};
+use cw_solve::table::{Blocks, Table, main_context};
 use cw_solve::{Context, Places, SolveFault, Solved};
 use std::alloc::{AllocError, Global};
 
@@ -44,17 +46,18 @@ fn finish_at(
     requires routed { AreRouted (game_of game.now) (length game.now.graph.parts.items) }
     requires waits { AreWaits (game_of game.now) edges.now.waits }
     requires returns { AreReturns (game_of game.now) edges.now.returns }
+    requires plain { ArePlain (game_of game.now) (min (length game.now.graph.parts.items) 65536) (length (game_of game.now).spots) edges.now.plain.items }
     requires runs { AreRuns (game_of game.now) (length game.now.graph.parts.items) edges.now.runs.items }
-    requires table { IsTable (game_of game.now) work.old.table }
-    requires within { place < length work.old.table.heights.items }
+    requires known { IsKnown (game_of game.now) (known_of work.old) }
+    requires within { place < length work.old.store.heights }
     requires taken { IsTakenAt (game_of game.now) work.old place height }
-    requires home { IsHome (game_of game.now) work.old.table.contexts.items home.old }
+    requires home { IsHome (game_of game.now) work.old.blocks.contexts.items home.old }
     ensures finishes { OnOk result (Finishes (game_of game.now) work.old work.new work.old.store.to) }
-    ensures home { IsHome (game_of game.now) work.old.table.contexts.items home.new }
+    ensures home { IsHome (game_of game.now) work.old.blocks.contexts.items home.new }
 {
-    approach(game, &edges.runs, &work.table, home, place);
-    let cell = cell_near(game, work, home, place);
-    finish(game, edges, work, &cell, &home.block, height)?;
+    approach(game, &edges.runs, &work.blocks, home, place);
+    look_at(game, work, home, place);
+    finish(game, edges, work, &home.cell, &home.block, height)?;
     Ok(())
 }
 
@@ -73,17 +76,17 @@ fn tie_at(
 ) -> Result<Stepped, NoMemory>
     requires routed { AreRouted (game_of game.now) (length game.now.graph.parts.items) }
     requires runs { AreRuns (game_of game.now) (length game.now.graph.parts.items) edges.now.runs.items }
-    requires table { IsTable (game_of game.now) work.old.table }
-    requires within { place < length work.old.table.heights.items }
+    requires known { IsKnown (game_of game.now) (known_of work.old) }
+    requires within { place < length work.old.store.heights }
     requires freed { IsFreedAt (game_of game.now) work.old place moves }
     requires some { 0 < slice_index work.old.store.to place → 0 < moves }
     ensures takes { IfOk result (λ stepped. TakesLink (game_of game.now) work.old work.new stepped) }
     ensures home { home.new.past ≡ 0 }
 {
-    let link = cell_by(game, &edges.runs, work, home.number, place);
-    home.number = link.at.number();
+    let link = cell_by(game, &edges.runs, work, home.cell.at.number(), place);
     home.past = 0;
     let stepped = take_link(alloc, game, work, places, place, &link, moves)?;
+    home.cell = link;
     Ok(stepped)
 }
 
@@ -98,11 +101,12 @@ fn steps(
     requires routed { AreRouted (game_of game.now) (length game.now.graph.parts.items) }
     requires waits { AreWaits (game_of game.now) edges.now.waits }
     requires returns { AreReturns (game_of game.now) edges.now.returns }
+    requires plain { ArePlain (game_of game.now) (min (length game.now.graph.parts.items) 65536) (length (game_of game.now).spots) edges.now.plain.items }
     requires runs { AreRuns (game_of game.now) (length game.now.graph.parts.items) edges.now.runs.items }
     requires work { IsWork (game_of game.now) work.old }
-    ensures { IfOk result (λ more. Ends (game_of game.now) work.new.table more) }
+    ensures { IfOk result (λ more. Ends (game_of game.now) (known_of work.new) more) }
 {
-    let mut home = no_home();
+    let mut home = no_home(game, &work.blocks);
     'steps: loop {
         match pop(work) {
             Popped::Nothing => return Ok(None),
@@ -124,12 +128,11 @@ fn blank(alloc: Global) -> Result<Work, NoMemory>
     ensures { IfOk result IsBlankWork }
 {
     Ok(Work {
-        table: Table {
+        blocks: Blocks {
             contexts: Vec::new(alloc),
             bases: Vec::new(alloc),
-            heights: Vec::new(alloc),
-            written: 0,
         },
+        written: 0,
         store: Store::make(alloc)?,
     })
 }
@@ -151,7 +154,7 @@ fn solve_work(
     places: &mut Places,
 ) -> Result<(Work, Option<Context>), NoMemory>
     requires routed { AreRouted (game_of game.now) (length game.now.graph.parts.items) }
-    ensures { IfOk result (λ end. Ends (game_of game.now) end.0.table end.1) }
+    ensures { IfOk result (λ end. Ends (game_of game.now) (known_of end.0) end.1) }
 {
     let edges = Edges::make(alloc, game)?;
     let mut work = begun(alloc, game)?;
@@ -160,13 +163,26 @@ fn solve_work(
     Ok((work, more))
 }
 
-/// A table's contexts and one more.
-fn longer(table: Table, context: Context) -> Result<Vec<Context>, AllocError>
-    ensures { IfOk result (λ v. v.items ≡ table.contexts.items ++ context ∷ []) }
+/// The contexts that are there and one more.
+fn longer(blocks: Blocks, context: Context) -> Result<Vec<Context>, AllocError>
+    ensures { IfOk result (λ v. v.items ≡ blocks.contexts.items ++ context ∷ []) }
 {
-    let mut contexts = table.contexts;
+    let mut contexts = blocks.contexts;
     contexts.push(context)?;
     Ok(contexts)
+}
+
+/// The table of what is known.
+fn table_of(work: Work) -> Table
+    ensures blocks { result.blocks ≡ work.blocks }
+    ensures heights { result.heights.items ≡ work.store.heights }
+    ensures written { result.written ≡ work.written }
+{
+    Table {
+        blocks: work.blocks,
+        heights: work.store.into_heights(),
+        written: work.written,
+    }
 }
 
 /// The table of a game.
@@ -180,8 +196,8 @@ fn solve_table(alloc: Global, game: &Game, places: &mut Places) -> Result<Table,
         return Err(SolveFault::NoMemory);
     };
     match more {
-        None => Ok(work.table),
-        Some(context) => Err(SolveFault::TooManyCells(longer(work.table, context)?)),
+        None => Ok(table_of(work)),
+        Some(context) => Err(SolveFault::TooManyCells(longer(work.blocks, context)?)),
     }
 }
 

@@ -9,7 +9,7 @@ ghost use Rattle.cw_product.specs.Moves.{IsPosition};
 ghost use Rattle.cw_product.specs.Routed.{AreRouted, IsOf};
 ghost use Rattle.cw_solve.specs.Contexts.{IsSetOf};
 ghost use Rattle.cw_solve.specs.Rounds.{holds_by};
-ghost use Rattle.cw_solve.specs.Tables.{IsTable, IsTabled, HasCell};
+ghost use Rattle.cw_solve.specs.Tables.{IsTabled, HasCell};
 ghost use Rattle.cw_linked.specs.Calls.{AreCallers, AsksCaller};
 ghost use Rattle.cw_linked.specs.Founds.{AreRight, AllCalled, AllStanding, IsTied};
 ghost use Rattle.cw_linked.specs.Popped.{Finishes};
@@ -17,56 +17,59 @@ ghost use Rattle.cw_linked.specs.Queues.{found_of, AreMarked, AreLong, AreHigh, 
 ghost use Rattle.cw_linked.specs.Returns.{AreFew, Returns, AsksReturn};
 ghost use Rattle.cw_linked.specs.Steps.{CallsBy, IsIt};
 ghost use Rattle.cw_linked.specs.Tied.{IsTieable, TiesLink, AsksCalls, AsksAgain};
-ghost use Rattle.cw_linked.specs.Works.{heights_of, cell_of};
+ghost use Rattle.cw_linked.specs.Works.{known_of, IsKnown, heights_of, cell_of};
 
 use crate::calls::ask_call;
 use crate::returns::ask_return;
 use crate::work::{Cell, Work};
 use cw_core::{NoMemory, PosId, StateId, StateSet};
 use cw_product::Game;
-use cw_solve::table::{Table, Tabled, slot};
+use cw_solve::table::{Tabled, slot};
 
 /// The height that is taken of a cell, 0 where none is.
-fn height_at(game: &Game, table: &Table, at: &Tabled, pos: PosId, state: StateId) -> u32
+fn height_at(game: &Game, work: &Work, at: &Tabled, pos: PosId, state: StateId) -> u32
     requires routed { AreRouted (game_of game.now) (length game.now.graph.parts.items) }
-    requires table { IsTable (game_of game.now) table.now }
-    requires cell { HasCell (game_of game.now) table.now at.now pos.0 state.0 }
-    ensures { result ≡ heights_of (game_of game.now) table.now at.now.number pos.0 state.0 }
+    requires known { IsKnown (game_of game.now) (known_of work.now) }
+    requires long { AreLong work.now }
+    requires cell { HasCell (game_of game.now) work.now.blocks at.now pos.0 state.0 }
+    ensures { result ≡ heights_of (game_of game.now) (known_of work.now) at.now.number pos.0 state.0 }
 {
-    table.heights[slot(game, table, at, pos, state)]
+    work.store.height(slot(game, &work.blocks, at, pos, state))
 }
 
 /// Whether the taken heights tell of a cell that it holds for so many moves.
-fn stays(game: &Game, table: &Table, at: &Tabled, pos: PosId, state: StateId, moves: u32) -> bool
+fn stays(game: &Game, work: &Work, at: &Tabled, pos: PosId, state: StateId, moves: u32) -> bool
     requires routed { AreRouted (game_of game.now) (length game.now.graph.parts.items) }
-    requires table { IsTable (game_of game.now) table.now }
-    requires cell { HasCell (game_of game.now) table.now at.now pos.0 state.0 }
-    ensures { result ≡ holds_by moves (heights_of (game_of game.now) table.now at.now.number pos.0 state.0) }
+    requires known { IsKnown (game_of game.now) (known_of work.now) }
+    requires long { AreLong work.now }
+    requires cell { HasCell (game_of game.now) work.now.blocks at.now pos.0 state.0 }
+    ensures { result ≡ holds_by moves (heights_of (game_of game.now) (known_of work.now) at.now.number pos.0 state.0) }
 {
-    let height = height_at(game, table, at, pos, state);
+    let height = height_at(game, work, at, pos, state);
     height == 0 || moves < height
 }
 
 /// What a link's call promises for so many moves, as the taken heights tell.
 pub(crate) fn promise_of(
     game: &Game,
-    table: &Table,
+    work: &Work,
     link: &Cell,
     back: PosId,
     split: bool,
     moves: u32,
 ) -> StateSet
     requires routed { AreRouted (game_of game.now) (length game.now.graph.parts.items) }
-    requires table { IsTable (game_of game.now) table.now }
-    requires cell { HasCell (game_of game.now) table.now link.now.at back.0 link.now.state.0 }
+    requires known { IsKnown (game_of game.now) (known_of work.now) }
+    requires long { AreLong work.now }
+    requires cell { HasCell (game_of game.now) work.now.blocks link.now.at back.0 link.now.state.0 }
     ensures { IsSetOf (game_of game.now) result (λ x. holds_by moves
-        (heights_of (game_of game.now) table.now link.now.at.number back.0 (returned (game_of game.now).states (kept_at split link.now.state.0) x))) }
+        (heights_of (game_of game.now) (known_of work.now) link.now.at.number back.0 (returned (game_of game.now).states (kept_at split link.now.state.0) x))) }
 {
     let mut set = StateSet::empty();
     for x in 0..game.states() {
         let exit = StateId(x);
         let then = game.returned(link.state, exit, split);
-        if stays(game, table, &link.at, back, then, moves) {
+        if stays(game, work, &link.at, back, then, moves) {
             set.insert(exit);
         }
     }
@@ -77,11 +80,11 @@ pub(crate) fn promise_of(
 fn tie(work: &mut Work, place: usize, callee: &Tabled, moves: u32)
     requires long { AreLong work.old }
     requires callers { AreCallers work.old }
-    requires few { length work.old.table.heights.items ≤ 4194304 }
-    requires within { place < length work.old.table.heights.items }
+    requires few { length work.old.store.heights ≤ 4194304 }
+    requires within { place < length work.old.store.heights }
     requires marked { is_marked work.old.store.marks place ≡ true }
-    requires contexts { length work.old.table.contexts.items ≤ 4194304 }
-    requires number { callee.now.number < length work.old.table.contexts.items }
+    requires contexts { length work.old.blocks.contexts.items ≤ 4194304 }
+    requires number { callee.now.number < length work.old.blocks.contexts.items }
     ensures { TiesLink work.old work.new place callee.now.number moves }
 {
     work.store.tie(place, callee.number() as u32 + 1, moves);
@@ -97,16 +100,16 @@ fn ask_lost(
     place: usize,
 ) -> Result<(), NoMemory>
     requires routed { AreRouted (game_of game.now) (length game.now.graph.parts.items) }
-    requires table { IsTable (game_of game.now) work.old.table }
-    requires cell { HasCell (game_of game.now) work.old.table at.now pos.0 state.0 }
+    requires known { IsKnown (game_of game.now) (known_of work.old) }
+    requires cell { HasCell (game_of game.now) work.old.blocks at.now pos.0 state.0 }
     requires entry { pos.0 ≡ (game_of game.now).entry at.now.context.function }
-    requires within { place < length work.old.table.heights.items }
+    requires within { place < length work.old.store.heights }
     requires long { AreLong work.old }
     requires high { AreHigh work.old }
-    requires right { AreRight (game_of game.now) work.old.table.contexts.items (found_of (game_of game.now) work.old) }
+    requires right { AreRight (game_of game.now) work.old.blocks.contexts.items (found_of (game_of game.now) work.old) }
     ensures { OnOk result (AsksCaller (game_of game.now) work.old work.new place (cell_of at.now pos state)) }
 {
-    let height = height_at(game, &work.table, at, pos, state);
+    let height = height_at(game, work, at, pos, state);
     if height == 0 {
         return Ok(());
     }
@@ -123,14 +126,14 @@ fn ask_calls(
     callee: &Tabled,
 ) -> Result<(), NoMemory>
     requires routed { AreRouted (game_of game.now) (length game.now.graph.parts.items) }
-    requires table { IsTable (game_of game.now) work.old.table }
+    requires known { IsKnown (game_of game.now) (known_of work.old) }
     requires at { IsCellAt (game_of game.now) work.old place link.now }
-    requires callee { IsTabled work.old.table callee.now }
+    requires callee { IsTabled work.old.blocks callee.now }
     requires goes { slice_index work.old.store.to place ≡ suc callee.now.number }
     requires long { AreLong work.old }
     requires high { AreHigh work.old }
-    requires right { AreRight (game_of game.now) work.old.table.contexts.items (found_of (game_of game.now) work.old) }
-    requires called { AllCalled (game_of game.now) work.old.table.contexts.items (found_of (game_of game.now) work.old)
+    requires right { AreRight (game_of game.now) work.old.blocks.contexts.items (found_of (game_of game.now) work.old) }
+    requires called { AllCalled (game_of game.now) work.old.blocks.contexts.items (found_of (game_of game.now) work.old)
         (CallsBy (game_of game.now) link.now.at.number link.now.pos.0 link.now.state.0) }
     ensures { OnOk result (AsksCalls (game_of game.now) work.old work.new) }
 {
@@ -151,17 +154,17 @@ fn ask_back(
     pos: PosId,
 ) -> Result<(), NoMemory>
     requires routed { AreRouted (game_of game.now) (length game.now.graph.parts.items) }
-    requires table { IsTable (game_of game.now) work.old.table }
-    requires cell { HasCell (game_of game.now) work.old.table at.now back.0 state.0 }
+    requires known { IsKnown (game_of game.now) (known_of work.old) }
+    requires cell { HasCell (game_of game.now) work.old.blocks at.now back.0 state.0 }
     requires position { IsPosition (game_of game.now) pos.0 }
     requires few { AreFew work.old }
     requires marked { AreMarked (game_of game.now) work.old }
     requires long { AreLong work.old }
     requires high { AreHigh work.old }
-    requires right { AreRight (game_of game.now) work.old.table.contexts.items (found_of (game_of game.now) work.old) }
+    requires right { AreRight (game_of game.now) work.old.blocks.contexts.items (found_of (game_of game.now) work.old) }
     ensures { OnOk result (AsksReturn (game_of game.now) work.old work.new (cell_of at.now back state) pos.0) }
 {
-    let height = height_at(game, &work.table, at, back, state);
+    let height = height_at(game, work, at, back, state);
     if height == 0 {
         return Ok(());
     }
@@ -172,8 +175,8 @@ fn ask_back(
 /// Asks for a link that was tied, if states of its promise return to taken pairs.
 fn ask_again(game: &Game, work: &mut Work, link: &Cell, back: PosId) -> Result<(), NoMemory>
     requires routed { AreRouted (game_of game.now) (length game.now.graph.parts.items) }
-    requires table { IsTable (game_of game.now) work.old.table }
-    requires cell { HasCell (game_of game.now) work.old.table link.now.at link.now.pos.0 link.now.state.0 }
+    requires known { IsKnown (game_of game.now) (known_of work.old) }
+    requires cell { HasCell (game_of game.now) work.old.blocks link.now.at link.now.pos.0 link.now.state.0 }
     requires back { IsOf (game_of game.now) link.now.at.context.function back.0 }
     requires returns { Returns (game_of game.now) link.now.pos.0 back.0 }
     requires tied { IsTied (found_of (game_of game.now) work.old) link.now.at.number link.now.pos.0 link.now.state.0 }
@@ -181,8 +184,8 @@ fn ask_again(game: &Game, work: &mut Work, link: &Cell, back: PosId) -> Result<(
     requires marked { AreMarked (game_of game.now) work.old }
     requires long { AreLong work.old }
     requires high { AreHigh work.old }
-    requires right { AreRight (game_of game.now) work.old.table.contexts.items (found_of (game_of game.now) work.old) }
-    requires standing { AllStanding (game_of game.now) work.old.table.contexts.items (found_of (game_of game.now) work.old)
+    requires right { AreRight (game_of game.now) work.old.blocks.contexts.items (found_of (game_of game.now) work.old) }
+    requires standing { AllStanding (game_of game.now) work.old.blocks.contexts.items (found_of (game_of game.now) work.old)
         (IsIt link.now.at.number link.now.pos.0 link.now.state.0) }
     ensures { OnOk result (AsksAgain (game_of game.now) work.old work.new) }
 {

@@ -1,27 +1,32 @@
 //! What the solver has found so far, and what waits.
 
-ghost use Rattle.std.specs.Prelude.{◌≡◌, ◌<◌, true, length, IsTrue, OnOk};
+ghost use Rattle.std.specs.Prelude.{◌≡◌, ◌*◌, ◌<◌, ◌≤◌, true, length, IsTrue, OnOk};
 ghost use Rattle.cw_links.specs.Marks.{is_marked};
 ghost use Rattle.cw_product.specs.Product.{game_of};
 ghost use Rattle.cw_product.specs.Routed.{AreRouted};
+ghost use Rattle.cw_solve.specs.Contexts.{cells_of};
 ghost use Rattle.cw_solve.specs.Rounds.{positions};
-ghost use Rattle.cw_solve.specs.Tables.{IsTable, IsTabled};
+ghost use Rattle.cw_solve.specs.Tables.{AreBlocks, IsTabled};
 ghost use Rattle.cw_linked.specs.Queues.{AreLong, AsksForCell, AsksForLink, IsOwner, IsCellAt};
 ghost use Rattle.cw_linked.specs.Runs.{AreRuns};
+ghost use Rattle.cw_linked.specs.Works.{known_of, IsKnown};
 
 use crate::divisor::Divisor;
 use cw_core::{NoMemory, PosId, StateId};
 use cw_links::Store;
 use cw_product::Game;
-use cw_solve::table::{Table, Tabled, numbered, positions};
+use cw_solve::table::{Blocks, Tabled, numbered, positions};
 
-/// The heights that are taken, and by each cell's place the key under which the cell waits, 0 where it doesn't. A link, a call of a context with a class of states, has the place of its call and the state that
+/// The contexts that are there; and by each cell's place the height that is taken, 0 where none is, and the key under which the cell
+/// waits, 0 where it doesn't. A link, a call of a context with a class of states, has the place of its call and the state that
 /// stands for the class. It has the number of the context to which it goes plus 1, 0 where it isn't tied; the number of moves
 /// for which it promises; and its key. A cell of height n waits under 2 * n, a link whose promise shrinks for n moves
 /// under 2 * n + 1.
 #[derive(Drop)]
 pub(crate) struct Work {
-    pub table: Table,
+    pub blocks: Blocks,
+    /// How many cells have a height.
+    pub written: u32,
     /// The list i + 1 has the links that go to the context i.
     pub store: Store,
 }
@@ -35,27 +40,27 @@ pub(crate) struct Cell {
 }
 
 /// The number of the context that has a place among those of its cells: the last one that begins at or before it.
-fn owner(game: &Game, table: &Table, place: usize) -> usize
-    requires table { IsTable (game_of game.now) table.now }
-    requires within { place < length table.now.heights.items }
-    ensures { IsOwner (game_of game.now) table.now.contexts.items result place }
+fn owner(game: &Game, blocks: &Blocks, place: usize) -> usize
+    requires blocks { AreBlocks (game_of game.now) blocks.now }
+    requires within { place < cells_of (game_of game.now) blocks.now.contexts.items }
+    ensures { IsOwner (game_of game.now) blocks.now.contexts.items result place }
 {
     let place = place as u32;
-    table.bases.partition_point(|base| *base <= place) - 1
+    blocks.bases.partition_point(|base| *base <= place) - 1
 }
 
 /// Whether a context has a place among those of its cells.
-fn has_place(game: &Game, table: &Table, number: usize, place: usize) -> bool
-    requires table { IsTable (game_of game.now) table.now }
-    requires within { place < length table.now.heights.items }
-    ensures { IsTrue result → IsOwner (game_of game.now) table.now.contexts.items number place }
+fn has_place(game: &Game, blocks: &Blocks, number: usize, place: usize) -> bool
+    requires blocks { AreBlocks (game_of game.now) blocks.now }
+    requires within { place < cells_of (game_of game.now) blocks.now.contexts.items }
+    ensures { IsTrue result → IsOwner (game_of game.now) blocks.now.contexts.items number place }
 {
     let place = place as u32;
-    match table.bases.get(number) {
+    match blocks.bases.get(number) {
         None => false,
         Some(base) => {
             *base <= place
-                && match table.bases.get(number + 1) {
+                && match blocks.bases.get(number + 1) {
                     None => true,
                     Some(next) => place < *next,
                 }
@@ -64,29 +69,29 @@ fn has_place(game: &Game, table: &Table, number: usize, place: usize) -> bool
 }
 
 /// The same as `owner`. A context is looked at first: mostly the one whose cell was taken before has this one too.
-pub(crate) fn owner_near(game: &Game, table: &Table, near: usize, place: usize) -> usize
-    requires table { IsTable (game_of game.now) table.now }
-    requires within { place < length table.now.heights.items }
-    ensures { IsOwner (game_of game.now) table.now.contexts.items result place }
+pub(crate) fn owner_near(game: &Game, blocks: &Blocks, near: usize, place: usize) -> usize
+    requires blocks { AreBlocks (game_of game.now) blocks.now }
+    requires within { place < cells_of (game_of game.now) blocks.now.contexts.items }
+    ensures { IsOwner (game_of game.now) blocks.now.contexts.items result place }
 {
-    if has_place(game, table, near, place) {
+    if has_place(game, blocks, near, place) {
         near
     } else {
-        owner(game, table, place)
+        owner(game, blocks, place)
     }
 }
 
 /// The cell at a place of a context's cells, whose function has so many positions.
 fn cell_in(game: &Game, work: &Work, place: usize, at: Tabled, run: &Divisor) -> Cell
     requires routed { AreRouted (game_of game.now) (length game.now.graph.parts.items) }
-    requires table { IsTable (game_of game.now) work.now.table }
-    requires within { place < length work.now.table.heights.items }
-    requires there { IsTabled work.now.table at }
-    requires owner { IsOwner (game_of game.now) work.now.table.contexts.items at.number place }
+    requires known { IsKnown (game_of game.now) (known_of work.now) }
+    requires within { place < length work.now.store.heights }
+    requires there { IsTabled work.now.blocks at }
+    requires owner { IsOwner (game_of game.now) work.now.blocks.contexts.items at.number place }
     requires run { run.now ≡ positions (game_of game.now) at.context.function }
     ensures { IsCellAt (game_of game.now) work.now place result }
 {
-    let row = place as u32 - work.table.bases[at.number()];
+    let row = place as u32 - work.blocks.bases[at.number()];
     let entry = game.entry(at.function()).0;
     let state = run.quotient(row);
     Cell {
@@ -99,11 +104,11 @@ fn cell_in(game: &Game, work: &Work, place: usize, at: Tabled, run: &Divisor) ->
 /// The cell at a place.
 pub(crate) fn cell_at(game: &Game, work: &Work, place: usize) -> Cell
     requires routed { AreRouted (game_of game.now) (length game.now.graph.parts.items) }
-    requires table { IsTable (game_of game.now) work.now.table }
-    requires within { place < length work.now.table.heights.items }
+    requires known { IsKnown (game_of game.now) (known_of work.now) }
+    requires within { place < length work.now.store.heights }
     ensures { IsCellAt (game_of game.now) work.now place result }
 {
-    let at = numbered(game, &work.table, owner(game, &work.table, place));
+    let at = numbered(game, &work.blocks, owner(game, &work.blocks, place));
     let run = Divisor::of(positions(game, at.function()));
     cell_in(game, work, place, at, &run)
 }
@@ -112,29 +117,28 @@ pub(crate) fn cell_at(game: &Game, work: &Work, place: usize) -> Cell
 pub(crate) fn cell_by(game: &Game, runs: &[Divisor], work: &Work, near: usize, place: usize) -> Cell
     requires routed { AreRouted (game_of game.now) (length game.now.graph.parts.items) }
     requires runs { AreRuns (game_of game.now) (length game.now.graph.parts.items) runs.now }
-    requires table { IsTable (game_of game.now) work.now.table }
-    requires within { place < length work.now.table.heights.items }
+    requires known { IsKnown (game_of game.now) (known_of work.now) }
+    requires within { place < length work.now.store.heights }
     ensures { IsCellAt (game_of game.now) work.now place result }
 {
     let at = numbered(
         game,
-        &work.table,
-        owner_near(game, &work.table, near, place),
+        &work.blocks,
+        owner_near(game, &work.blocks, near, place),
     );
     let run = &runs[at.function() as usize];
     cell_in(game, work, place, at, run)
 }
 
-/// Has the cell wait under a key, unless it has a height or waits under a lower one.
-pub(crate) fn ask_cell(work: &mut Work, place: usize, key: u32) -> Result<(), NoMemory>
+/// Has the cell wait for a height, unless it has one or waits for a lower one.
+pub(crate) fn ask_cell(work: &mut Work, place: usize, height: u32) -> Result<(), NoMemory>
     requires long { AreLong work.old }
-    requires within { place < length work.old.table.heights.items }
-    requires some { 0 < key }
-    ensures { OnOk result (AsksForCell work.old work.new place key) }
+    requires within { place < length work.old.store.heights }
+    requires some { 0 < height }
+    requires few { height ≤ 2147483647 }
+    ensures { OnOk result (AsksForCell work.old work.new place (2 * height)) }
 {
-    if work.table.heights[place] == 0 {
-        work.store.ask_cell(place, key)?;
-    }
+    work.store.ask_cell(place, height)?;
     Ok(())
 }
 

@@ -1,5 +1,5 @@
 -- What callers use of the words of `Lists` and `Heights`.
-use Rattle.std.proofs.Common.{◌≡◌, ◌≢◌, ℕ, suc, zero, ◌<◌, Bool, true, false, cond, not, eqb, List, [], ◌∷◌, length, set, Option, None, refl, sym, ap, ◌∙◌, arith, inl, inr, ⊎_elim, ◌⊎◌}
+use Rattle.std.proofs.Common.{◌≡◌, ◌≢◌, ℕ, suc, zero, ◌<◌, true, false, not, eqb, List, [], ◌∷◌, length, set, Option, None, refl, sym, ap, ◌∙◌, arith, inl, inr, ⊎_elim, ◌⊎◌}
 use Rattle.std.specs.List.{filter, Contains, concat, IsDistinct, AllByRecursion}
 use Rattle.std.proofs.lemmas.Bool.{cases_eq, false≢true}
 use Rattle.std.proofs.lemmas.Bool.Decides.{nat_tests}
@@ -7,7 +7,7 @@ use Rattle.std.proofs.lemmas.List.{get_or-set_same, get_or-set_other, length-set
 use Rattle.cw_links.specs.Lists.{list_at, without, with_front, AreApart}
 use Rattle.cw_links.specs.Rows.{has, Once}
 use Rattle.cw_links.specs.Heights.{height_at}
-use Rattle.cw_links.proofs.Rows.{less, has-less_same, has-less_other, has-less_within, has_tail, has-append, apart-append, Once-append_right}
+use Rattle.cw_links.proofs.NodeRows.{less, has-less_same, has-less_other, has-less_within, has_tail, has-append, apart-append, Once-append_right}
 use Rattle.cw_links.proofs.Moves.{contains_from_has, has_place}
 use Rattle.cw_lemmas.proofs.Truths.{cond_true as true_either}
 

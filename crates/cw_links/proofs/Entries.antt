@@ -7,7 +7,7 @@ use Rattle.std.proofs.lemmas.List.{length-append}
 use Rattle.cw_links.specs.Lists.{list_at, without, with_front, AreApart}
 use Rattle.cw_links.specs.Rows.{has, Once}
 use Rattle.cw_links.proofs.CallerLemmas.{length-without, has_concat_list, Once-from_IsDistinct}
-use Rattle.cw_links.proofs.Rows.{less, less_absent, has-first, has_tail}
+use Rattle.cw_links.proofs.NodeRows.{less, less_absent, has-first, has_tail}
 
 filter-append : (c : ℕ) (xs ys : List ℕ) → less (xs ++ ys) c ≡ less xs c ++ less ys c
 filter-append c [] ys = refl

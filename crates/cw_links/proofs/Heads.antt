@@ -6,7 +6,7 @@ use Rattle.std.proofs.lemmas.Bool.{eq-eqb, ne_eqb, cases_eq, false≢true, cases
 use Rattle.std.proofs.lemmas.Bool.Decides.{nat_tests}
 use Rattle.cw_links.specs.Lists.{without, with_front}
 use Rattle.cw_links.specs.Rows.{has, head_of, row_from, Below, link_to}
-use Rattle.cw_links.proofs.Rows.{less, put_behind, has-append, put_behind-append_right, has-less_within}
+use Rattle.cw_links.proofs.NodeRows.{less, put_behind, has-append, put_behind-append_right, has-less_within}
 
 pub link_to_cell : (o : Option ℕ) (y : ℕ) → y < 4294967295 → link_to o ≡ y → o ≡ Some y
 link_to_cell None y l e = absurd (omega (arith, e))

@@ -1,9 +1,10 @@
-pub mod Rows
+pub mod NodeRows
 pub mod Heads
 pub mod Threads
 pub mod Spelling
 pub mod Moves
 pub mod CallerLemmas
+pub mod FlatRows
 pub mod Piles
 pub mod Stacks
 pub mod Nearing
@@ -14,6 +15,7 @@ pub mod Spreads
 pub mod Blocks
 mod Bits
 pub mod Plain
+pub mod CellWords
 pub mod Queueing
 pub mod Linking
 pub mod Spreading

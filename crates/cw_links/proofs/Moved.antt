@@ -3,7 +3,7 @@ use Rattle.std.proofs.Common.{◌≡◌, ◌≢◌, ℕ, suc, zero, ◌<◌, Lis
 use Rattle.std.proofs.lemmas.List.{get_or-set_same, get_or-set_other, length-map}
 use Rattle.cw_links.specs.Lists.{list_at, without, with_front}
 use Rattle.cw_links.proofs.CallerLemmas.{list_at-without}
-use Rattle.cw_links.proofs.Rows.{less}
+use Rattle.cw_links.proofs.NodeRows.{less}
 
 pub list_at-empties : (ls : List (List ℕ)) (k h : ℕ) → list_at (ls ++ replicate k []) h ≡ list_at ls h
 list_at-empties [] zero h = refl

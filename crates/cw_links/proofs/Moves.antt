@@ -8,7 +8,7 @@ use Rattle.std.proofs.lemmas.Bool.Decides.{nat_tests}
 use Rattle.std.proofs.lemmas.Option.{none-some, same_Some}
 use Rattle.cw_links.specs.Lists.{list_at, without, with_front, IsUnlinked, AreApart}
 use Rattle.cw_links.specs.Rows.{has, after, Once, head_of, row_from, Below, link_to, IsNode, Threads, AreLinks, next_at, lists_of}
-use Rattle.cw_links.proofs.Rows.{less, put_behind, Once-less, Once-put_behind, less_absent, absent_tail, has-less_same, has-before, has-after, node_before, has-append, Agrees-after, Once-append, has_tail, has-first, after_absent, apart-append, Once-append_left, Once-append_right}
+use Rattle.cw_links.proofs.NodeRows.{less, put_behind, Once-less, Once-put_behind, less_absent, absent_tail, has-less_same, has-before, has-after, node_before, has-append, Agrees-after, Once-append, has_tail, has-first, after_absent, apart-append, Once-append_left, Once-append_right}
 use Rattle.cw_links.proofs.Heads.{in_row, has_head, row-without, row-with_front, Below-without, Below-with_front, Below-more, link_to_cell}
 use Rattle.cw_links.proofs.Threads.{TakesOut, PutsBehind, Threads-less, Threads-put_behind, Threads-more_cell, Threads-append}
 use Rattle.cw_links.proofs.Spelling.{IsDistinct-from_Once, map-spelled, head_link, cell_next}

@@ -10,7 +10,7 @@ use Rattle.cw_links.specs.Rows.{has}
 use Rattle.cw_links.specs.Heights.{height_at, AreOut, AreBuckets}
 use Rattle.cw_links.proofs.CallerLemmas.{list_at-without}
 use Rattle.cw_links.proofs.Moved.{moved, moved_here}
-use Rattle.cw_links.proofs.Rows.{less, has-less_same, has-less_other, has-less_within, has-first, has_tail}
+use Rattle.cw_links.proofs.NodeRows.{less, has-less_same, has-less_other, has-less_within, has-first, has_tail}
 
 known_cell : (hs : List (Option ℕ)) (y h : ℕ) → height_at hs y ≡ Some h → y < length hs
 known_cell hs y h e = ⊎_elim (λ l. l) (λ g. absurd (none-some h (sym (get_or_past hs y None g) ∙ e))) (cases_lt y (length hs))

@@ -6,7 +6,7 @@ use Rattle.std.proofs.lemmas.Bool.{eq-eqb, ne_eqb}
 use Rattle.std.proofs.lemmas.Bool.Decides.{nat_tests}
 use Rattle.cw_links.specs.Lists.{list_at}
 use Rattle.cw_links.specs.Rows.{has, Once, link_to, row_from, head_of, Below, spelled}
-use Rattle.cw_links.proofs.Rows.{Agrees, Agrees-append_right, Once-append_left, Once-append_right}
+use Rattle.cw_links.proofs.NodeRows.{Agrees, Agrees-append_right, Once-append_left, Once-append_right}
 use Rattle.cw_links.proofs.Heads.{link_to_row}
 
 spelled_end : (next : List ℕ) (left cell : ℕ) → cell ≡ 4294967295 → spelled next left cell ≡ []

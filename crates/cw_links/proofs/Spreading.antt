@@ -11,7 +11,7 @@ use Rattle.cw_links.specs.declared.popped.Popped.{Popped}
 use Rattle.cw_links.specs.declared.popped.Popped.TheVariants.{Nothing as Empty, Cell as OfCell, Link as OfLink}
 use Rattle.cw_links.specs.Callers.{Calling}
 use Rattle.cw_links.specs.Keys.{Keyed, Pops, lowered, AreFrom, AreEmpty, Takes}
-use Rattle.cw_links.specs.Stores.{Stored, AreStored, IsKnown, IsAt, Pushes, PushesPlain, PopsPlace, Ties, stored, with_asked, with_due}
+use Rattle.cw_links.specs.Stores.{Stored, AreStored, IsKnown, IsAt, Pushes, PushesPlain, PopsPlace, Ties, stored, with_cells, with_due}
 
 spread_cond : (marks : List Bool) (b : Bool) (xs ys : List ℕ) → spread marks (cond b xs ys) ≡ cond b (spread marks xs) (spread marks ys)
 spread_cond marks true xs ys = refl
@@ -97,14 +97,16 @@ popped_at marks old new callers waves (OfCell place key) result long pops at =
     subst (λ (r : Popped). PopsPlace (stored marks old callers waves) (stored marks new callers waves) r) (sym at) (
       from_marked marks old.asked old.due key pops.0,
       pops.1,
-      ap (λ (due : List ℕ). with_asked (with_due (stored marks old callers waves) (spread marks due)) new.asked) pops.2,
+      ap (λ (due : List ℕ). with_cells (with_due (stored marks old callers waves) (spread marks due)) new.heights new.asked) pops.2
+          ∙ ap (λ (heights : List ℕ). with_cells (stored marks old callers waves) heights new.asked) pops.3,
     )
 popped_at marks old new callers waves (OfLink link key) result long pops at =
     subst (λ (r : Popped). PopsPlace (stored marks old callers waves) (stored marks new callers waves) r) (sym at.3) (
       from_marked marks old.asked old.due key pops.0,
       taken_marked marks old.due new.due link at.0 key long at.1 at.2 pops.1,
       at.1,
-      ap (λ (asked : List ℕ). with_asked (with_due (stored marks old callers waves) (spread marks new.due)) asked) pops.2,
+      ap (λ (asked : List ℕ). with_cells (with_due (stored marks old callers waves) (spread marks new.due)) new.heights asked) pops.2
+          ∙ ap (λ (heights : List ℕ). with_cells (with_due (stored marks old callers waves) (spread marks new.due)) heights old.asked) pops.3,
     )
 
 pub tied_at : (marks : List Bool) (keys : Keyed) (old new : Calling) (waves : List ℕ) (place list moves : ℕ) → AreStored marks keys old waves → is_marked marks place ≡ true
@@ -112,6 +114,7 @@ pub tied_at : (marks : List Bool) (keys : Keyed) (old new : Calling) (waves : Li
     → Ties (stored marks keys old waves) (stored marks keys new (set waves (rank marks place) moves)) place list moves
 tied_at marks keys old new waves place list moves are marked to lists = record {
   marks = refl;
+  heights = refl;
   asked = refl;
   due = refl;
   to = ap (λ (xs : List ℕ). spread marks xs) to ∙ set_marked marks old.to place list are.lists_of_links marked;
@@ -138,9 +141,11 @@ module _ (marks : List Bool) (keys keys' : Keyed) (callers callers' : Calling) (
     waves_of_links = one_longer waves waves' are.waves_of_links wave;
   }
 
-  pub pushed_at : length callers'.lists ≡ length callers.lists → Pushes (stored marks keys callers waves) (stored (marks ++ true ∷ []) keys' callers' waves') true
-  pushed_at lists = record {
+  pub pushed_at : keys'.heights ≡ keys.heights ++ 0 ∷ [] → length callers'.lists ≡ length callers.lists
+      → Pushes (stored marks keys callers waves) (stored (marks ++ true ∷ []) keys' callers' waves') true
+  pushed_at heights lists = record {
     marks = refl;
+    heights = heights;
     asked = asked;
     due = ap (λ (xs : List ℕ). spread (marks ++ true ∷ []) xs) due ∙ spread_push_marked 0 marks keys.due 0 are.keys_of_links;
     to = ap (λ (xs : List ℕ). spread (marks ++ true ∷ []) xs) to ∙ spread_push_marked 0 marks callers.to 0 are.lists_of_links;
@@ -165,9 +170,10 @@ module _ (marks : List Bool) (keys keys' : Keyed) (callers : Calling) (waves : L
         waves_of_links = are.waves_of_links ∙ sym n;
       }
 
-  pub plain_at : PushesPlain (stored marks keys callers waves) (stored (marks ++ replicate many false) keys' callers waves) many
-  plain_at = record {
+  pub plain_at : keys'.heights ≡ keys.heights ++ replicate many 0 → PushesPlain (stored marks keys callers waves) (stored (marks ++ replicate many false) keys' callers waves) many
+  plain_at heights = record {
     marks = refl;
+    heights = heights;
     asked = asked;
     due = ap (λ (xs : List ℕ). spread (marks ++ replicate many false) xs) due ∙ plain_spread marks keys.due many are.keys_of_links;
     to = plain_spread marks callers.to many are.lists_of_links;
@@ -179,6 +185,7 @@ module _ (marks : List Bool) (keys keys' : Keyed) (callers : Calling) (waves : L
 pub one_plain : (old new : Stored) → PushesPlain old new 1 → Pushes old new false
 one_plain old new pushes = record {
   marks = pushes.marks;
+  heights = pushes.heights;
   asked = pushes.asked;
   due = pushes.due;
   to = pushes.to;

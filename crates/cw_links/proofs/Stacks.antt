@@ -11,7 +11,7 @@ use Rattle.cw_links.specs.Rows.{has, Once}
 use Rattle.cw_links.proofs.CallerLemmas.{length-without, length-with_front, list_at-without, list_at-with_front_other, same_list, Once-from_IsDistinct}
 use Rattle.cw_links.proofs.Entries.{others_of_first, entries_of_moved, entries_of_spared}
 use Rattle.cw_links.proofs.Moved.{moved, moved_here}
-use Rattle.cw_links.proofs.Rows.{less, has-less_same, less_absent, has-first, absent_tail, Once-append_left, Once-append_right}
+use Rattle.cw_links.proofs.NodeRows.{less, has-less_same, less_absent, has-first, absent_tail, Once-append_left, Once-append_right}
 use Rattle.cw_links.proofs.Queueing.{push_zero as zero_more}
 
 -- how many wait

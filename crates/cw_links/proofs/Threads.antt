@@ -5,7 +5,7 @@ use Rattle.std.proofs.lemmas.Bool.{eq-eqb, ne_eqb, cases_eq, cases_lt, false≢t
 use Rattle.std.proofs.lemmas.Bool.Decides.{nat_tests}
 use Rattle.std.proofs.lemmas.Option.{none-some, same_Some}
 use Rattle.cw_links.specs.Rows.{has, after, Once, link_to, IsNode, Threads}
-use Rattle.cw_links.proofs.Rows.{less, put_behind, has-after, has-less_other, after-less_at, after-less_other, after-less_same, not_behind_itself, after-put_behind_at, after-put_behind_new, after-put_behind_other, has-put_behind, after_absent, has-first, has-append}
+use Rattle.cw_links.proofs.NodeRows.{less, put_behind, has-after, has-less_other, after-less_at, after-less_other, after-less_same, not_behind_itself, after-put_behind_at, after-put_behind_new, after-put_behind_other, has-put_behind, after_absent, has-first, has-append}
 use Rattle.cw_links.proofs.Heads.{link_to_cell, link_to_past}
 
 cases_some : (o : Option ℕ) (c : ℕ) → (o ≡ Some c) ⊎ (o ≢ Some c)

@@ -1,11 +1,13 @@
--- Keys of cells and of links, by number, and the queue in which they wait.
+-- Heights and keys of cells and keys of links, by number, and the queue in which they wait.
 use Rattle.std.specs.Prelude.{◌≡◌, ℕ, ◌/◌, ◌%◌, ◌<◌, ◌≤◌, ◌||◌, if◌then◌else◌, nat_eq, nat_lt, List, length, slice_index, slice_set, Contains}
+use Rattle.cw_links.specs.Cells.{may_wait}
 use Rattle.cw_links.specs.Lists.{list_at}
 use Rattle.cw_links.specs.declared.popped.Popped.{Popped}
 use Rattle.cw_links.specs.declared.popped.Popped.TheVariants.{Nothing as Empty, Cell as OfCell, Link as OfLink}
 
--- the key of each cell and of each link, 0 where it doesn't wait, and how many more of each have their memory already
+-- the height of each cell, the key of each cell and of each link, 0 where it has none, and how many more of each have their memory already
 pub record Keyed : Type 0 where
+  pub heights : List ℕ
   pub asked : List ℕ
   pub due : List ℕ
   pub spare_cells : ℕ
@@ -34,6 +36,10 @@ pub record AreQueued (asked due : List ℕ) (stacks : List (List ℕ)) : Type 0 
 abbrev pub lowered : (keys : List ℕ) (place key : ℕ) → List ℕ
 lowered keys place key = if nat_eq (slice_index keys place) 0 || nat_lt key (slice_index keys place) then slice_set keys place key else keys
 
+-- the keys with this one at a place, unless the cell has a height or a lower key stands there
+abbrev pub asked_with : (heights asked : List ℕ) (place key : ℕ) → List ℕ
+asked_with heights asked place key = if may_wait (slice_index heights place) (slice_index asked place) key then slice_set asked place key else asked
+
 -- no key of a cell or a link is below this one, but for those that don't wait
 pub record AreFrom (asked due : List ℕ) (key : ℕ) : Type 0 where
   pub cells : (k : ℕ) → 0 < slice_index asked k → key ≤ slice_index asked k
@@ -60,8 +66,8 @@ pub record IsNext (asked due : List ℕ) (stacks : List (List ℕ)) (element key
   pub others : (e : ℕ) → (e ≡ element → ⊥) → 0 < key_of asked due e → Contains (list_at stacks (key_of asked due e)) e
   pub known : (k e : ℕ) → Contains (list_at stacks k) e → IsElement asked due e
 
--- what is taken from under the least key
+-- what is taken from under the least key; a cell has half that as its height from then on
 abbrev pub Pops : (old new : Keyed) → Popped → Type 0
 Pops old new Empty = AreEmpty old.asked old.due × (new ≡ old)
-Pops old new (OfCell number key) = AreFrom old.asked old.due key × Takes old.asked new.asked number key × (new.due ≡ old.due)
-Pops old new (OfLink number key) = AreFrom old.asked old.due key × Takes old.due new.due number key × (new.asked ≡ old.asked)
+Pops old new (OfCell number key) = AreFrom old.asked old.due key × Takes old.asked new.asked number key × (new.due ≡ old.due) × (new.heights ≡ slice_set old.heights number (key / 2))
+Pops old new (OfLink number key) = AreFrom old.asked old.due key × Takes old.due new.due number key × (new.asked ≡ old.asked) × (new.heights ≡ old.heights)

@@ -1,4 +1,5 @@
 pub mod Lists
+pub mod Flat
 pub mod Heights
 pub mod Rows
 pub mod Queues
@@ -6,6 +7,7 @@ pub mod Nearest
 pub mod Marks
 pub mod Words
 pub mod Blocks
+pub mod Cells
 pub mod Keys
 pub mod Callers
 pub mod Stores

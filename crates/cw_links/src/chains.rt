@@ -104,6 +104,14 @@ impl<T: Copy> Chains<T> {
         self.links.unlink(cell);
     }
 
+    /// How many lists there are.
+    pub(crate) fn lists(&self) -> usize
+        ensures value { result ≡ length self.now.lists }
+        ensures few { result ≤ 4294967296 }
+    {
+        self.links.lists()
+    }
+
     /// The first cell of the list; None exactly where the list is empty.
     pub fn first(&self, list: u32) -> Option<u32>
         requires { list < length self.now.lists }

@@ -1,9 +1,9 @@
-//! Keys of the cells of places, and of the few places that are links their keys, where they go and for how long.
+//! Heights and keys of the cells of places, and of the few places that are links their keys, where they go and for how long.
 
-ghost use Rattle.std.specs.Prelude.{◌≡◌, ℕ, List, true, ◌+◌, ◌<◌, ◌≤◌, [], ◌∷◌, ◌++◌, length, slice_get, slice_index, Contains, OnOk, OnErr, IfOk, IfSome, vec_len, vec_capacity};
+ghost use Rattle.std.specs.Prelude.{◌≡◌, ℕ, List, true, ◌+◌, ◌*◌, ◌<◌, ◌≤◌, [], ◌∷◌, ◌++◌, length, slice_get, slice_index, Contains, OnOk, OnErr, IfOk, IfSome, vec_len, vec_capacity};
 ghost use Rattle.cw_links.specs.Lists.{list_at, AreApart};
 ghost use Rattle.cw_links.specs.Marks.{is_marked, number, rank};
-ghost use Rattle.cw_links.specs.Keys.{lowered};
+ghost use Rattle.cw_links.specs.Keys.{asked_with, lowered};
 ghost use Rattle.cw_links.specs.Stores.{IsBlank, IsKnown, IsAt, Pushes, PushesPlain, PopsPlace, Ties, with_asked, with_due, with_lists};
 
 use crate::Marks;
@@ -14,11 +14,11 @@ use cw_core::NoMemory;
 use std::alloc::Global;
 use std::marker::Model;
 
-/// What a solver keeps by places. Each place has a cell, which waits under a key or doesn't, and few have a link beside it.
+/// What a solver keeps by places. Each place has a cell, which has a height, waits for one or neither, and few have a link beside it.
 ///
-/// Contracts see the marks of the places that are links, and a list for each of what is kept, as long as there are places: `asked`
-/// has the keys of cells; `due`, `to` and `waves` have the keys of links, the lists in which they stand, and their numbers of
-/// moves, 0 at all other places. In `lists` a link has the number of its rank among the links.
+/// Contracts see the marks of the places that are links, and a list for each of what is kept, as long as there are places: `heights`
+/// and `asked` have the heights and the keys of cells; `due`, `to` and `waves` have the keys of links, the lists in which they stand,
+/// and their numbers of moves, 0 at all other places. In `lists` a link has the number of its rank among the links.
 #[derive(Drop)]
 pub struct Store {
     marks: Marks,
@@ -48,6 +48,23 @@ impl Store {
             callers: Callers::make(alloc)?,
             waves: Vec::new(alloc),
         })
+    }
+
+    /// How many places there are.
+    #[inline(always)]
+    pub fn places(&self) -> usize
+        ensures { result ≡ length self.now.marks }
+    {
+        self.marks.len()
+    }
+
+    /// The height of the cell at a place, 0 where it has none.
+    #[inline(always)]
+    pub fn height(&self, place: usize) -> u32
+        requires { place < length self.now.marks }
+        ensures { result ≡ slice_index self.now.heights place }
+    {
+        self.keys.height(place)
     }
 
     /// The key of the link at a place.
@@ -86,15 +103,16 @@ impl Store {
         }
     }
 
-    /// Has the cell at a place wait under a key, unless it waits under a lower one. The one error is want of memory, which changes
-    /// nothing.
-    pub fn ask_cell(&mut self, place: usize, key: u32) -> Result<(), NoMemory>
+    /// Has the cell at a place wait for a height, under twice that, unless it has a height or waits for a lower one. The one error is
+    /// want of memory, which changes nothing.
+    pub fn ask_cell(&mut self, place: usize, height: u32) -> Result<(), NoMemory>
         requires within { place < length self.old.marks }
-        requires some { 0 < key }
-        ensures asked { OnOk result (self.new ≡ with_asked self.old (lowered self.old.asked place key)) }
+        requires some { 0 < height }
+        requires few { height ≤ 2147483647 }
+        ensures asked { OnOk result (self.new ≡ with_asked self.old (asked_with self.old.heights self.old.asked place (2 * height))) }
         ensures refused { OnErr result (self.new ≡ self.old) }
     {
-        self.keys.ask_cell(place, key)?;
+        self.keys.ask_cell(place, height)?;
         Ok(())
     }
 
@@ -111,7 +129,7 @@ impl Store {
         Ok(())
     }
 
-    /// Takes what waits under the least key; of a cell and of a link it has the place.
+    /// Takes what waits under the least key; of a cell and of a link it has the place. A cell has half its key as its height then.
     pub fn pop(&mut self) -> Popped
         ensures { PopsPlace self.old self.new result }
     {
@@ -141,8 +159,8 @@ impl Store {
         Ok(())
     }
 
-    /// Adds a place, which is a link or not. Its cell and its link don't wait, and the link stands in the list 0. The one error is
-    /// want of memory, which changes nothing.
+    /// Adds a place, which is a link or not. Its cell has no height, its cell and its link don't wait, and the link stands in the list 0.
+    /// The one error is want of memory, which changes nothing.
     pub fn push(&mut self, mark: bool) -> Result<(), NoMemory>
         requires few { length self.old.marks < 4194304 }
         ensures pushed { OnOk result (Pushes self.old self.new mark) }
@@ -155,7 +173,7 @@ impl Store {
         }
     }
 
-    /// Adds so many places, of which none is a link and none waits. The one error is want of memory, which changes nothing.
+    /// Adds so many places, of which none is a link, has a height or waits. The one error is want of memory, which changes nothing.
     pub fn push_plain(&mut self, many: u32) -> Result<(), NoMemory>
         requires few { length self.old.marks + many ≤ 4194304 }
         ensures pushed { OnOk result (PushesPlain self.old self.new many) }
@@ -213,6 +231,19 @@ impl Store {
     {
         self.marks.place(link)
     }
+
+    /// The heights of the cells by place. It takes no memory.
+    pub fn into_heights(self) -> Vec<u32>
+        ensures { result.items ≡ self.heights }
+    {
+        let Store {
+            marks: _,
+            keys,
+            callers: _,
+            waves: _,
+        } = self;
+        keys.into_heights()
+    }
 }
 
 /// The place of a link.
@@ -244,6 +275,7 @@ fn add_link(keys: &mut Keys, callers: &mut Callers, waves: &mut Vec<u32>)
     requires keys { 0 < keys.old.spare_links }
     requires callers { 0 < callers.old.spare }
     requires waves { vec_len waves.old < vec_capacity waves.old }
+    ensures heights { keys.new.heights ≡ keys.old.heights }
     ensures asked { keys.new.asked ≡ keys.old.asked }
     ensures due { keys.new.due ≡ keys.old.due ++ 0 ∷ [] }
     ensures to { callers.new.to ≡ callers.old.to ++ 0 ∷ [] }

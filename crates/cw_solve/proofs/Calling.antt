@@ -15,12 +15,12 @@ use Rattle.cw_game.specs.Games.{Game, Config, refuses_in, bad_in, leads_in, Hold
 use Rattle.cw_game.specs.Pairs.{has, Called, call_in, is_call_in, is_exit_in, call_spot, kept_at}
 use Rattle.cw_product.specs.Moves.{pair_of, is_left_in, next_in, next_at}
 use Rattle.cw_solve.specs.declared.contexts.Context.{Context}
-use Rattle.cw_solve.specs.declared.table.Table.{Table}
+use Rattle.cw_solve.specs.declared.table.Blocks.{Blocks}
 use Rattle.cw_solve.specs.Tabled.{Tabled}
 use Rattle.cw_product.specs.Routed.{IsState, targets, IsThere, AreRouted, IsOf}
 use Rattle.cw_solve.specs.Contexts.{context, promise_at, IsSetOf, of_call}
 use Rattle.cw_solve.specs.Rounds.{IsAsked}
-use Rattle.cw_solve.specs.Tables.{IsTable, HasCell, HasCall, IsMissing}
+use Rattle.cw_solve.specs.Tables.{AreBlocks, HasCell, HasCall, IsMissing}
 use Rattle.cw_solve.proofs.Falls.{holds_same, back_stays, member_is}
 use Rattle.cw_solve.proofs.Still.{first_of_two, second_of_two, only, holds_call}
 use Rattle.cw_solve.proofs.Tabling.{there_at}
@@ -105,23 +105,23 @@ pub place_lacks : (contexts : List Context) (f e : ℕ) (o : Option ℕ) → o �
 place_lacks contexts f e (Some i) h = tt
 place_lacks contexts f e None h = place_none contexts f e (sym h)
 
-module _ (g : Game) (functions : ℕ) (routed : AreRouted g functions) (t : Table) (table : IsTable g t) where
-  pub cell_within : (at : Tabled) (p q : ℕ) → HasCell g t at p q → p < length g.spots
-  cell_within at p q is = let th = there_at g functions routed t table at.number at.context is.at in omega (arith, th.ends, is.of.1)
+module _ (g : Game) (functions : ℕ) (routed : AreRouted g functions) (b : Blocks) (blocks : AreBlocks g b) where
+  pub cell_within : (at : Tabled) (p q : ℕ) → HasCell g b at p q → p < length g.spots
+  cell_within at p q is = let th = there_at g functions routed b blocks at.number at.context is.at in omega (arith, th.ends, is.of.1)
 
   -- a move leads to a cell of the same context
-  pub moved : (at : Tabled) (p q : ℕ) (by : Move) (r x : ℕ) → HasCell g t at p q → next_at g p q by ≡ Some (r, x) → IsState g x → HasCell g t at r x
+  pub moved : (at : Tabled) (p q : ℕ) (by : Move) (r x : ℕ) → HasCell g b at p q → next_at g p q by ≡ Some (r, x) → IsState g x → HasCell g b at r x
   moved at p q by r x is e s = record {
     at = is.at;
-    of = routed.stays at.context.function p r (there_at g functions routed t table at.number at.context is.at).below is.of (next_target g p q (slice_get g.spots p) by (r, x) e);
+    of = routed.stays at.context.function p r (there_at g functions routed b blocks at.number at.context is.at).below is.of (next_target g p q (slice_get g.spots p) by (r, x) e);
     state = s;
   }
 
   -- and so does a call's return
-  pub back_cell : (at : Tabled) (p q f back : ℕ) (split : Bool) → HasCell g t at p q → HasCall g p f back split → HasCell g t at back q
+  pub back_cell : (at : Tabled) (p q f back : ℕ) (split : Bool) → HasCell g b at p q → HasCall g p f back split → HasCell g b at back q
   back_cell at p q f back split is call = record {
     at = is.at;
-    of = back_stays g functions routed at.context.function p (the_call call.0 f back split) (there_at g functions routed t table at.number at.context is.at).below is.of
+    of = back_stays g functions routed at.context.function p (the_call call.0 f back split) (there_at g functions routed b blocks at.number at.context is.at).below is.of
         (called (slice_get g.spots p) split call.0 f back call.1);
     state = is.state;
   }
@@ -130,8 +130,8 @@ module _ (g : Game) (functions : ℕ) (routed : AreRouted g functions) (t : Tabl
   callee_there p f back split call = routed.called p (the_call call.0 f back split) (called (slice_get g.spots p) split call.0 f back call.1)
 
   -- the cell of the called function
-  pub callee_cell : (p q f back : ℕ) (split : Bool) (at : Tabled) → IsState g q → HasCall g p f back split → slice_get t.contexts.items at.number ≡ Some at.context → at.context.function ≡ f
-      → HasCell g t at (g.entry f) q
+  pub callee_cell : (p q f back : ℕ) (split : Bool) (at : Tabled) → IsState g q → HasCall g p f back split → slice_get b.contexts.items at.number ≡ Some at.context → at.context.function ≡ f
+      → HasCell g b at (g.entry f) q
   callee_cell p q f back split at s call is e = record {
     at = is;
     of = let th = callee_there p f back split call in subst (λ (y : ℕ). IsOf g y (g.entry f)) (sym e) (omega arith, th.begins);
@@ -139,25 +139,25 @@ module _ (g : Game) (functions : ℕ) (routed : AreRouted g functions) (t : Tabl
   }
 
   -- what a call promises, where it isn't tabled
-  pub call_missing : (at : Tabled) (n p q f back set : ℕ) (split : Bool) → HasCell g t at p q → HasCall g p f back split → IsSetOf g set (promise_at g n back (kept_at split q) at.context.promise)
-      → (Contains t.contexts.items (context f set) → ⊥) → IsMissing g t (context f set)
+  pub call_missing : (at : Tabled) (n p q f back set : ℕ) (split : Bool) → HasCell g b at p q → HasCall g p f back split → IsSetOf g set (promise_at g n back (kept_at split q) at.context.promise)
+      → (Contains b.contexts.items (context f set) → ⊥) → IsMissing g b (context f set)
   call_missing at n p q f back set split is call set_is new = record {
     needed = of_call at.context n p q set (the_call call.0 f back split)
-        (table.needed.needed at.context (at.number, slice_get_within t.contexts.items at.number at.context is.at, get_or_from_slice_get t.contexts.items at.number at.context at.context is.at))
+        (blocks.needed.needed at.context (at.number, slice_get_within b.contexts.items at.number at.context is.at, get_or_from_slice_get b.contexts.items at.number at.context at.context is.at))
         is.of is.state (called (slice_get g.spots p) split call.0 f back call.1) set_is;
     new = new;
   }
 
   -- and where it is
   pub call_asked : (at : Tabled) (n p q f back set i : ℕ) (split : Bool) → HasCall g p f back split → IsSetOf g set (promise_at g n back (kept_at split q) at.context.promise)
-      → slice_get t.contexts.items i ≡ Some (context f set) → IsAsked g t.contexts.items n p q at.context.promise
+      → slice_get b.contexts.items i ≡ Some (context f set) → IsAsked g b.contexts.items n p q at.context.promise
   call_asked at n p q f back set i split call set_is is other es =
       let e : the_call call.0 f back split ≡ other = same_Some _ other (sym (called (slice_get g.spots p) split call.0 f back call.1) ∙ es) in
-      subst (λ (y : Called). (set : ℕ) × Contains t.contexts.items (context y.function set) × IsSetOf g set (promise_at g n y.back (kept_at y.split q) at.context.promise)) e
-      (set, (i, slice_get_within t.contexts.items i (context f set) is, get_or_from_slice_get t.contexts.items i (context f set) (context f set) is), set_is)
+      subst (λ (y : Called). (set : ℕ) × Contains b.contexts.items (context y.function set) × IsSetOf g set (promise_at g n y.back (kept_at y.split q) at.context.promise)) e
+      (set, (i, slice_get_within b.contexts.items i (context f set) is, get_or_from_slice_get b.contexts.items i (context f set) (context f set) is), set_is)
 
   -- the call holds for one move more where the called function does for n under what is promised
-  pub call_holds : (at : Tabled) (n p q f back set : ℕ) (split : Bool) → HasCell g t at p q → HasCall g p f back split → IsSetOf g set (promise_at g n back (kept_at split q) at.context.promise)
+  pub call_holds : (at : Tabled) (n p q f back set : ℕ) (split : Bool) → HasCell g b at p q → HasCall g p f back split → IsSetOf g set (promise_at g n back (kept_at split q) at.context.promise)
       → Holds g n (g.entry f) q (has set) ≡ Holds g (suc n) p q (has at.context.promise)
   call_holds at n p q f back set split is call set_is =
       holds_same g functions routed n (g.entry f) q (has set) (promise_at g n back (kept_at split q) at.context.promise) is.state

@@ -13,10 +13,11 @@ use Rattle.cw_core.proofs.Sets.{same_from_members}
 use Rattle.cw_game.specs.Games.{Game}
 use Rattle.cw_game.specs.Pairs.{all_states}
 use Rattle.cw_solve.specs.declared.contexts.Context.{Context}
+use Rattle.cw_solve.specs.declared.table.Blocks.{Blocks}
 use Rattle.cw_solve.specs.declared.table.Table.{Table}
 use Rattle.cw_solve.specs.Contexts.{context, size, cells_of, IsNeeded, of_main, AreNeeded, AreTooMany}
 use Rattle.cw_product.specs.Routed.{IsThere, AreRouted}
-use Rattle.cw_solve.specs.Tables.{is_none, IsTable, IsAtRound, AreTabled, IsMissing}
+use Rattle.cw_solve.specs.Tables.{is_none, AreBlocks, IsTable, IsAtRound, AreTabled, IsMissing}
 use Rattle.cw_solve.proofs.Counts.{needed_more}
 use Rattle.cw_solve.proofs.Looking.{nothing_written, nothing_asked}
 use Rattle.cw_solve.proofs.Slots.{base_more}
@@ -54,28 +55,27 @@ first_stays (x ∷ xs) ys c e = e
 
 module _ (g : Game) (functions : ℕ) (routed : AreRouted g functions) where
   -- a table in which nothing is written
-  pub is_table : (t : Table) → AreTabled g t.contexts.items → length t.bases.items ≡ length t.contexts.items
-      → ((i : ℕ) → i < length t.contexts.items → slice_index t.bases.items i ≡ cells_of g (take i t.contexts.items)) → t.heights.items ≡ replicate (cells_of g t.contexts.items) 0
-      → t.written ≡ 0 → IsTable g t
+  pub is_table : (t : Table) → AreTabled g t.blocks.contexts.items → length t.blocks.bases.items ≡ length t.blocks.contexts.items
+      → ((i : ℕ) → i < length t.blocks.contexts.items → slice_index t.blocks.bases.items i ≡ cells_of g (take i t.blocks.contexts.items))
+      → t.heights.items ≡ replicate (cells_of g t.blocks.contexts.items) 0 → t.written ≡ 0 → IsTable g t
   is_table t are bases begins none zero_written =
-      let cells : length t.heights.items ≡ cells_of g t.contexts.items = ap length none ∙ length-replicate {A = ℕ} (cells_of g t.contexts.items) 0 in
-      let all : count_by is_none t.heights.items ≡ cells_of g t.contexts.items = ap (count_by is_none) none ∙ none_written (cells_of g t.contexts.items) in
+      let n = cells_of g t.blocks.contexts.items in
+      let cells : length t.heights.items ≡ n = ap length none ∙ length-replicate {A = ℕ} n 0 in
+      let all : count_by is_none t.heights.items ≡ n = ap (count_by is_none) none ∙ none_written n in
       record {
-        first = are.first;
-        needed = are.needed;
-        begins = begins;
-        bases = bases;
+        blocks = record { first = are.first; needed = are.needed; begins = begins; bases = bases; few = are.few };
         cells = cells;
-        few = are.few;
         counted = omega (arith, cells, all, zero_written);
       }
 
-  pub is_at_start : (t : Table) → t.heights.items ≡ replicate (cells_of g t.contexts.items) 0 → IsAtRound g t 0
-  is_at_start t none = record {
-    written = nothing_written g t.contexts.items t.heights.items (λ k. ap (λ (hs : List ℕ). get_or hs k 0) none ∙ nothing_there (cells_of g t.contexts.items) k);
-    asked = nothing_asked g t.contexts.items;
-    low = omega arith;
-  }
+  pub is_at_start : (t : Table) → t.heights.items ≡ replicate (cells_of g t.blocks.contexts.items) 0 → IsAtRound g t 0
+  is_at_start t none =
+      let contexts = t.blocks.contexts.items in
+      record {
+        written = nothing_written g contexts t.heights.items (λ k. ap (λ (hs : List ℕ). get_or hs k 0) none ∙ nothing_there (cells_of g contexts) k);
+        asked = nothing_asked g contexts;
+        low = omega arith;
+      }
 
   -- the context number i, and the cells up to behind it
   pub there_in : (contexts : List Context) → AreTabled g contexts → (i : ℕ) (c : Context) → i < length contexts → c ≡ get_or contexts i c → IsThere g functions c.function
@@ -93,29 +93,27 @@ module _ (g : Game) (functions : ℕ) (routed : AreRouted g functions) where
       ap (λ (xs : List Context). cells_of g xs) e
       ∙ sum_by_push (λ (x : Context). size g x.function) contexts c
 
-  needed_longer : (t : Table) → IsTable g t → (c : Context) → IsMissing g t c → (longer : List Context) → longer ≡ t.contexts.items ++ c ∷ [] → AreNeeded g longer
-  needed_longer t table c missing longer e = subst (λ (xs : List Context). AreNeeded g xs) (sym e) (needed_more g t.contexts.items c table.needed missing.needed missing.new)
+  module _ (b : Blocks) (blocks : AreBlocks g b) (c : Context) (missing : IsMissing g b c) (longer : List Context) (is : longer ≡ b.contexts.items ++ c ∷ []) where
+    needed_longer : AreNeeded g longer
+    needed_longer = subst (λ (xs : List Context). AreNeeded g xs) (sym is) (needed_more g b.contexts.items c blocks.needed missing.needed missing.new)
 
-  -- one context more, where there is room
-  pub longer_tabled : (t : Table) → IsTable g t → (c : Context) → IsMissing g t c → (longer : List Context) → longer ≡ t.contexts.items ++ c ∷ [] → length t.heights.items + size g c.function ≤ 4194304
-      → 0 < size g c.function → AreTabled g longer × (cells_of g t.contexts.items < cells_of g longer)
-  longer_tabled t table c missing longer e room some =
-      let cells = cells_of_longer t.contexts.items longer c e in (
-        record {
-          first = ap (λ (xs : List Context). slice_get xs 0) e ∙ first_stays t.contexts.items (c ∷ []) (context g.main (all_states g)) table.first;
-          needed = needed_longer t table c missing longer e;
-          few = omega (arith, cells, room, table.cells);
-        },
-        omega (arith, cells, some),
-      )
+    -- one context more, where there is room
+    pub longer_tabled : cells_of g b.contexts.items + size g c.function ≤ 4194304 → 0 < size g c.function → AreTabled g longer × (cells_of g b.contexts.items < cells_of g longer)
+    longer_tabled room some =
+        let cells = cells_of_longer b.contexts.items longer c is in (
+          record {
+            first = ap (λ (xs : List Context). slice_get xs 0) is ∙ first_stays b.contexts.items (c ∷ []) (context g.main (all_states g)) blocks.first;
+            needed = needed_longer;
+            few = omega (arith, cells, room);
+          },
+          omega (arith, cells, some),
+        )
 
-  -- and where there is none
-  pub longer_too_many : (t : Table) → IsTable g t → (c : Context) → IsMissing g t c → (longer : List Context) → longer ≡ t.contexts.items ++ c ∷ []
-      → 4194304 < length t.heights.items + size g c.function
-      → AreTooMany g longer
-  longer_too_many t table c missing longer e room =
-      let cells = cells_of_longer t.contexts.items longer c e in
-      record { some = needed_longer t table c missing longer e; many = omega (arith, cells, room, table.cells) }
+    -- and where there is none
+    pub longer_too_many : 4194304 < cells_of g b.contexts.items + size g c.function → AreTooMany g longer
+    longer_too_many room =
+        let cells = cells_of_longer b.contexts.items longer c is in
+        record { some = needed_longer; many = omega (arith, cells, room) }
 
   -- `main` with all states alone
   pub start_tabled : (contexts : List Context) → contexts ≡ context g.main (all_states g) ∷ [] → AreTabled g contexts

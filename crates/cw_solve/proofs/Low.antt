@@ -16,6 +16,6 @@ low (suc k) lt = lt
 pub kept_low : (h : HeldGame) (t : Table) → IsKept h t → ((k : ℕ) → slice_index t.heights.items k < 4294967296) → HeightsAreLow (game_of h)
 kept_low h t kept fits f p q e needed of s =
     let c = context f e in
-    let at = number_of t.contexts.items c (kept.done.all c needed) in
-    let k = slice_index t.heights.items (slot (game_of h) t.contexts.items at.0 f p q) in
-    (height_by k, kept.done.heights at.0 c p q (record { at = at.1; of = of; state = s }), low k (fits (slot (game_of h) t.contexts.items at.0 f p q)))
+    let at = number_of t.blocks.contexts.items c (kept.done.all c needed) in
+    let k = slice_index t.heights.items (slot (game_of h) t.blocks.contexts.items at.0 f p q) in
+    (height_by k, kept.done.heights at.0 c p q (record { at = at.1; of = of; state = s }), low k (fits (slot (game_of h) t.blocks.contexts.items at.0 f p q)))

@@ -30,8 +30,8 @@ fn holds_after(
 ) -> bool
     requires routed { AreRouted (game_of game.now) (length game.now.graph.parts.items) }
     requires table { IsTable (game_of game.now) table.now }
-    requires cell { HasCell (game_of game.now) table.now at.now pos.0 state.0 }
-    requires written { AreWritten (game_of game.now) table.now.contexts.items table.now.heights.items n (suc n) }
+    requires cell { HasCell (game_of game.now) table.now.blocks at.now pos.0 state.0 }
+    requires written { AreWritten (game_of game.now) table.now.blocks.contexts.items table.now.heights.items n (suc n) }
     ensures { result ≡ holds_after (λ p q e. Holds (game_of game.now) n p q e) (has at.now.context.promise) (next_at (game_of game.now) pos.0 state.0 by) }
 {
     match game.next(pos, state, by) {
@@ -54,18 +54,18 @@ fn call_holds(
 ) -> Result<bool, Context>
     requires routed { AreRouted (game_of game.now) (length game.now.graph.parts.items) }
     requires table { IsTable (game_of game.now) table.now }
-    requires cell { HasCell (game_of game.now) table.now at.now pos.0 state.0 }
-    requires written { AreWritten (game_of game.now) table.now.contexts.items table.now.heights.items n (suc n) }
+    requires cell { HasCell (game_of game.now) table.now.blocks at.now pos.0 state.0 }
+    requires written { AreWritten (game_of game.now) table.now.blocks.contexts.items table.now.heights.items n (suc n) }
     requires call { HasCall (game_of game.now) pos.0 function back.0 split }
     ensures holds { IfOk result (λ holds. holds ≡ Holds (game_of game.now) (suc n) pos.0 state.0 (has at.now.context.promise)) }
-    ensures asked { IfOk result (λ _. IsAsked (game_of game.now) table.now.contexts.items n pos.0 state.0 at.now.context.promise) }
-    ensures missing { IfErr result (λ c. IsMissing (game_of game.now) table.now c) }
+    ensures asked { IfOk result (λ _. IsAsked (game_of game.now) table.now.blocks.contexts.items n pos.0 state.0 at.now.context.promise) }
+    ensures missing { IfErr result (λ c. IsMissing (game_of game.now) table.now.blocks c) }
 {
     let promise = promised(game, table, n, at, state, back, split);
-    match place_of(&table.contexts, function, &promise) {
+    match place_of(&table.blocks.contexts, function, &promise) {
         None => Err(Context { function, promise }),
         Some(number) => {
-            let callee = numbered(game, table, number);
+            let callee = numbered(game, &table.blocks, number);
             Ok(holds(game, table, n, &callee, game.entry(function), state))
         }
     }
@@ -75,8 +75,8 @@ fn call_holds(
 fn moves_hold(game: &Game, table: &Table, n: u32, at: &Tabled, pos: PosId, state: StateId) -> bool
     requires routed { AreRouted (game_of game.now) (length game.now.graph.parts.items) }
     requires table { IsTable (game_of game.now) table.now }
-    requires cell { HasCell (game_of game.now) table.now at.now pos.0 state.0 }
-    requires written { AreWritten (game_of game.now) table.now.contexts.items table.now.heights.items n (suc n) }
+    requires cell { HasCell (game_of game.now) table.now.blocks at.now pos.0 state.0 }
+    requires written { AreWritten (game_of game.now) table.now.blocks.contexts.items table.now.heights.items n (suc n) }
     ensures { result ≡ holds_by_moves (game_of game.now) (λ p q e. Holds (game_of game.now) n p q e) pos.0 state.0 (has at.now.context.promise)
         (slice_get (game_of game.now).spots pos.0) }
 {
@@ -101,11 +101,11 @@ fn next_holds(
 ) -> Result<bool, Context>
     requires routed { AreRouted (game_of game.now) (length game.now.graph.parts.items) }
     requires table { IsTable (game_of game.now) table.now }
-    requires cell { HasCell (game_of game.now) table.now at.now pos.0 state.0 }
-    requires written { AreWritten (game_of game.now) table.now.contexts.items table.now.heights.items n (suc n) }
+    requires cell { HasCell (game_of game.now) table.now.blocks at.now pos.0 state.0 }
+    requires written { AreWritten (game_of game.now) table.now.blocks.contexts.items table.now.heights.items n (suc n) }
     ensures holds { IfOk result (λ holds. holds ≡ Holds (game_of game.now) (suc n) pos.0 state.0 (has at.now.context.promise)) }
-    ensures asked { IfOk result (λ _. IsAsked (game_of game.now) table.now.contexts.items n pos.0 state.0 at.now.context.promise) }
-    ensures missing { IfErr result (λ c. IsMissing (game_of game.now) table.now c) }
+    ensures asked { IfOk result (λ _. IsAsked (game_of game.now) table.now.blocks.contexts.items n pos.0 state.0 at.now.context.promise) }
+    ensures missing { IfErr result (λ c. IsMissing (game_of game.now) table.now.blocks c) }
 {
     match game.turn(pos) {
         Turn::Call {
@@ -113,7 +113,9 @@ fn next_holds(
             split,
             back,
         } => call_holds(game, table, n, at, pos, state, callee, back, split),
-        Turn::Exit { main } => Ok(main || table.contexts[at.number()].promise.contains(state)),
+        Turn::Exit { main } => Ok(
+            main || table.blocks.contexts[at.number()].promise.contains(state),
+        ),
         Turn::Weaver | Turn::Environment => {
             Ok(!game.bad(pos, state) && moves_hold(game, table, n, at, pos, state))
         }
@@ -145,21 +147,21 @@ pub(crate) fn look_at(
 ) -> Option<Context>
     requires routed { AreRouted (game_of game.now) (length game.now.graph.parts.items) }
     requires table { IsTable (game_of game.now) table.old }
-    requires cell { HasCell (game_of game.now) table.old at.now pos.0 state.0 }
+    requires cell { HasCell (game_of game.now) table.old.blocks at.now pos.0 state.0 }
     requires round { IsInRound (game_of game.now) table.old n
-        (slot (game_of game.now) table.old.contexts.items at.now.number at.now.context.function pos.0 state.0) }
+        (slot (game_of game.now) table.old.blocks.contexts.items at.now.number at.now.context.function pos.0 state.0) }
     ensures table { IsTable (game_of game.now) table.new }
     ensures later { IsLater table.old table.new }
-    ensures tabled { IsTabled table.new at.now }
+    ensures tabled { IsTabled table.new.blocks at.now }
     ensures round { IfNone result (IsInRound (game_of game.now) table.new n
-        (slot (game_of game.now) table.new.contexts.items at.now.number at.now.context.function pos.0 state.0 + 1)) }
-    ensures missing { IfSome result (λ c. IsMissing (game_of game.now) table.new c) }
+        (slot (game_of game.now) table.new.blocks.contexts.items at.now.number at.now.context.function pos.0 state.0 + 1)) }
+    ensures missing { IfSome result (λ c. IsMissing (game_of game.now) table.new.blocks c) }
 {
     match next_holds(game, table, n, at, pos, state) {
         Err(context) => Some(context),
         Ok(true) => None,
         Ok(false) => {
-            let cell = slot(game, table, at, pos, state);
+            let cell = slot(game, &table.blocks, at, pos, state);
             write(table, cell, n + 1);
             None
         }
@@ -176,16 +178,18 @@ fn look_state(
 ) -> Option<Context>
     requires routed { AreRouted (game_of game.now) (length game.now.graph.parts.items) }
     requires table { IsTable (game_of game.now) table.old }
-    requires tabled { IsTabled table.old at.now }
+    requires tabled { IsTabled table.old.blocks at.now }
     requires state { IsState (game_of game.now) state.0 }
     requires round { IsInRound (game_of game.now) table.old n
-        (slot (game_of game.now) table.old.contexts.items at.now.number at.now.context.function ((game_of game.now).entry at.now.context.function) state.0) }
+        (slot (game_of game.now) table.old.blocks.contexts.items at.now.number at.now.context.function
+        ((game_of game.now).entry at.now.context.function) state.0) }
     ensures table { IsTable (game_of game.now) table.new }
     ensures later { IsLater table.old table.new }
-    ensures tabled { IsTabled table.new at.now }
+    ensures tabled { IsTabled table.new.blocks at.now }
     ensures round { IfNone result (IsInRound (game_of game.now) table.new n
-        (slot (game_of game.now) table.new.contexts.items at.now.number at.now.context.function ((game_of game.now).entry at.now.context.function) (state.0 + 1))) }
-    ensures missing { IfSome result (λ c. IsMissing (game_of game.now) table.new c) }
+        (slot (game_of game.now) table.new.blocks.contexts.items at.now.number at.now.context.function
+        ((game_of game.now).entry at.now.context.function) (state.0 + 1))) }
+    ensures missing { IfSome result (λ c. IsMissing (game_of game.now) table.new.blocks c) }
 {
     let function = at.function();
     for p in game.entry(function).0..game.exit(function).0 + 1 {
@@ -200,13 +204,13 @@ fn look_state(
 fn look_context(game: &Game, table: &mut Table, n: u32, at: &Tabled) -> Option<Context>
     requires routed { AreRouted (game_of game.now) (length game.now.graph.parts.items) }
     requires table { IsTable (game_of game.now) table.old }
-    requires tabled { IsTabled table.old at.now }
-    requires round { IsInRound (game_of game.now) table.old n (base (game_of game.now) table.old.contexts.items at.now.number) }
+    requires tabled { IsTabled table.old.blocks at.now }
+    requires round { IsInRound (game_of game.now) table.old n (base (game_of game.now) table.old.blocks.contexts.items at.now.number) }
     ensures table { IsTable (game_of game.now) table.new }
     ensures later { IsLater table.old table.new }
     ensures round { IfNone result (IsInRound (game_of game.now) table.new n
-        (base (game_of game.now) table.new.contexts.items (at.now.number + 1))) }
-    ensures missing { IfSome result (λ c. IsMissing (game_of game.now) table.new c) }
+        (base (game_of game.now) table.new.blocks.contexts.items (at.now.number + 1))) }
+    ensures missing { IfSome result (λ c. IsMissing (game_of game.now) table.new.blocks c) }
 {
     for x in 0..game.states() {
         if let Some(context) = look_state(game, table, n, at, StateId(x)) {
@@ -223,11 +227,11 @@ pub(crate) fn look_all(game: &Game, table: &mut Table, n: u32) -> Option<Context
     requires round { IsInRound (game_of game.now) table.old n 0 }
     ensures table { IsTable (game_of game.now) table.new }
     ensures later { IsLater table.old table.new }
-    ensures round { IfNone result (IsInRound (game_of game.now) table.new n (cells_of (game_of game.now) table.new.contexts.items)) }
-    ensures missing { IfSome result (λ c. IsMissing (game_of game.now) table.new c) }
+    ensures round { IfNone result (IsInRound (game_of game.now) table.new n (cells_of (game_of game.now) table.new.blocks.contexts.items)) }
+    ensures missing { IfSome result (λ c. IsMissing (game_of game.now) table.new.blocks c) }
 {
-    for number in 0..table.contexts.len() {
-        let at = numbered(game, table, number);
+    for number in 0..table.blocks.contexts.len() {
+        let at = numbered(game, &table.blocks, number);
         if let Some(context) = look_context(game, table, n, &at) {
             return Some(context);
         }

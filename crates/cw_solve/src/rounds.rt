@@ -7,7 +7,7 @@ ghost use Rattle.cw_solve.specs.Tables.{IsTable, IsAtRound, IsMissing, IsDone, A
 
 use crate::contexts::Context;
 use crate::look::look_all;
-use crate::table::{Table, size};
+use crate::table::{Blocks, Table, size};
 use cw_product::Game;
 use std::alloc::{AllocError, Global};
 
@@ -17,9 +17,9 @@ pub(crate) fn rounds(game: &Game, table: &mut Table) -> Option<Context>
     requires table { IsTable (game_of game.now) table.old }
     requires start { IsAtRound (game_of game.now) table.old 0 }
     ensures table { IsTable (game_of game.now) table.new }
-    ensures contexts { table.new.contexts.items ≡ table.old.contexts.items }
+    ensures blocks { table.new.blocks ≡ table.old.blocks }
     ensures done { IfNone result (IsDone (game_of game.now) table.new) }
-    ensures missing { IfSome result (λ c. IsMissing (game_of game.now) table.new c) }
+    ensures missing { IfSome result (λ c. IsMissing (game_of game.now) table.new.blocks c) }
 {
     let mut n = 0;
     'rounds: loop {
@@ -38,7 +38,7 @@ pub(crate) fn rounds(game: &Game, table: &mut Table) -> Option<Context>
 pub(crate) fn fresh(alloc: Global, game: &Game, contexts: Vec<Context>) -> Result<Table, AllocError>
     requires routed { AreRouted (game_of game.now) (length game.now.graph.parts.items) }
     requires contexts { AreTabled (game_of game.now) contexts.items }
-    ensures same { IfOk result (λ t. t.contexts.items ≡ contexts.items) }
+    ensures same { IfOk result (λ t. t.blocks.contexts.items ≡ contexts.items) }
     ensures table { IfOk result (λ t. IsTable (game_of game.now) t) }
     ensures start { IfOk result (λ t. IsAtRound (game_of game.now) t 0) }
 {
@@ -50,8 +50,7 @@ pub(crate) fn fresh(alloc: Global, game: &Game, contexts: Vec<Context>) -> Resul
     }
     let heights = vec![in alloc; 0; cells as usize]?;
     Ok(Table {
-        contexts,
-        bases,
+        blocks: Blocks { contexts, bases },
         heights,
         written: 0,
     })

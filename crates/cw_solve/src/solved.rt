@@ -33,7 +33,7 @@ impl<'g> Model for Solved<'g> {
 
     ghost coded = { Prim.hlevel (codes, e.the_row.coded) };
 
-    ghost view = { λ s. record { game = s.game.now; contexts = s.table.contexts.items } };
+    ghost view = { λ s. record { game = s.game.now; contexts = s.table.blocks.contexts.items } };
 
     ghost invariant = { λ s. IsKept s.game.now s.table };
 }
@@ -70,7 +70,7 @@ impl<'g> Solved<'g> {
     pub fn of(game: &'g Game<'g>, table: Table, places: Places) -> Solved<'g>
         requires kept { IsKept game.now table }
         ensures game { result.game ≡ game.now }
-        ensures contexts { result.contexts ≡ table.contexts.items }
+        ensures contexts { result.contexts ≡ table.blocks.contexts.items }
     {
         Solved {
             game,
@@ -118,7 +118,7 @@ impl<'g> Solved<'g> {
     pub fn contexts(&self) -> u32
         ensures { result ≡ length self.now.contexts }
     {
-        self.table.contexts.len() as u32
+        self.table.blocks.contexts.len() as u32
     }
 
     /// A context, by its number.
@@ -126,7 +126,7 @@ impl<'g> Solved<'g> {
         requires { number < length self.now.contexts }
         ensures { Some result.now ≡ slice_get self.now.contexts number }
     {
-        &self.table.contexts[number as usize]
+        &self.table.blocks.contexts[number as usize]
     }
 
     /// The number of a context; none where the game doesn't need it.
@@ -136,7 +136,7 @@ impl<'g> Solved<'g> {
     {
         match self
             .places
-            .place_of(&self.table.contexts, function, promise)
+            .place_of(&self.table.blocks.contexts, function, promise)
         {
             Some(number) => Some(number as u32),
             None => None,
@@ -145,7 +145,10 @@ impl<'g> Solved<'g> {
 
     /// The number of the one context that may be of a function and have this promise.
     pub(crate) fn number_near(&self, function: u16, promise: &StateSet) -> u32 {
-        match self.places.find(&self.table.contexts, function, promise) {
+        match self
+            .places
+            .find(&self.table.blocks.contexts, function, promise)
+        {
             None => 0,
             Some(number) => number,
         }
@@ -164,8 +167,8 @@ impl<'g> Solved<'g> {
         requires cell { IsNumbered self.now number pos.0 state.0 }
         ensures { IsHeightIn self.now number pos.0 state.0 result }
     {
-        let at = numbered(self.game, &self.table, number as usize);
-        height_in(self.table.heights[slot(self.game, &self.table, &at, pos, state)])
+        let at = numbered(self.game, &self.table.blocks, number as usize);
+        height_in(self.table.heights[slot(self.game, &self.table.blocks, &at, pos, state)])
     }
 }
 

@@ -5,9 +5,9 @@ ghost use Rattle.cw_game.specs.Games.{Holds};
 ghost use Rattle.cw_game.specs.Pairs.{has, kept_at, all_states};
 ghost use Rattle.cw_product.specs.Product.{game_of};
 ghost use Rattle.cw_product.specs.Routed.{AreRouted, IsThere};
-ghost use Rattle.cw_solve.specs.Contexts.{context, size, promise_at, IsSetOf};
+ghost use Rattle.cw_solve.specs.Contexts.{context, size, cells_of, promise_at, IsSetOf};
 ghost use Rattle.cw_solve.specs.Rounds.{positions, slot, height_by, AreWritten};
-ghost use Rattle.cw_solve.specs.Tables.{IsTable, IsTabled, HasCell};
+ghost use Rattle.cw_solve.specs.Tables.{AreBlocks, IsTable, IsTabled, HasCell};
 
 use crate::contexts::Context;
 use cw_core::{PosId, StateId, StateSet};
@@ -15,16 +15,22 @@ use cw_product::Game;
 use std::marker::Model;
 use std::snapshot::Snapshot;
 
-/// Contexts, where the cells of each begin, the height of each cell (0 where none is written) and how many are written.
+/// Contexts, and where the cells of each begin.
 #[derive(Drop)]
-pub struct Table {
+pub struct Blocks {
     pub contexts: Vec<Context>,
     pub bases: Vec<u32>,
+}
+
+/// Contexts with their cells, the height of each cell (0 where none is written) and how many are written.
+#[derive(Drop)]
+pub struct Table {
+    pub blocks: Blocks,
     pub heights: Vec<u32>,
     pub written: u32,
 }
 
-/// A context of a table, with its number. Contracts see both; of the context there is its function alone when the code runs, as
+/// A context that is tabled, with its number. Contracts see both; of the context there is its function alone when the code runs, as
 /// copies of promises would cost time.
 #[derive(Drop)]
 pub struct Tabled {
@@ -65,14 +71,14 @@ impl Tabled {
 }
 
 /// The context of a number.
-pub fn numbered(game: &Game, table: &Table, number: usize) -> Tabled
+pub fn numbered(game: &Game, blocks: &Blocks, number: usize) -> Tabled
     requires routed { AreRouted (game_of game.now) (length game.now.graph.parts.items) }
-    requires table { IsTable (game_of game.now) table.now }
-    requires within { number < length table.now.contexts.items }
+    requires blocks { AreBlocks (game_of game.now) blocks.now }
+    requires within { number < length blocks.now.contexts.items }
     ensures number { result.number ≡ number }
-    ensures there { IsTabled table.now result }
+    ensures there { IsTabled blocks.now result }
 {
-    let context = &table.contexts[number];
+    let context = &blocks.contexts[number];
     Tabled {
         number: number as u32,
         function: context.function,
@@ -113,16 +119,16 @@ pub fn main_context(game: &Game) -> Context
 }
 
 /// The cell of a pair in a context: the cells of one state follow each other, by position.
-pub fn slot(game: &Game, table: &Table, at: &Tabled, pos: PosId, state: StateId) -> usize
+pub fn slot(game: &Game, blocks: &Blocks, at: &Tabled, pos: PosId, state: StateId) -> usize
     requires routed { AreRouted (game_of game.now) (length game.now.graph.parts.items) }
-    requires table { IsTable (game_of game.now) table.now }
-    requires cell { HasCell (game_of game.now) table.now at.now pos.0 state.0 }
-    ensures is { result ≡ slot (game_of game.now) table.now.contexts.items at.now.number at.now.context.function pos.0 state.0 }
-    ensures within { result < length table.now.heights.items }
+    requires blocks { AreBlocks (game_of game.now) blocks.now }
+    requires cell { HasCell (game_of game.now) blocks.now at.now pos.0 state.0 }
+    ensures is { result ≡ slot (game_of game.now) blocks.now.contexts.items at.now.number at.now.context.function pos.0 state.0 }
+    ensures within { result < cells_of (game_of game.now) blocks.now.contexts.items }
 {
     let function = at.function();
     let run = state.0 as usize * positions(game, function) as usize;
-    table.bases[at.number()] as usize + (run + (pos.0 - game.entry(function).0) as usize)
+    blocks.bases[at.number()] as usize + (run + (pos.0 - game.entry(function).0) as usize)
 }
 
 /// Whether a pair holds for n moves.
@@ -136,11 +142,11 @@ pub(crate) fn holds(
 ) -> bool
     requires routed { AreRouted (game_of game.now) (length game.now.graph.parts.items) }
     requires table { IsTable (game_of game.now) table.now }
-    requires cell { HasCell (game_of game.now) table.now at.now pos.0 state.0 }
-    requires written { AreWritten (game_of game.now) table.now.contexts.items table.now.heights.items n (suc n) }
+    requires cell { HasCell (game_of game.now) table.now.blocks at.now pos.0 state.0 }
+    requires written { AreWritten (game_of game.now) table.now.blocks.contexts.items table.now.heights.items n (suc n) }
     ensures { result ≡ Holds (game_of game.now) n pos.0 state.0 (has at.now.context.promise) }
 {
-    let height = table.heights[slot(game, table, at, pos, state)];
+    let height = table.heights[slot(game, &table.blocks, at, pos, state)];
     height == 0 || n < height
 }
 
@@ -183,8 +189,8 @@ pub(crate) fn promised(
 ) -> StateSet
     requires routed { AreRouted (game_of game.now) (length game.now.graph.parts.items) }
     requires table { IsTable (game_of game.now) table.now }
-    requires cell { HasCell (game_of game.now) table.now at.now back.0 call.0 }
-    requires written { AreWritten (game_of game.now) table.now.contexts.items table.now.heights.items n (suc n) }
+    requires cell { HasCell (game_of game.now) table.now.blocks at.now back.0 call.0 }
+    requires written { AreWritten (game_of game.now) table.now.blocks.contexts.items table.now.heights.items n (suc n) }
     ensures { IsSetOf (game_of game.now) result (promise_at (game_of game.now) n back.0 (kept_at split call.0) at.now.context.promise) }
 {
     let mut set = StateSet::empty();

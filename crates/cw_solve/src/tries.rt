@@ -11,7 +11,7 @@ ghost use Rattle.cw_solve.specs.Solved.{IsCause};
 use crate::contexts::Context;
 use crate::fault::SolveFault;
 use crate::rounds::{fresh, rounds};
-use crate::table::{Table, main_context, size};
+use crate::table::{Blocks, Table, main_context, size};
 use cw_core::limits::CELLS;
 use cw_product::Game;
 use std::alloc::{AllocError, Global};
@@ -24,11 +24,11 @@ pub(crate) enum Tried {
     TooMany(Vec<Context>),
 }
 
-/// A table's contexts and one more.
-fn longer(table: Table, context: Context) -> Result<Vec<Context>, AllocError>
-    ensures { IfOk result (λ v. v.items ≡ table.contexts.items ++ context ∷ []) }
+/// The contexts that are there and one more.
+fn longer(blocks: Blocks, context: Context) -> Result<Vec<Context>, AllocError>
+    ensures { IfOk result (λ v. v.items ≡ blocks.contexts.items ++ context ∷ []) }
 {
-    let mut contexts = table.contexts;
+    let mut contexts = blocks.contexts;
     contexts.push(context)?;
     Ok(contexts)
 }
@@ -44,7 +44,7 @@ fn attempt(alloc: Global, game: &Game, contexts: Vec<Context>) -> Result<Tried, 
         None => Ok(Tried::Done(table)),
         Some(context) => {
             let cells = table.heights.len() as u32 + size(game, context.function);
-            let contexts = longer(table, context)?;
+            let contexts = longer(table.blocks, context)?;
             if cells <= CELLS as u32 {
                 Ok(Tried::More(contexts))
             } else {

@@ -4,8 +4,9 @@ use Rattle.cw_solve.specs.Tabled.{Tabled}
 use Rattle.cw_solve.specs.Tables.{IsTabled}
 use Rattle.cw_solve.proofs.Tabling.{same_tabled}
 use Rattle.cw_linked.specs.Added.{Each, FreesLinks, HasNoHeights, AsksCells}
+use Rattle.cw_linked.specs.Works.{known_of}
 use Rattle.cw_linked.proofs.Alike.{alike}
-use Rattle.cw_linked.proofs.Joining.{is_pushed_table, is_pushed_long, is_pushed_marked, pushed_there, is_freed_table, is_freed_long, is_freed_high, is_freed_right, is_freed_fresh, freed_there, joined}
+use Rattle.cw_linked.proofs.Joining.{is_pushed_known, is_pushed_long, is_pushed_marked, pushed_there, is_freed_known, is_freed_long, is_freed_high, is_freed_right, is_freed_fresh, freed_there, joined}
 use Rattle.cw_linked.proofs.Takings.{few_number}
 use Rattle.cw_linked.proofs.added.add.Goals as goal
 
@@ -16,11 +17,11 @@ numbered-at-requires c =
     let w = c.args.work.now in
     let pushed = c.enlarge.new.work in
     let there = pushed_there g functions c.requires.routed (alike c.args.game.now) w pushed c.args.context c.requires.kept c.requires.contexts c.in_ok-enlarge.ensures in
-    let lt = few_number pushed.table.contexts.items (length w.table.contexts.items) c.args.context there in
+    let lt = few_number pushed.blocks.contexts.items (length w.blocks.contexts.items) c.args.context there in
     record {
       routed = c.requires.routed;
-      table = is_pushed_table g functions c.requires.routed (alike c.args.game.now) w pushed c.args.context c.requires.kept c.requires.contexts c.in_ok-enlarge.ensures;
-      within = omega (arith, lt, c.len-number.ensures, w.table.contexts.ok.0);
+      blocks = (is_pushed_known g functions c.requires.routed (alike c.args.game.now) w pushed c.args.context c.requires.kept c.requires.contexts c.in_ok-enlarge.ensures).blocks;
+      within = omega (arith, lt, c.len-number.ensures, w.blocks.contexts.ok.0);
     }
 
 pub free_all-requires : goal.free_all-requires
@@ -31,7 +32,7 @@ free_all-requires c =
     let pushed = c.enlarge.new.work in
     record {
       routed = c.requires.routed;
-      table = is_pushed_table g functions c.requires.routed (alike c.args.game.now) w pushed c.args.context c.requires.kept c.requires.contexts c.in_ok-enlarge.ensures;
+      known = is_pushed_known g functions c.requires.routed (alike c.args.game.now) w pushed c.args.context c.requires.kept c.requires.contexts c.in_ok-enlarge.ensures;
       tabled = c.numbered-at.ensures.there;
       long = is_pushed_long g functions c.requires.routed (alike c.args.game.now) w pushed c.args.context c.requires.kept c.requires.contexts c.in_ok-enlarge.ensures;
       marked = is_pushed_marked g functions c.requires.routed (alike c.args.game.now) w pushed c.args.context c.requires.kept c.requires.contexts c.in_ok-enlarge.ensures;
@@ -45,20 +46,20 @@ ask_all-requires c =
     let pushed = c.enlarge.new.work in
     let freed = c.free_all.new.work in
     let d = c.args.context in
-    let last = length w.table.contexts.items in
-    let here : c.len-number.result ≡ last = omega (arith, c.len-number.ensures, w.table.contexts.ok.0) in
-    let same = same_tabled pushed.table c.numbered-at.result last d (c.numbered-at.ensures.number ∙ here) c.numbered-at.ensures.there
+    let last = length w.blocks.contexts.items in
+    let here : c.len-number.result ≡ last = omega (arith, c.len-number.ensures, w.blocks.contexts.ok.0) in
+    let same = same_tabled pushed.blocks c.numbered-at.result last d (c.numbered-at.ensures.number ∙ here) c.numbered-at.ensures.there
     (pushed_there g functions c.requires.routed (alike c.args.game.now) w pushed d c.requires.kept c.requires.contexts c.in_ok-enlarge.ensures) in
     let frees = subst (λ (a : Tabled). FreesLinks g pushed freed a.number a.context Each) same c.in_ok-free_all.ensures in
     record {
       routed = c.requires.routed;
-      table = is_freed_table g functions c.requires.routed (alike c.args.game.now) w pushed d c.requires.kept c.requires.contexts c.in_ok-enlarge.ensures freed frees;
-      tabled = subst (IsTabled freed.table) (sym same)
+      known = is_freed_known g functions c.requires.routed (alike c.args.game.now) w pushed d c.requires.kept c.requires.contexts c.in_ok-enlarge.ensures freed frees;
+      tabled = subst (IsTabled freed.blocks) (sym same)
           (freed_there g functions c.requires.routed (alike c.args.game.now) w pushed d c.requires.kept c.requires.contexts c.in_ok-enlarge.ensures freed frees);
       long = is_freed_long g functions c.requires.routed (alike c.args.game.now) w pushed d c.requires.kept c.requires.contexts c.in_ok-enlarge.ensures freed frees;
       high = is_freed_high g functions c.requires.routed (alike c.args.game.now) w pushed d c.requires.kept c.requires.contexts c.in_ok-enlarge.ensures freed frees;
       right = is_freed_right g functions c.requires.routed (alike c.args.game.now) w pushed d c.requires.kept c.requires.contexts c.in_ok-enlarge.ensures freed frees;
-      fresh = subst (HasNoHeights g freed.table) (sym same)
+      fresh = subst (HasNoHeights g (known_of freed)) (sym same)
           (is_freed_fresh g functions c.requires.routed (alike c.args.game.now) w pushed d c.requires.kept c.requires.contexts c.in_ok-enlarge.ensures freed frees);
     }
 
@@ -70,9 +71,9 @@ returns c =
     let pushed = c.enlarge.new.work in
     let freed = c.free_all.new.work in
     let d = c.args.context in
-    let last = length w.table.contexts.items in
-    let here : c.len-number.result ≡ last = omega (arith, c.len-number.ensures, w.table.contexts.ok.0) in
-    let same = same_tabled pushed.table c.numbered-at.result last d (c.numbered-at.ensures.number ∙ here) c.numbered-at.ensures.there
+    let last = length w.blocks.contexts.items in
+    let here : c.len-number.result ≡ last = omega (arith, c.len-number.ensures, w.blocks.contexts.ok.0) in
+    let same = same_tabled pushed.blocks c.numbered-at.result last d (c.numbered-at.ensures.number ∙ here) c.numbered-at.ensures.there
     (pushed_there g functions c.requires.routed (alike c.args.game.now) w pushed d c.requires.kept c.requires.contexts c.in_ok-enlarge.ensures) in
     let frees = subst (λ (a : Tabled). FreesLinks g pushed freed a.number a.context Each) same c.in_ok-free_all.ensures in
     joined g functions c.requires.routed (alike c.args.game.now) w pushed d c.requires.kept c.requires.contexts c.in_ok-enlarge.ensures freed frees c.ask_all.new.work

@@ -6,22 +6,22 @@ use Rattle.cw_linked.proofs.added.enlarge.Goals as goal
 
 pub overflow_cast-lists : goal.overflow_cast-lists
 overflow_cast-lists c =
-    let few = few_contexts (game_of c.args.game.now) (length c.args.game.now.graph.parts.items) c.requires.routed c.args.work.now.table.contexts.items c.args.context.now c.requires.contexts in
-    omega (arith, few, c.len.ensures, c.args.work.now.table.contexts.ok.0)
+    let few = few_contexts (game_of c.args.game.now) (length c.args.game.now.graph.parts.items) c.requires.routed c.args.work.now.blocks.contexts.items c.args.context.now c.requires.contexts in
+    omega (arith, few, c.len.ensures, c.args.work.now.blocks.contexts.ok.0)
 
 pub overflow_add-lists : goal.overflow_add-lists
 overflow_add-lists c =
-    let few = few_contexts (game_of c.args.game.now) (length c.args.game.now.graph.parts.items) c.requires.routed c.args.work.now.table.contexts.items c.args.context.now c.requires.contexts in
-    omega (arith, few, c.len.ensures, c.args.work.now.table.contexts.ok.0)
+    let few = few_contexts (game_of c.args.game.now) (length c.args.game.now.graph.parts.items) c.requires.routed c.args.work.now.blocks.contexts.items c.args.context.now c.requires.contexts in
+    omega (arith, few, c.len.ensures, c.args.work.now.blocks.contexts.ok.0)
 
 pub reach-requires : goal.reach-requires
 reach-requires c =
-    let few = few_contexts (game_of c.args.game.now) (length c.args.game.now.graph.parts.items) c.requires.routed c.args.work.now.table.contexts.items c.args.context.now c.requires.contexts in
-    record { few = omega (arith, few, c.len.ensures, c.args.work.now.table.contexts.ok.0) }
+    let few = few_contexts (game_of c.args.game.now) (length c.args.game.now.graph.parts.items) c.requires.routed c.args.work.now.blocks.contexts.items c.args.context.now c.requires.contexts in
+    record { few = omega (arith, few, c.len.ensures, c.args.work.now.blocks.contexts.ok.0) }
 
 pub push_places-requires-clause-there : goal.push_places-requires-clause-there
 push_places-requires-clause-there c =
-    last_there (game_of c.args.game.now) (length c.args.game.now.graph.parts.items) c.requires.routed c.args.work.now.table.contexts.items c.args.context.now c.requires.contexts
+    last_there (game_of c.args.game.now) (length c.args.game.now.graph.parts.items) c.requires.routed c.args.work.now.blocks.contexts.items c.args.context.now c.requires.contexts
 
 pub push_places-requires-clause-few : goal.push_places-requires-clause-few
 push_places-requires-clause-few c =
@@ -29,22 +29,15 @@ push_places-requires-clause-few c =
     let marks = ap (λ (s : Stored). length s.marks) c.reach.ensures.rest in
     omega (arith, few, c.requires.kept.long.marks, marks)
 
-pub size-requires-clause-there : goal.size-requires-clause-there
-size-requires-clause-there c =
-    last_there (game_of c.args.game.now) (length c.args.game.now.graph.parts.items) c.requires.routed c.args.work.now.table.contexts.items c.args.context.now c.requires.contexts
-
-pub push-requires : goal.push-requires
-push-requires c =
-    let g = game_of c.args.game.now in
-    let few = few_contexts g (length c.args.game.now.graph.parts.items) c.requires.routed c.args.work.now.table.contexts.items c.args.context.now c.requires.contexts in
-    let cells = few_cells g c.args.work.now c.args.context.now c.requires.kept c.requires.contexts in
-    record {
-      few = omega (arith, cells, c.size.ensures.is);
-    }
+pub overflow_cast-base : goal.overflow_cast-base
+overflow_cast-base c =
+    let few = few_cells (game_of c.args.game.now) c.args.work.now c.args.context.now c.requires.kept c.requires.contexts in
+    omega (arith, few, c.requires.kept.long.marks, c.places-base.ensures)
 
 pub returns : goal.returns
 returns c =
     let w = c.args.work.now in
     let lists = c.in_ok-reach.ensures.enough in
-    pushes_then (game_of c.args.game.now) w _ c.push.new.work c.args.context.now c.reach.new.self c.size.result c.reach.ensures.rest c.reach.ensures.more
-    (omega (arith, lists, c.len.ensures, w.table.contexts.ok.0)) c.in_ok-push_places.ensures.places c.in_ok-push_places.ensures.marked refl c.in_ok-push.ensures c.size.ensures.is
+    pushes_then (game_of c.args.game.now) w _ c.args.context.now c.reach.new.self c.places-base.result c.reach.ensures.rest c.reach.ensures.more
+    (omega (arith, lists, c.len.ensures, w.blocks.contexts.ok.0)) c.in_ok-push_places.ensures.places c.in_ok-push_places.ensures.marked c.in_ok-push.ensures
+    (omega (arith, c.requires.kept.long.marks, c.places-base.ensures)) refl

@@ -1,10 +1,9 @@
 use Rattle.std.proofs.Common.{◌≡◌, ◌+◌, Some, length, sym, ap, subst, arith, ◌∙◌}
 use Rattle.std.specs.Prelude.{slice_get}
 use Rattle.cw_product.specs.Product.{game_of}
-use Rattle.cw_solve.specs.declared.table.Table.{Table}
-use Rattle.cw_solve.specs.Tables.{IsTable}
 use Rattle.cw_solve.proofs.Tabling.{there_at}
 use Rattle.cw_linked.specs.Added.{AllOf, Before, Each}
+use Rattle.cw_linked.specs.Works.{Known, IsKnown}
 use Rattle.cw_linked.proofs.Askings.{one_more_position}
 use Rattle.cw_linked.proofs.Freeing.{frees_nothing, frees_more, frees_these, frees_long}
 use Rattle.cw_linked.proofs.Staying.{marked_on}
@@ -13,13 +12,13 @@ use Rattle.cw_linked.proofs.added.free_all.Goals as goal
 pub entry-p-requires : goal.entry-p-requires
 entry-p-requires c =
     let at = c.args.at.now in
-    rw c.function-function.ensures (there_at (game_of c.args.game.now) (length c.args.game.now.graph.parts.items) c.requires.routed c.args.work.now.table c.requires.table at.number
+    rw c.function-function.ensures (there_at (game_of c.args.game.now) (length c.args.game.now.graph.parts.items) c.requires.routed c.args.work.now.blocks c.requires.known.blocks at.number
     at.context c.requires.tabled).below
 
 pub exit-p-end-requires : goal.exit-p-end-requires
 exit-p-end-requires c =
     let at = c.args.at.now in
-    rw c.function-function.ensures (there_at (game_of c.args.game.now) (length c.args.game.now.graph.parts.items) c.requires.routed c.args.work.now.table c.requires.table at.number
+    rw c.function-function.ensures (there_at (game_of c.args.game.now) (length c.args.game.now.graph.parts.items) c.requires.routed c.args.work.now.blocks c.requires.known.blocks at.number
     at.context c.requires.tabled).below
 
 pub overflow_add-p-end : goal.overflow_add-p-end
@@ -38,8 +37,8 @@ free_links-requires c =
     let inv = c.loop-p.invariant in
     record {
       routed = c.requires.routed;
-      table = subst (IsTable g) (sym inv.others.table) c.requires.table;
-      tabled = subst (λ (t : Table). slice_get t.contexts.items at.number ≡ Some at.context) (sym inv.others.table) c.requires.tabled;
+      known = subst (IsKnown g) (sym inv.others.known) c.requires.known;
+      tabled = subst (λ (t : Known). slice_get t.blocks.contexts.items at.number ≡ Some at.context) (sym inv.others.known) c.requires.tabled;
       of = (
         omega (arith, c.loop-p.auto.p, c.entry-p.ensures.is ∙ ap (game_of c.args.game.now).entry c.function-function.ensures),
         omega (
@@ -50,7 +49,7 @@ free_links-requires c =
         ),
       );
       long = frees_long g at.number at.context c.args.work.now c.loop-p.work (Before c.loop-p.p) inv c.requires.long;
-      marked = marked_on g c.args.work.now c.loop-p.work (ap (λ (t : Table). t.contexts.items) inv.others.table) inv.others.marks c.requires.marked;
+      marked = marked_on g c.args.work.now c.loop-p.work (ap (λ (t : Known). t.blocks.contexts.items) inv.others.known) inv.others.marks c.requires.marked;
     }
 
 pub loop-p-preserved : goal.loop-p-preserved

@@ -11,7 +11,8 @@ use Rattle.cw_linked.proofs.added.free_link.Goals as goal
 
 pub class_at-requires-clause-position : goal.class_at-requires-clause-position
 class_at-requires-clause-position c =
-    cell_within (game_of c.args.game.now) (length c.args.game.now.graph.parts.items) c.requires.routed c.args.work.now.table c.requires.table c.args.at.now c.args.pos.0 c.args.state.0 c.requires.cell
+    cell_within (game_of c.args.game.now) (length c.args.game.now.graph.parts.items) c.requires.routed c.args.work.now.blocks c.requires.known.blocks
+    c.args.at.now c.args.pos.0 c.args.state.0 c.requires.cell
 
 pub returns-in-None : goal.returns-in-None
 returns-in-None c =
@@ -39,7 +40,7 @@ ask_link-requires-clause-marked c =
     let at = c.args.at.now in
     let place = c.slot-place.result in
     let s = c.in-Some.ensures.some in
-    let l = link_here g at.number at.context c.args.work.now.table.contexts.items c.args.pos.0 c.args.state.0 place c.requires.cell c.slot-place.ensures.is s.0 s.1
+    let l = link_here g at.number at.context c.args.work.now.blocks.contexts.items c.args.pos.0 c.args.state.0 place c.requires.cell c.slot-place.ensures.is s.0 s.1
     (s.2 ∙ c.is_same.ensures.is c.if-is_same.true) in
     c.requires.marked place (at.number, at.context, l.0, l.1, l.2, l.3, l.4)
 
@@ -50,7 +51,7 @@ returns-in_ok-ask_link-in-Some c =
     let at = c.args.at.now in
     let place = c.slot-place.result in
     let s = c.in-Some.ensures.some in
-    frees_one g at.number at.context w c.ask_link.new.work c.args.pos.0 c.args.state.0 place (omega (arith, c.slot-place.ensures.within, c.requires.long.due))
-    (c.slot-place.ensures.is ∙ sym (place_is g w.table.contexts.items at.number at.context c.args.pos.0 c.args.state.0 c.requires.cell.at))
-    (link_here g at.number at.context w.table.contexts.items c.args.pos.0 c.args.state.0 place c.requires.cell c.slot-place.ensures.is s.0 s.1 (s.2 ∙ c.is_same.ensures.is c.if-is_same.true))
+    frees_one g at.number at.context w c.ask_link.new.work c.args.pos.0 c.args.state.0 place (omega (arith, c.slot-place.ensures.within, c.requires.known.cells, c.requires.long.due))
+    (c.slot-place.ensures.is ∙ sym (place_is g w.blocks.contexts.items at.number at.context c.args.pos.0 c.args.state.0 c.requires.cell.at))
+    (link_here g at.number at.context w.blocks.contexts.items c.args.pos.0 c.args.state.0 place c.requires.cell c.slot-place.ensures.is s.0 s.1 (s.2 ∙ c.is_same.ensures.is c.if-is_same.true))
     c.in_ok-ask_link-in-Some.ensures

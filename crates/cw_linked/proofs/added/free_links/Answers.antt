@@ -2,11 +2,10 @@ use Rattle.std.proofs.Common.{◌≡◌, ◌+◌, ◌∙◌, Some, length, sym, 
 use Rattle.std.specs.Prelude.{slice_get}
 use Rattle.cw_game.specs.Pairs.{is_call_in}
 use Rattle.cw_product.specs.Product.{game_of}
-use Rattle.cw_solve.specs.declared.table.Table.{Table}
-use Rattle.cw_solve.specs.Tables.{IsTable}
 use Rattle.cw_lemmas.proofs.Truths.{not_both}
 use Rattle.cw_solve.proofs.Tabling.{there_at}
 use Rattle.cw_linked.specs.Added.{ThePair, FirstOf, AllOf}
+use Rattle.cw_linked.specs.Works.{Known, IsKnown}
 use Rattle.cw_linked.proofs.Askings.{one_more_state}
 use Rattle.cw_linked.proofs.Freeing.{frees_nothing, frees_more, frees_these, frees_long}
 use Rattle.cw_linked.proofs.Passing.{frees_position}
@@ -17,7 +16,7 @@ use Rattle.cw_linked.proofs.added.free_links.Goals as goal
 pub is_call-requires : goal.is_call-requires
 is_call-requires c =
     let at = c.args.at.now in
-    let th = there_at (game_of c.args.game.now) (length c.args.game.now.graph.parts.items) c.requires.routed c.args.work.now.table c.requires.table at.number at.context c.requires.tabled in
+    let th = there_at (game_of c.args.game.now) (length c.args.game.now.graph.parts.items) c.requires.routed c.args.work.now.blocks c.requires.known.blocks at.number at.context c.requires.tabled in
     omega (arith, th.ends, c.requires.of.1)
 
 pub returns-then-not-is_call : goal.returns-then-not-is_call
@@ -39,14 +38,14 @@ free_link-requires c =
     let inv = c.loop-x.invariant in
     record {
       routed = c.requires.routed;
-      table = subst (IsTable (game_of c.args.game.now)) (sym inv.others.table) c.requires.table;
+      known = subst (IsKnown (game_of c.args.game.now)) (sym inv.others.known) c.requires.known;
       cell = record {
-        at = subst (λ (t : Table). slice_get t.contexts.items at.number ≡ Some at.context) (sym inv.others.table) c.requires.tabled;
+        at = subst (λ (t : Known). slice_get t.blocks.contexts.items at.number ≡ Some at.context) (sym inv.others.known) c.requires.tabled;
         of = c.requires.of;
         state = omega (arith, c.loop-x-test.true, c.states-x-end.ensures);
       };
       long = frees_long (game_of c.args.game.now) at.number at.context c.args.work.now c.loop-x.work (FirstOf c.args.pos.0 c.loop-x.x) inv c.requires.long;
-      marked = marked_on (game_of c.args.game.now) c.args.work.now c.loop-x.work (ap (λ (t : Table). t.contexts.items) inv.others.table) inv.others.marks c.requires.marked;
+      marked = marked_on (game_of c.args.game.now) c.args.work.now c.loop-x.work (ap (λ (t : Known). t.blocks.contexts.items) inv.others.known) inv.others.marks c.requires.marked;
     }
 
 pub loop-x-preserved : goal.loop-x-preserved

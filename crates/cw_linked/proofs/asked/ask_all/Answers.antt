@@ -1,25 +1,25 @@
 use Rattle.std.proofs.Common.{◌≡◌, ◌+◌, Some, length, sym, subst, arith, ap, ◌∙◌}
 use Rattle.std.specs.Prelude.{slice_get}
 use Rattle.cw_product.specs.Product.{game_of}
-use Rattle.cw_solve.specs.declared.table.Table.{Table}
 use Rattle.cw_solve.proofs.Tabling.{there_at}
 use Rattle.cw_linked.specs.Added.{AllOf, Before, Each, HasNoHeights}
 use Rattle.cw_linked.specs.Blocks.{IsBlock}
+use Rattle.cw_linked.specs.Works.{Known}
 use Rattle.cw_linked.proofs.Alike.{alike}
 use Rattle.cw_linked.proofs.Askings.{asks_nothing, asks_more, asks_these, one_more_position}
-use Rattle.cw_linked.proofs.Finishing.{next_table, next_right}
+use Rattle.cw_linked.proofs.Finishing.{next_known, next_right}
 use Rattle.cw_linked.proofs.asked.ask_all.Goals as goal
 
 pub entry-p-requires : goal.entry-p-requires
 entry-p-requires c =
     let at = c.args.at.now in
-    rw c.function-function.ensures (there_at (game_of c.args.game.now) (length c.args.game.now.graph.parts.items) c.requires.routed c.args.work.now.table c.requires.table at.number
+    rw c.function-function.ensures (there_at (game_of c.args.game.now) (length c.args.game.now.graph.parts.items) c.requires.routed c.args.work.now.blocks c.requires.known.blocks at.number
     at.context c.requires.tabled).below
 
 pub exit-p-end-requires : goal.exit-p-end-requires
 exit-p-end-requires c =
     let at = c.args.at.now in
-    rw c.function-function.ensures (there_at (game_of c.args.game.now) (length c.args.game.now.graph.parts.items) c.requires.routed c.args.work.now.table c.requires.table at.number
+    rw c.function-function.ensures (there_at (game_of c.args.game.now) (length c.args.game.now.graph.parts.items) c.requires.routed c.args.work.now.blocks c.requires.known.blocks at.number
     at.context c.requires.tabled).below
 
 pub overflow_add-p-end : goal.overflow_add-p-end
@@ -39,9 +39,9 @@ ask_position-requires c =
     let inv = c.loop-p.invariant in
     record {
       routed = c.requires.routed;
-      table = next_table g functions c.requires.routed (alike c.args.game.now) c.args.work.now c.loop-p.work c.requires.table inv.step;
-      tabled = subst (λ (t : Table). slice_get t.contexts.items at.number ≡ Some at.context) (sym inv.step.others.table) c.requires.tabled;
-      block = subst (λ (t : Table). IsBlock g t at c.block_of-block.result) (sym inv.step.others.table) c.block_of-block.ensures;
+      known = next_known g functions c.requires.routed (alike c.args.game.now) c.args.work.now c.loop-p.work c.requires.known inv.step;
+      tabled = subst (λ (t : Known). slice_get t.blocks.contexts.items at.number ≡ Some at.context) (sym inv.step.others.known) c.requires.tabled;
+      block = subst (λ (t : Known). IsBlock g t.blocks at c.block_of-block.result) (sym inv.step.others.known) c.block_of-block.ensures;
       of = (
         omega (arith, c.loop-p.auto.p, c.entry-p.ensures.is ∙ ap (game_of c.args.game.now).entry c.function-function.ensures),
         omega (
@@ -53,8 +53,8 @@ ask_position-requires c =
       );
       long = inv.step.long;
       high = inv.step.high;
-      right = next_right g functions c.requires.routed (alike c.args.game.now) c.args.work.now c.loop-p.work c.requires.table inv.step;
-      fresh = subst (λ (t : Table). HasNoHeights g t at) (sym inv.step.others.table) c.requires.fresh;
+      right = next_right g functions c.requires.routed (alike c.args.game.now) c.args.work.now c.loop-p.work c.requires.known inv.step;
+      fresh = subst (λ (t : Known). HasNoHeights g t at) (sym inv.step.others.known) c.requires.fresh;
     }
 
 pub loop-p-preserved : goal.loop-p-preserved

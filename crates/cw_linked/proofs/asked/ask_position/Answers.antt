@@ -1,22 +1,22 @@
 use Rattle.std.proofs.Common.{◌≡◌, ◌+◌, ◌∙◌, ℕ, Some, length, sym, subst, arith}
 use Rattle.std.specs.Prelude.{slice_get}
 use Rattle.cw_product.specs.Product.{game_of}
-use Rattle.cw_solve.specs.declared.table.Table.{Table}
 use Rattle.cw_solve.proofs.Tabling.{there_at}
 use Rattle.cw_linked.specs.Added.{ThePair, FirstOf, AllOf}
 use Rattle.cw_linked.specs.Blocks.{IsBlock}
 use Rattle.cw_linked.specs.Founds.{IsClosed}
 use Rattle.cw_linked.specs.Queues.{found_of}
+use Rattle.cw_linked.specs.Works.{Known}
 use Rattle.cw_linked.proofs.Alike.{alike}
 use Rattle.cw_linked.proofs.Askings.{asks_nothing, asks_one, asks_more, asks_these, one_more_state}
-use Rattle.cw_linked.proofs.Finishing.{next_table, next_right}
+use Rattle.cw_linked.proofs.Finishing.{next_known, next_right}
 use Rattle.cw_linked.proofs.Passing.{closed_fresh}
 use Rattle.cw_linked.proofs.asked.ask_position.Goals as goal
 
 pub loss_begins-requires : goal.loss_begins-requires
 loss_begins-requires c =
     let at = c.args.at.now in
-    let th = there_at (game_of c.args.game.now) (length c.args.game.now.graph.parts.items) c.requires.routed c.args.work.now.table c.requires.table at.number at.context c.requires.tabled in
+    let th = there_at (game_of c.args.game.now) (length c.args.game.now.graph.parts.items) c.requires.routed c.args.work.now.blocks c.requires.known.blocks at.number at.context c.requires.tabled in
     omega (arith, th.ends, c.requires.of.1)
 
 pub returns-then-not-loss_begins : goal.returns-then-not-loss_begins
@@ -25,11 +25,11 @@ returns-then-not-loss_begins c =
     let functions = length c.args.game.now.graph.parts.items in
     let w = c.args.work.now in
     let at = c.args.at.now in
-    let th = there_at g functions c.requires.routed w.table c.requires.table at.number at.context c.requires.tabled in
+    let th = there_at g functions c.requires.routed w.blocks c.requires.known.blocks at.number at.context c.requires.tabled in
     asks_nothing g w c.requires.long c.requires.high c.requires.right at.number at.context (AllOf c.args.pos.0)
     (λ p q is e.
     subst (λ (y : ℕ). IsClosed g (found_of g w) at.number at.context y q) (sym e)
-    (closed_fresh g functions c.requires.routed w.table.contexts.items (found_of g w) at.number at.context c.args.pos.0 q th.below
+    (closed_fresh g functions c.requires.routed w.blocks.contexts.items (found_of g w) at.number at.context c.args.pos.0 q th.below
     (record { at = c.requires.tabled; of = c.requires.of; state = is.state })
     (sym c.loss_begins.ensures ∙ c.if-not-loss_begins.true) c.requires.fresh))
 
@@ -48,16 +48,16 @@ ask_told-requires c =
     let inv = c.loop-x.invariant in
     record {
       routed = c.requires.routed;
-      table = next_table g functions c.requires.routed (alike c.args.game.now) c.args.work.now c.loop-x.work c.requires.table inv.step;
+      known = next_known g functions c.requires.routed (alike c.args.game.now) c.args.work.now c.loop-x.work c.requires.known inv.step;
       cell = record {
-        at = subst (λ (t : Table). slice_get t.contexts.items at.number ≡ Some at.context) (sym inv.step.others.table) c.requires.tabled;
+        at = subst (λ (t : Known). slice_get t.blocks.contexts.items at.number ≡ Some at.context) (sym inv.step.others.known) c.requires.tabled;
         of = c.requires.of;
         state = omega (arith, c.loop-x-test.true, c.states-x-end.ensures);
       };
-      block = subst (λ (t : Table). IsBlock g t at c.args.block.now) (sym inv.step.others.table) c.requires.block;
+      block = subst (λ (t : Known). IsBlock g t.blocks at c.args.block.now) (sym inv.step.others.known) c.requires.block;
       long = inv.step.long;
       high = inv.step.high;
-      right = next_right g functions c.requires.routed (alike c.args.game.now) c.args.work.now c.loop-x.work c.requires.table inv.step;
+      right = next_right g functions c.requires.routed (alike c.args.game.now) c.args.work.now c.loop-x.work c.requires.known inv.step;
     }
 
 pub loop-x-preserved : goal.loop-x-preserved

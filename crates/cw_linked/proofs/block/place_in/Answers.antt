@@ -11,7 +11,7 @@ returns-clause-is c =
 pub returns-clause-within : goal.returns-clause-within
 returns-clause-within c =
     let at = c.args.at.now in
-    let t = c.args.table.now in
-    let lt = slot_within (game_of c.args.game.now) t.contexts.items at.number at.context c.args.pos.0 c.args.state.0 c.requires.cell in
+    let blocks = c.args.blocks.now in
+    let lt = slot_within (game_of c.args.game.now) blocks.contexts.items at.number at.context c.args.pos.0 c.args.state.0 c.requires.cell in
     let e = returns-clause-is c in
-    omega (arith, lt, e, c.requires.table.cells)
+    omega (arith, lt, e)

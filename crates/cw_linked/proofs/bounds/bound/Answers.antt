@@ -6,7 +6,7 @@ use Rattle.cw_product.specs.Product.{game_of}
 use Rattle.cw_solve.proofs.Calling.{cell_within}
 use Rattle.cw_solve.proofs.Moves.{by_moves}
 use Rattle.cw_linked.specs.Founds.{told}
-use Rattle.cw_linked.specs.Works.{heights_of}
+use Rattle.cw_linked.specs.Works.{known_of, heights_of}
 use Rattle.cw_linked.proofs.Bounding.{plain_spot}
 use Rattle.cw_linked.proofs.bounds.bound.Goals as goal
 
@@ -14,18 +14,18 @@ pub spot-spot-requires : goal.spot-spot-requires
 spot-spot-requires c =
     let g = game_of c.args.game.now in
     let functions = length c.args.game.now.graph.parts.items in
-    cell_within g functions c.requires.routed c.args.table.now c.requires.table c.args.at.now c.args.pos.0 c.args.state.0 c.requires.cell
+    cell_within g functions c.requires.routed c.args.work.now.blocks c.requires.known.blocks c.args.at.now c.args.pos.0 c.args.state.0 c.requires.cell
 
 pub bad-requires-clause-position : goal.bad-requires-clause-position
 bad-requires-clause-position c =
     let g = game_of c.args.game.now in
     let functions = length c.args.game.now.graph.parts.items in
-    cell_within g functions c.requires.routed c.args.table.now c.requires.table c.args.at.now c.args.pos.0 c.args.state.0 c.requires.cell
+    cell_within g functions c.requires.routed c.args.work.now.blocks c.requires.known.blocks c.args.at.now c.args.pos.0 c.args.state.0 c.requires.cell
 
 pub returns-in_default : goal.returns-in_default
 returns-in_default c =
     let g = game_of c.args.game.now in
-    let heights = heights_of g c.args.table.now in
+    let heights = heights_of g (known_of c.args.work.now) in
     let promise = has c.args.at.now.context.promise in
     let spot = slice_get g.spots c.args.pos.0 in
     let d = c.in_default in

@@ -16,7 +16,7 @@ returns-then-contains-clause-tells c n =
     elim c.if-function-from.branch [
       | then-function-from w ↦ main_ends c.args.function main held (omega (arith, w.if-function-from.true, c.from.ensures, c.main.ensures))
       | else-function-from w ↦ sym c.if-contains.true ∙ w.value-is ∙ w.contains.ensures.member ∙ ap (λ (x : Context). has x.promise c.args.state.0)
-          (read_context c.args.table.now c.args.at.now w.number.result w.index.result.now w.number.ensures c.requires.tabled w.index.ensures)
+          (read_context c.args.blocks.now c.args.at.now w.number.result w.index.result.now w.number.ensures c.requires.tabled w.index.ensures)
           ∙ other_ends c.args.function main held (λ e. w.if-function-from.false (omega (arith, e, c.from.ensures, c.main.ensures)))
     ]
 
@@ -29,6 +29,6 @@ returns-else-contains-clause-tells c n =
     ∙ elim c.if-function-from.branch [
       | then-function-from w ↦ absurd (false≢true (sym c.if-contains.false ∙ w.value-is ∙ eq-eqb c.args.function c.from.result (omega (arith, w.if-function-from.true))))
       | else-function-from w ↦ sym c.if-contains.false ∙ w.value-is ∙ w.contains.ensures.member ∙ ap (λ (x : Context). has x.promise c.args.state.0)
-          (read_context c.args.table.now c.args.at.now w.number.result w.index.result.now w.number.ensures c.requires.tabled w.index.ensures)
+          (read_context c.args.blocks.now c.args.at.now w.number.result w.index.result.now w.number.ensures c.requires.tabled w.index.ensures)
           ∙ other_ends c.args.function main held (λ e. w.if-function-from.false (omega (arith, e, c.from.ensures, c.main.ensures)))
     ]

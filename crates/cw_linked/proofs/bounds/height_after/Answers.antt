@@ -5,26 +5,26 @@ use Rattle.cw_solve.specs.Asking.{holds_after}
 use Rattle.cw_solve.specs.Rounds.{holds_by}
 use Rattle.cw_solve.proofs.Calling.{cell_within, moved}
 use Rattle.cw_linked.specs.Founds.{told}
-use Rattle.cw_linked.specs.Works.{heights_of}
+use Rattle.cw_linked.specs.Works.{known_of, heights_of}
 use Rattle.cw_linked.proofs.bounds.height_after.Goals as goal
 
 pub next-requires-clause-position : goal.next-requires-clause-position
 next-requires-clause-position c =
     let g = game_of c.args.game.now in
     let functions = length c.args.game.now.graph.parts.items in
-    cell_within g functions c.requires.routed c.args.table.now c.requires.table c.args.at.now c.args.pos.0 c.args.state.0 c.requires.cell
+    cell_within g functions c.requires.routed c.args.work.now.blocks c.requires.known.blocks c.args.at.now c.args.pos.0 c.args.state.0 c.requires.cell
 
 pub height_in-requires-clause-cell : goal.height_in-requires-clause-cell
 height_in-requires-clause-cell c =
     let g = game_of c.args.game.now in
     let functions = length c.args.game.now.graph.parts.items in
-    moved g functions c.requires.routed c.args.table.now c.requires.table c.args.at.now c.args.pos.0 c.args.state.0 c.args.by c.in-Some.pos.0 c.in-Some.state.0 c.requires.cell
+    moved g functions c.requires.routed c.args.work.now.blocks c.requires.known.blocks c.args.at.now c.args.pos.0 c.args.state.0 c.args.by c.in-Some.pos.0 c.in-Some.state.0 c.requires.cell
     (sym c.in-Some.ensures.is) c.in-Some.ensures.within.1
 
 pub returns-in-Some-clause-tells : goal.returns-in-Some-clause-tells
 returns-in-Some-clause-tells c n =
     let at = c.args.at.now in
-    let heights = heights_of (game_of c.args.game.now) c.args.table.now in
+    let heights = heights_of (game_of c.args.game.now) (known_of c.args.work.now) in
     ap (λ (k : ℕ). holds_by n k) c.height_in.ensures.is ∙ ap (holds_after (told heights at.number n) (has at.context.promise)) c.in-Some.ensures.is
 
 pub returns-in-Some-clause-high : goal.returns-in-Some-clause-high

@@ -21,15 +21,15 @@ pub overflow_cast-number : goal.overflow_cast-number
 overflow_cast-number c =
     let w = c.args.work.now in
     let at = c.args.cell.now.at in
-    let most = few (game_of c.args.game.now) (length c.args.game.now.graph.parts.items) c.requires.routed w.table c.requires.table in
-    omega (arith, most, c.number.ensures, few_number w.table.contexts.items at.number at.context c.requires.cell.at)
+    let most = few (game_of c.args.game.now) (length c.args.game.now.graph.parts.items) c.requires.routed w.blocks c.requires.known.blocks in
+    omega (arith, most, c.number.ensures, few_number w.blocks.contexts.items at.number at.context c.requires.cell.at)
 
 pub overflow_add-number : goal.overflow_add-number
 overflow_add-number c =
     let w = c.args.work.now in
     let at = c.args.cell.now.at in
-    let most = few (game_of c.args.game.now) (length c.args.game.now.graph.parts.items) c.requires.routed w.table c.requires.table in
-    omega (arith, most, c.number.ensures, few_number w.table.contexts.items at.number at.context c.requires.cell.at)
+    let most = few (game_of c.args.game.now) (length c.args.game.now.graph.parts.items) c.requires.routed w.blocks c.requires.known.blocks in
+    omega (arith, most, c.number.ensures, few_number w.blocks.contexts.items at.number at.context c.requires.cell.at)
 
 pub walk-init : goal.walk-init
 walk-init c =
@@ -42,9 +42,9 @@ walk-init c =
       known = c.first-next.ensures.known;
       step = nothing g w c.requires.long c.requires.high c.requires.right;
       at = begins.1;
-      left = subst (λ (ys : List ℕ). AllCalled g w.table.contexts.items (found_of g w) (CallsLeft g w.table.contexts.items w.store.marks (found_of g w) ys cell.at.number cell.pos.0 cell.state.0))
+      left = subst (λ (ys : List ℕ). AllCalled g w.blocks.contexts.items (found_of g w) (CallsLeft g w.blocks.contexts.items w.store.marks (found_of g w) ys cell.at.number cell.pos.0 cell.state.0))
           (sym begins.0)
-          (all_calls g (length c.args.game.now.graph.parts.items) c.requires.routed (alike c.args.game.now) w c.requires.table
+          (all_calls g (length c.args.game.now.graph.parts.items) c.requires.routed (alike c.args.game.now) w c.requires.known
           c.requires.marked c.first-next.ensures.there cell.at.number cell.pos.0 cell.state.0 c.requires.called);
     }
 
@@ -55,7 +55,7 @@ next-next-requires c =
 
 pub ask_call-requires-clause-right : goal.ask_call-requires-clause-right
 ask_call-requires-clause-right c =
-    next_right (game_of c.args.game.now) (length c.args.game.now.graph.parts.items) c.requires.routed (alike c.args.game.now) c.args.work.now c.walk.work c.requires.table c.walk.invariant.step
+    next_right (game_of c.args.game.now) (length c.args.game.now.graph.parts.items) c.requires.routed (alike c.args.game.now) c.args.work.now c.walk.work c.requires.known c.walk.invariant.step
 
 pub walk-smaller : goal.walk-smaller
 walk-smaller c =
@@ -78,12 +78,12 @@ walk-preserved c =
       known = c.next-next.ensures.known;
       step = two_steps g w c.walk.work c.ask_call.new.work c.walk.invariant.step c.in_ok-ask_call.ensures.step;
       at = s.at;
-      left = subst (λ (ys : List ℕ). AllCalled g w.table.contexts.items (found_of g c.ask_call.new.work)
-          (CallsLeft g w.table.contexts.items w.store.marks (found_of g w) ys cell.at.number cell.pos.0 cell.state.0)) (sym s.left)
-          (asked_call_left g functions c.requires.routed (alike c.args.game.now) w c.walk.work c.ask_call.new.work c.requires.table c.walk.invariant.step link c.place-place.result s.back cell
+      left = subst (λ (ys : List ℕ). AllCalled g w.blocks.contexts.items (found_of g c.ask_call.new.work)
+          (CallsLeft g w.blocks.contexts.items w.store.marks (found_of g w) ys cell.at.number cell.pos.0 cell.state.0)) (sym s.left)
+          (asked_call_left g functions c.requires.routed (alike c.args.game.now) w c.walk.work c.ask_call.new.work c.requires.known c.walk.invariant.step link c.place-place.result s.back cell
           c.requires.marked c.place-place.ensures.marked c.place-place.ensures.rank c.in_ok-ask_call.ensures
-          (subst (λ (ys : List ℕ). AllCalled g w.table.contexts.items (found_of g c.walk.work)
-          (CallsLeft g w.table.contexts.items w.store.marks (found_of g w) ys cell.at.number cell.pos.0 cell.state.0)) s.rest c.walk.invariant.left));
+          (subst (λ (ys : List ℕ). AllCalled g w.blocks.contexts.items (found_of g c.walk.work)
+          (CallsLeft g w.blocks.contexts.items w.store.marks (found_of g w) ys cell.at.number cell.pos.0 cell.state.0)) s.rest c.walk.invariant.left));
     }
 
 pub returns : goal.returns
@@ -94,7 +94,7 @@ returns c =
     let l = cell.at.number + 1 in
     record {
       step = c.walk.invariant.step;
-      called = no_calls_left g w.table.contexts.items w.store.marks (found_of g c.walk.work) (found_of g w) cell.at.number cell.pos.0 cell.state.0
-          (subst (λ (o : Option ℕ). AllCalled g w.table.contexts.items (found_of g c.walk.work)
-          (CallsLeft g w.table.contexts.items w.store.marks (found_of g w) (rest_of (list_at w.store.lists l) o) cell.at.number cell.pos.0 cell.state.0)) c.in_default.is c.walk.invariant.left);
+      called = no_calls_left g w.blocks.contexts.items w.store.marks (found_of g c.walk.work) (found_of g w) cell.at.number cell.pos.0 cell.state.0
+          (subst (λ (o : Option ℕ). AllCalled g w.blocks.contexts.items (found_of g c.walk.work)
+          (CallsLeft g w.blocks.contexts.items w.store.marks (found_of g w) (rest_of (list_at w.store.lists l) o) cell.at.number cell.pos.0 cell.state.0)) c.in_default.is c.walk.invariant.left);
     }

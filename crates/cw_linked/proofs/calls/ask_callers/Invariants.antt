@@ -14,8 +14,8 @@ invariant-walk l = record {
   known : IfSome l.next (λ link. link < number l.work.store.marks);
   step : LowersKeys (game_of l.game) l.fn.work l.work;
   at : slice_get (rest_of (list_at l.fn.work.store.lists (l.cell.at.number + 1)) l.next) 0 ≡ l.next;
-  left : AllCalled (game_of l.game) l.fn.work.table.contexts.items (found_of (game_of l.game) l.work)
-      (CallsLeft (game_of l.game) l.fn.work.table.contexts.items l.fn.work.store.marks (found_of (game_of l.game) l.fn.work) (rest_of (list_at l.fn.work.store.lists (l.cell.at.number + 1)) l.next)
+  left : AllCalled (game_of l.game) l.fn.work.blocks.contexts.items (found_of (game_of l.game) l.work)
+      (CallsLeft (game_of l.game) l.fn.work.blocks.contexts.items l.fn.work.store.marks (found_of (game_of l.game) l.fn.work) (rest_of (list_at l.fn.work.store.lists (l.cell.at.number + 1)) l.next)
       l.cell.at.number l.cell.pos.0 l.cell.state.0);
 }
 

@@ -16,6 +16,6 @@ returns-else-cell-block c =
     record {
       step = nothing g w c.requires.long c.requires.high c.requires.right;
       called = no_entry g (length c.args.game.now.graph.parts.items) c.requires.routed
-          (alike c.args.game.now) w c.requires.table c.requires.right cell.at.number cell.at.context cell.pos.0 cell.state.0 c.requires.cell.at
+          (alike c.args.game.now) w c.requires.known c.requires.right cell.at.number cell.at.context cell.pos.0 cell.state.0 c.requires.cell.at
           (λ e. c.if-cell-block.false (e ∙ sym c.requires.block.enters)) c.requires.called;
     }

@@ -19,8 +19,8 @@ returns-in-Some c =
 pub size-requires-clause-there : goal.size-requires-clause-there
 size-requires-clause-there c = there (game_of c.args.game.now) (length c.args.game.now.graph.parts.items) c.requires.routed c.args.context.now c.requires.needed
 
-pub returns-then-len-size : goal.returns-then-len-size
-returns-then-len-size c =
+pub returns-then-places-size : goal.returns-then-places-size
+returns-then-places-size c =
     let w = c.args.work.now in
     let d = c.args.context.now in (
       refl,
@@ -29,7 +29,7 @@ returns-then-len-size c =
           needed = c.requires.needed;
           new = subst (λ (cs : List Context). Contains cs d → ⊥) c.deref.ensures.value c.in-None.ensures.none;
         };
-        many = omega (arith, c.len.ensures, w.table.heights.ok.0, c.size.ensures.is, c.if-len-size.true);
+        many = omega (arith, c.places.ensures, c.requires.firm.long.marks, c.size.ensures.is, c.if-places-size.true);
       },
     )
 
@@ -42,18 +42,18 @@ add_placed-requires-clause-contexts c =
     let w = c.args.work.now in
     let d = c.args.context.now in
     let new = subst (λ (cs : List Context). Contains cs d → ⊥) c.deref.ensures.value c.in-None.ensures.none in
-    (longer_tabled g (length c.args.game.now.graph.parts.items) c.requires.routed w.table c.requires.firm.table d (record { needed = c.requires.needed; new = new })
-    (w.table.contexts.items ++ d ∷ []) refl
-    (omega (arith, c.len.ensures, w.table.heights.ok.0, c.size.ensures.is, c.if-len-size.false)) (omega (arith, c.size.ensures.is, c.size.ensures.some))).0
+    (longer_tabled g (length c.args.game.now.graph.parts.items) c.requires.routed w.blocks c.requires.firm.known.blocks d (record { needed = c.requires.needed; new = new })
+    (w.blocks.contexts.items ++ d ∷ []) refl
+    (omega (arith, c.places.ensures, c.requires.firm.long.marks, c.requires.firm.known.cells, c.size.ensures.is, c.if-places-size.false)) (omega (arith, c.size.ensures.is, c.size.ensures.some))).0
 
 pub returns-in_ok-add_placed-in-None : goal.returns-in_ok-add_placed-in-None
 returns-in_ok-add_placed-in-None c =
     let w = c.args.work.now in
     let new = c.add_placed.new.work in
     let d = c.args.context.now in
-    let here : c.len-number.result ≡ length w.table.contexts.items = omega (arith, c.len-number.ensures, w.table.contexts.ok.0) in
+    let here : c.len-number.result ≡ length w.blocks.contexts.items = omega (arith, c.len-number.ensures, w.blocks.contexts.ok.0) in
     record {
-      there = ap (slice_get new.table.contexts.items) here ∙ ap (λ (cs : List Context). slice_get cs (length w.table.contexts.items)) c.in_ok-add_placed-in-None.ensures.contexts
-          ∙ get_last w.table.contexts.items d;
+      there = ap (slice_get new.blocks.contexts.items) here ∙ ap (λ (cs : List Context). slice_get cs (length w.blocks.contexts.items)) c.in_ok-add_placed-in-None.ensures.contexts
+          ∙ get_last w.blocks.contexts.items d;
       grows = inr c.in_ok-add_placed-in-None.ensures;
     }

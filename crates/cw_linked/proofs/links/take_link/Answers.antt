@@ -47,8 +47,8 @@ numbered-to-requires c =
     let tieable = is_tieable g functions c.requires.routed w link c.args.place c.args.moves c.requires.freed call.0 call.1 to call.3 read c.number_of.new.work c.in-Some.number numbered in
     record {
       routed = c.requires.routed;
-      table = tieable.firm.table;
-      within = few_number c.number_of.new.work.table.contexts.items c.in-Some.number to numbered.there;
+      blocks = tieable.firm.known.blocks;
+      within = few_number c.number_of.new.work.blocks.contexts.items c.in-Some.number to numbered.there;
     }
 
 pub tie_link-requires-clause-tieable : goal.tie_link-requires-clause-tieable
@@ -62,7 +62,7 @@ tie_link-requires-clause-tieable c =
     let read = read_here g functions c.requires.routed w link c.args.place c.args.moves c.requires.freed call.0 c.in-Call.split c.in-Call.back.0 c.promise_of.result call.2
     call.4 c.promise_of.ensures in
     let numbered : IsNumbered g w c.number_of.new.work to c.in-Some.number = subst (λ (o : Option ℕ). NumbersContext g w c.number_of.new.work to o) c.in-Some.is c.in_ok-number.ensures in
-    let same = same_tabled c.number_of.new.work.table c.numbered-to.result c.in-Some.number to c.numbered-to.ensures.number c.numbered-to.ensures.there numbered.there in
+    let same = same_tabled c.number_of.new.work.blocks c.numbered-to.result c.in-Some.number to c.numbered-to.ensures.number c.numbered-to.ensures.there numbered.there in
     subst (λ (a : Tabled). IsTieable g c.number_of.new.work link c.args.place c.args.moves a.number c.in-Call.back.0 a.context) (sym same)
     (subst (λ (b : ℕ). IsTieable g c.number_of.new.work link c.args.place c.args.moves c.in-Some.number b to) call.4
     (is_tieable g functions c.requires.routed w link c.args.place c.args.moves c.requires.freed call.0 call.1 to call.3 read c.number_of.new.work c.in-Some.number numbered))

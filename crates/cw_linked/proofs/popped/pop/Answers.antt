@@ -1,6 +1,7 @@
 use Rattle.std.proofs.Common.{ℕ, ◌/◌, refl, sym, ap, subst, arith}
 use Rattle.cw_links.specs.Keys.{AreFrom}
 use Rattle.cw_links.specs.Stores.{Stored}
+use Rattle.cw_linked.proofs.Staying.{known_on}
 use Rattle.cw_linked.proofs.popped.pop.Goals as goal
 
 pub returns-in-Cell : goal.returns-in-Cell
@@ -12,9 +13,8 @@ returns-in-Cell c =
       some = omega (arith, p.1.is, p.1.some);
       half = ap (λ (k : ℕ). k / 2) (sym p.1.is);
       least = subst (AreFrom w.store.asked w.store.due) (sym p.1.is) p.0;
-      contexts = refl;
-      bases = refl;
-      heights = refl;
+      blocks = refl;
+      heights = ap (λ (s : Stored). s.heights) p.2;
       written = refl;
       marks = ap (λ (s : Stored). s.marks) p.2;
       asked = p.1.taken;
@@ -34,7 +34,7 @@ returns-in-Link c =
       half = ap (λ (k : ℕ). k / 2) (sym p.1.is);
       least = subst (AreFrom w.store.asked w.store.due) (sym p.1.is) p.0;
       others = record {
-        table = refl;
+        known = known_on w c.pop.new.self.heights (ap (λ (s : Stored). s.heights) p.3);
         marks = ap (λ (s : Stored). s.marks) p.3;
         to = ap (λ (s : Stored). s.to) p.3;
         waves = ap (λ (s : Stored). s.waves) p.3;

@@ -12,20 +12,20 @@ pub ask_link-requires-clause-marked : goal.ask_link-requires-clause-marked
 ask_link-requires-clause-marked c =
     let s = c.in-Some.ensures.some in
     c.requires.marked c.slot-link.result
-    (own_link (game_of c.args.game.now) (length c.args.game.now.graph.parts.items) c.requires.routed (alike c.args.game.now) c.args.work.now c.requires.table c.requires.long
+    (own_link (game_of c.args.game.now) (length c.args.game.now.graph.parts.items) c.requires.routed (alike c.args.game.now) c.args.work.now c.requires.known c.requires.long
     c.requires.high c.requires.right (cell_of c.args.at.now c.args.back c.args.state) c.requires.cell c.args.height c.requires.some c.requires.taken c.args.pos.0 c.requires.of c.requires.returns s.0 s.1 c.in-Some.class.0 s.2
     c.slot-link.result c.slot-link.ensures.is)
 
 pub returns-in_ok-ask_link-in-Some : goal.returns-in_ok-ask_link-in-Some
 returns-in_ok-ask_link-in-Some c =
     let s = c.in-Some.ensures.some in
-    own_asked (game_of c.args.game.now) (length c.args.game.now.graph.parts.items) c.requires.routed (alike c.args.game.now) c.args.work.now c.requires.table c.requires.long c.requires.high c.requires.right
+    own_asked (game_of c.args.game.now) (length c.args.game.now.graph.parts.items) c.requires.routed (alike c.args.game.now) c.args.work.now c.requires.known c.requires.long c.requires.high c.requires.right
     (cell_of c.args.at.now c.args.back c.args.state) c.requires.cell c.args.height c.requires.some c.requires.taken c.args.pos.0 c.requires.of c.requires.returns s.0 s.1 c.in-Some.class.0 s.2 c.slot-link.result c.slot-link.ensures.is c.ask_link.new.work
     (c.is_promised.ensures.is c.if-is_promised.true) c.in_ok-ask_link-in-Some.ensures
 
 pub returns-else-is_promised : goal.returns-else-is_promised
 returns-else-is_promised c =
     let s = c.in-Some.ensures.some in
-    own_unpromised (game_of c.args.game.now) (length c.args.game.now.graph.parts.items) c.requires.routed (alike c.args.game.now) c.args.work.now c.requires.table c.requires.long c.requires.high c.requires.right
+    own_unpromised (game_of c.args.game.now) (length c.args.game.now.graph.parts.items) c.requires.routed (alike c.args.game.now) c.args.work.now c.requires.known c.requires.long c.requires.high c.requires.right
     (cell_of c.args.at.now c.args.back c.args.state) c.requires.cell c.args.height c.requires.some c.requires.taken c.args.pos.0 c.requires.of c.requires.returns s.0 s.1 c.in-Some.class.0 s.2 c.slot-link.result c.slot-link.ensures.is
     (c.is_promised.ensures.not c.if-is_promised.false)

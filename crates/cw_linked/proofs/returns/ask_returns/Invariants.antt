@@ -1,22 +1,12 @@
-use Rattle.std.proofs.Common.{◌≡◌, ◌<◌, length}
-use Rattle.std.specs.Prelude.{slice_get, IfSome}
-use Rattle.cw_links.specs.Lists.{list_at}
 use Rattle.cw_product.specs.Product.{game_of}
 use Rattle.cw_linked.specs.Founds.{AllStanding}
 use Rattle.cw_linked.specs.Queues.{found_of, LowersKeys}
-use Rattle.cw_linked.specs.Walks.{rest_of}
 use Rattle.cw_linked.proofs.Backs.{ReturnsLeft}
 use Rattle.cw_linked.proofs.returns.ask_returns.Given as goal
 
-abbrev pub invariant-walk : goal.invariant-walk
-invariant-walk l = record {
-  known : IfSome l.next (λ edge. edge < length l.returns.values);
+abbrev pub invariant-loop-pos : goal.invariant-loop-pos
+invariant-loop-pos l = record {
   step : LowersKeys (game_of l.game) l.fn.work l.work;
-  at : slice_get (rest_of (list_at l.returns.lists l.cell.pos.0) l.next) 0 ≡ l.next;
-  left : AllStanding (game_of l.game) l.fn.work.table.contexts.items (found_of (game_of l.game) l.work)
-      (ReturnsLeft (game_of l.game) l.fn.work.table.contexts.items (found_of (game_of l.game) l.fn.work) l.returns (rest_of (list_at l.returns.lists l.cell.pos.0) l.next)
-      l.cell.at.number l.cell.pos.0 l.cell.state.0);
+  left : AllStanding (game_of l.game) l.fn.work.blocks.contexts.items (found_of (game_of l.game) l.work)
+      (ReturnsLeft (game_of l.game) l.fn.work.blocks.contexts.items (found_of (game_of l.game) l.fn.work) l.row l.pos-index l.cell.at.number l.cell.pos.0 l.cell.state.0);
 }
-
-abbrev pub decreases-walk : goal.decreases-walk
-decreases-walk l = length (rest_of (list_at l.returns.lists l.cell.pos.0) l.next)

@@ -10,7 +10,7 @@ add-requires-clause-kept c = blank_open (game_of c.args.game.now) c.in_ok-work.w
 
 pub add-requires-clause-contexts : goal.add-requires-clause-contexts
 add-requires-clause-contexts c =
-    start_tabled (game_of c.args.game.now) (length c.args.game.now.graph.parts.items) c.requires.routed (c.in_ok-work.work.table.contexts.items ++ c.main_context.result ∷ [])
+    start_tabled (game_of c.args.game.now) (length c.args.game.now.graph.parts.items) c.requires.routed (c.in_ok-work.work.blocks.contexts.items ++ c.main_context.result ∷ [])
     (ap₂ (λ (xs : List Context) (x : Context). xs ++ x ∷ []) c.in_ok-work.ensures.contexts c.main_context.ensures)
 
 pub returns : goal.returns

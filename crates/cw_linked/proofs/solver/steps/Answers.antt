@@ -1,17 +1,17 @@
-use Rattle.std.proofs.Common.{◌<◌, List, length, subst, sym, arith}
+use Rattle.std.proofs.Common.{length, subst, sym, arith}
 use Rattle.std.specs.Prelude.{None}
 use Rattle.cw_product.specs.Product.{game_of}
-use Rattle.cw_solve.specs.declared.contexts.Context.{Context}
-use Rattle.cw_solve.specs.declared.table.Table.{Table}
+use Rattle.cw_solve.specs.declared.table.Blocks.{Blocks}
 use Rattle.cw_linked.specs.declared.links.Stepped.{Stepped}
 use Rattle.cw_linked.specs.declared.work.Work.{Work}
 use Rattle.cw_linked.specs.Homes.{IsHome}
 use Rattle.cw_linked.specs.Links.{TakesLink}
 use Rattle.cw_linked.specs.Solving.{Ends}
+use Rattle.cw_linked.specs.Works.{Known, known_of}
 use Rattle.cw_linked.proofs.Alike.{alike}
-use Rattle.cw_linked.proofs.Linking.{is_freed, freed_table}
+use Rattle.cw_linked.proofs.Linking.{is_freed, freed_known}
 use Rattle.cw_linked.proofs.Solving.{ended, finished_less, linked_less, linked_beyond}
-use Rattle.cw_linked.proofs.Takings.{is_table, is_taken}
+use Rattle.cw_linked.proofs.Takings.{is_known, is_taken}
 use Rattle.cw_linked.proofs.solver.steps.Goals as goal
 
 pub returns-in-Nothing : goal.returns-in-Nothing
@@ -19,11 +19,11 @@ returns-in-Nothing c =
     let g = game_of c.args.game.now in
     let w = c.steps.work in
     let last = ended g (length c.args.game.now.graph.parts.items) c.requires.routed (alike c.args.game.now) w c.steps.invariant.work c.in-Nothing.ensures.0 in
-    subst (λ (v : Work). Ends g v.table None) (sym c.in-Nothing.ensures.1) (c.steps.invariant.work.table, last)
+    subst (λ (v : Work). Ends g (known_of v) None) (sym c.in-Nothing.ensures.1) (c.steps.invariant.work.known, last)
 
-pub finish_at-requires-clause-table : goal.finish_at-requires-clause-table
-finish_at-requires-clause-table c =
-    is_table (game_of c.args.game.now) (length c.args.game.now.graph.parts.items) c.requires.routed
+pub finish_at-requires-clause-known : goal.finish_at-requires-clause-known
+finish_at-requires-clause-known c =
+    is_known (game_of c.args.game.now) (length c.args.game.now.graph.parts.items) c.requires.routed
     (alike c.args.game.now) c.steps.work c.pop.new.work c.steps.invariant.work c.in-Cell.place c.in-Cell.height c.in-Cell.ensures
 
 pub finish_at-requires-clause-taken : goal.finish_at-requires-clause-taken
@@ -32,7 +32,10 @@ finish_at-requires-clause-taken c cell at =
     (alike c.args.game.now) c.steps.work c.pop.new.work c.steps.invariant.work c.in-Cell.place c.in-Cell.height c.in-Cell.ensures cell at
 
 pub finish_at-requires-clause-home : goal.finish_at-requires-clause-home
-finish_at-requires-clause-home c = subst (λ (cs : List Context). IsHome (game_of c.args.game.now) cs c.steps.home) (sym c.in-Cell.ensures.contexts) c.steps.invariant.home
+finish_at-requires-clause-home c = subst (λ (b : Blocks). IsHome (game_of c.args.game.now) b.contexts.items c.steps.home) (sym c.in-Cell.ensures.blocks) c.steps.invariant.home
+
+pub no_home-home-requires-clause-blocks : goal.no_home-home-requires-clause-blocks
+no_home-home-requires-clause-blocks c = c.requires.work.known.blocks
 
 pub steps-init : goal.steps-init
 steps-init c = record { work = c.requires.work; home = λ lt. absurd (omega (arith, lt, c.no_home-home.ensures)) }
@@ -42,7 +45,7 @@ steps-preserved-in-Continue-1 c =
     let ends = c.in_ok-finish_at-in-Cell.ensures.finishes in
     record {
       work = ends.kept;
-      home = subst (λ (t : Table). IsHome (game_of c.args.game.now) t.contexts.items c.finish_at.new.home) (sym ends.table) c.finish_at.ensures.home;
+      home = subst (λ (t : Known). IsHome (game_of c.args.game.now) t.blocks.contexts.items c.finish_at.new.home) (sym ends.known) c.finish_at.ensures.home;
     }
 
 pub steps-smaller-in-Continue-1 : goal.steps-smaller-in-Continue-1
@@ -50,9 +53,9 @@ steps-smaller-in-Continue-1 c =
     finished_less (game_of c.args.game.now) (length c.args.game.now.graph.parts.items) c.requires.routed
     (alike c.args.game.now) c.steps.work c.pop.new.work c.finish_at.new.work c.steps.invariant.work c.in-Cell.place c.in-Cell.height c.in-Cell.ensures c.in_ok-finish_at-in-Cell.ensures.finishes
 
-pub tie_at-requires-clause-table : goal.tie_at-requires-clause-table
-tie_at-requires-clause-table c =
-    freed_table (game_of c.args.game.now) (length c.args.game.now.graph.parts.items) c.requires.routed
+pub tie_at-requires-clause-known : goal.tie_at-requires-clause-known
+tie_at-requires-clause-known c =
+    freed_known (game_of c.args.game.now) (length c.args.game.now.graph.parts.items) c.requires.routed
     (alike c.args.game.now) c.steps.work c.pop.new.work c.steps.invariant.work c.in-Link.place c.in-Link.moves c.in-Link.ensures
 
 pub tie_at-requires-clause-freed : goal.tie_at-requires-clause-freed

@@ -5,7 +5,7 @@ use Rattle.cw_linked.specs.Popped.{IsWork}
 use Rattle.cw_linked.proofs.solver.steps.Given as goal
 
 abbrev pub invariant-steps : goal.invariant-steps
-invariant-steps l = record { work : IsWork (game_of l.game) l.work; home : IsHome (game_of l.game) l.work.table.contexts.items l.home }
+invariant-steps l = record { work : IsWork (game_of l.game) l.work; home : IsHome (game_of l.game) l.work.blocks.contexts.items l.home }
 
 abbrev pub decreases-steps : goal.decreases-steps
 decreases-steps l = work_left (game_of l.game) l.work

@@ -9,7 +9,7 @@ use Rattle.cw_linked.proofs.ties.ask_again.Goals as goal
 
 pub ask_back-requires-clause-marked : goal.ask_back-requires-clause-marked
 ask_back-requires-clause-marked c =
-    next_marked (game_of c.args.game.now) (length c.args.game.now.graph.parts.items) c.requires.routed (alike c.args.game.now) c.args.work.now c.loop-q.work c.requires.table
+    next_marked (game_of c.args.game.now) (length c.args.game.now.graph.parts.items) c.requires.routed (alike c.args.game.now) c.args.work.now c.loop-q.work c.requires.known
     c.loop-q.invariant.step c.requires.marked
 
 pub loop-q-preserved : goal.loop-q-preserved
@@ -23,10 +23,10 @@ loop-q-preserved c =
     let cell : Cell = record { at = link.at; pos = c.args.back; state = record { 0 = c.loop-q.q } } in
     record {
       step = two_steps g w mid new c.loop-q.invariant.step c.in_ok-ask_back.ensures.step;
-      others = others_again g functions c.requires.routed (alike c.args.game.now) w mid new c.requires.table c.loop-q.invariant.step link c.args.back.0 c.requires.returns cell
+      others = others_again g functions c.requires.routed (alike c.args.game.now) w mid new c.requires.known c.loop-q.invariant.step link c.args.back.0 c.requires.returns cell
           c.in_ok-ask_back.ensures refl refl
           c.loop-q.invariant.others;
-      before = one_again g functions c.requires.routed (alike c.args.game.now) w mid new c.requires.table c.loop-q.invariant.step link c.args.back.0 c.requires.returns cell
+      before = one_again g functions c.requires.routed (alike c.args.game.now) w mid new c.requires.known c.loop-q.invariant.step link c.args.back.0 c.requires.returns cell
           c.in_ok-ask_back.ensures refl refl
           c.loop-q.invariant.before;
     }
@@ -38,6 +38,6 @@ returns c =
     record {
       step = c.loop-q.invariant.step;
       standing = all_again g (length c.args.game.now.graph.parts.items) c.requires.routed
-          (alike c.args.game.now) w c.loop-q.work c.requires.table c.loop-q.invariant.step c.args.link.now c.requires.cell c.requires.tied
+          (alike c.args.game.now) w c.loop-q.work c.requires.known c.loop-q.invariant.step c.args.link.now c.requires.cell c.requires.tied
           c.loop-q.q (omega (arith, c.loop-q-test.false, c.states-q-end.ensures)) c.loop-q.invariant.others c.loop-q.invariant.before;
     }

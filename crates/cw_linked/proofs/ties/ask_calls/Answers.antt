@@ -1,9 +1,9 @@
 use Rattle.std.proofs.Common.{◌≡◌, ◌∙◌, Some, length, subst, sym, ap, arith}
 use Rattle.std.specs.Prelude.{slice_get}
 use Rattle.cw_product.specs.Product.{game_of}
-use Rattle.cw_solve.specs.declared.table.Table.{Table}
 use Rattle.cw_solve.proofs.Tabling.{there_at}
 use Rattle.cw_linked.specs.Queues.{found_of}
+use Rattle.cw_linked.specs.Works.{Known}
 use Rattle.cw_linked.proofs.Alike.{alike}
 use Rattle.cw_linked.proofs.Telling.{nothing, two_steps}
 use Rattle.cw_linked.proofs.Tieing.{all_from, none_from, one_from}
@@ -12,7 +12,7 @@ use Rattle.cw_linked.proofs.ties.ask_calls.Goals as goal
 pub entry-entry-requires : goal.entry-entry-requires
 entry-entry-requires c =
     let at = c.args.callee.now in
-    rw c.function.ensures (there_at (game_of c.args.game.now) (length c.args.game.now.graph.parts.items) c.requires.routed c.args.work.now.table c.requires.table at.number
+    rw c.function.ensures (there_at (game_of c.args.game.now) (length c.args.game.now.graph.parts.items) c.requires.routed c.args.work.now.blocks c.requires.known.blocks at.number
     at.context c.requires.callee).below
 
 pub loop-q-init : goal.loop-q-init
@@ -22,7 +22,7 @@ loop-q-init c =
     let link = c.args.link.now in
     record {
       step = nothing g w c.requires.long c.requires.high c.requires.right;
-      left = all_from g (length c.args.game.now.graph.parts.items) c.requires.routed (alike c.args.game.now) w.table.contexts.items
+      left = all_from g (length c.args.game.now.graph.parts.items) c.requires.routed (alike c.args.game.now) w.blocks.contexts.items
           (found_of g w) link.at.number link.pos.0 link.state.0 c.requires.called;
     }
 
@@ -32,9 +32,9 @@ ask_lost-requires-clause-cell c =
     let w = c.args.work.now in
     let callee = c.args.callee.now in
     let entry = c.entry-entry.ensures.is ∙ ap g.entry c.function.ensures in
-    let begins = (there_at g (length c.args.game.now.graph.parts.items) c.requires.routed w.table c.requires.table callee.number callee.context c.requires.callee).begins in
+    let begins = (there_at g (length c.args.game.now.graph.parts.items) c.requires.routed w.blocks c.requires.known.blocks callee.number callee.context c.requires.callee).begins in
     record {
-      at = subst (λ (t : Table). slice_get t.contexts.items callee.number ≡ Some callee.context) (sym c.loop-q.invariant.step.others.table) c.requires.callee;
+      at = subst (λ (t : Known). slice_get t.blocks.contexts.items callee.number ≡ Some callee.context) (sym c.loop-q.invariant.step.others.known) c.requires.callee;
       of = (omega (arith, entry), omega (arith, begins, entry));
       state = omega (arith, c.loop-q-test.true, c.states-q-end.ensures);
     }
@@ -51,7 +51,7 @@ loop-q-preserved c =
     let new = c.ask_lost.new.work in
     record {
       step = two_steps g w mid new c.loop-q.invariant.step c.in_ok-ask_lost.ensures.step;
-      left = one_from g functions c.requires.routed (alike c.args.game.now) w mid new c.requires.table c.loop-q.invariant.step c.args.place c.args.link.now c.requires.at
+      left = one_from g functions c.requires.routed (alike c.args.game.now) w mid new c.requires.known c.loop-q.invariant.step c.args.place c.args.link.now c.requires.at
           (record { at = c.args.callee.now; pos = c.entry-entry.result; state = record { 0 = c.loop-q.q } }) c.requires.callee
           (c.entry-entry.ensures.is ∙ ap g.entry c.function.ensures) c.requires.goes c.in_ok-ask_lost.ensures c.loop-q.invariant.left;
     }
@@ -63,7 +63,7 @@ returns c =
     let link = c.args.link.now in
     record {
       step = c.loop-q.invariant.step;
-      called = none_from g (length c.args.game.now.graph.parts.items) c.requires.routed (alike c.args.game.now) w.table.contexts.items
+      called = none_from g (length c.args.game.now.graph.parts.items) c.requires.routed (alike c.args.game.now) w.blocks.contexts.items
           (found_of g c.loop-q.work) link.at.number link.pos.0 link.state.0 c.loop-q.q
           (omega (arith, c.loop-q-test.false, c.states-q-end.ensures)) c.loop-q.invariant.left;
     }

@@ -7,5 +7,5 @@ use Rattle.cw_linked.proofs.ties.ask_calls.Given as goal
 abbrev pub invariant-loop-q : goal.invariant-loop-q
 invariant-loop-q l = record {
   step : LowersKeys (game_of l.game) l.fn.work l.work;
-  left : AllCalled (game_of l.game) l.fn.work.table.contexts.items (found_of (game_of l.game) l.work) (CallsFrom (game_of l.game) l.link.at.number l.link.pos.0 l.link.state.0 l.q);
+  left : AllCalled (game_of l.game) l.fn.work.blocks.contexts.items (found_of (game_of l.game) l.work) (CallsFrom (game_of l.game) l.link.at.number l.link.pos.0 l.link.state.0 l.q);
 }

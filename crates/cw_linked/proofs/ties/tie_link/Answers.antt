@@ -21,10 +21,10 @@ tie-requires-clause-marked c =
     c.args.place c.args.moves c.args.callee.now.number c.args.back.0 c.args.callee.now.context c.requires.tieable
 
 pub tie-requires-clause-contexts : goal.tie-requires-clause-contexts
-tie-requires-clause-contexts c = few (game_of c.args.game.now) (length c.args.game.now.graph.parts.items) c.requires.routed c.args.work.now.table c.requires.tieable.firm.table
+tie-requires-clause-contexts c = few (game_of c.args.game.now) (length c.args.game.now.graph.parts.items) c.requires.routed c.args.work.now.blocks c.requires.tieable.firm.known.blocks
 
 pub tie-requires-clause-number : goal.tie-requires-clause-number
-tie-requires-clause-number c = few_number c.args.work.now.table.contexts.items c.args.callee.now.number c.args.callee.now.context c.requires.tieable.there
+tie-requires-clause-number c = few_number c.args.work.now.blocks.contexts.items c.args.callee.now.number c.args.callee.now.context c.requires.tieable.there
 
 pub ask_calls-requires-clause-goes : goal.ask_calls-requires-clause-goes
 ask_calls-requires-clause-goes c =

@@ -4,7 +4,7 @@ use Rattle.cw_links.specs.Lists.{list_at}
 use Rattle.cw_product.specs.Product.{game_of}
 use Rattle.cw_linked.specs.Founds.{Nothing, AllClosed}
 use Rattle.cw_linked.specs.Queues.{found_of, LowersKeys}
-use Rattle.cw_linked.specs.Waiting.{pair_number}
+use Rattle.cw_linked.specs.Waiting.{list_of}
 use Rattle.cw_linked.specs.Walks.{rest_of}
 use Rattle.cw_linked.proofs.Waits.{AreLeft, change_pairs}
 use Rattle.cw_linked.proofs.waiting.ask_changes.Given as goal
@@ -13,10 +13,10 @@ abbrev pub invariant-walk : goal.invariant-walk
 invariant-walk l = record {
   known : IfSome l.next (λ edge. edge < length l.changes.pairs.values);
   step : LowersKeys (game_of l.game) l.fn.work l.work;
-  at : slice_get (rest_of (list_at l.changes.pairs.lists (pair_number (game_of l.game) l.cell.pos.0 l.cell.state.0)) l.next) 0 ≡ l.next;
-  left : AllClosed (game_of l.game) l.fn.work.table.contexts.items (found_of (game_of l.game) l.work)
-      (AreLeft (change_pairs l.changes) Nothing l.cell.at.number (rest_of (list_at l.changes.pairs.lists (pair_number (game_of l.game) l.cell.pos.0 l.cell.state.0)) l.next));
+  at : slice_get (rest_of (list_at l.changes.pairs.lists (list_of (game_of l.game) l.changes.marks l.cell.pos.0 l.cell.state.0)) l.next) 0 ≡ l.next;
+  left : AllClosed (game_of l.game) l.fn.work.blocks.contexts.items (found_of (game_of l.game) l.work)
+      (AreLeft (change_pairs l.changes) Nothing l.cell.at.number (rest_of (list_at l.changes.pairs.lists (list_of (game_of l.game) l.changes.marks l.cell.pos.0 l.cell.state.0)) l.next));
 }
 
 abbrev pub decreases-walk : goal.decreases-walk
-decreases-walk l = length (rest_of (list_at l.changes.pairs.lists (pair_number (game_of l.game) l.cell.pos.0 l.cell.state.0)) l.next)
+decreases-walk l = length (rest_of (list_at l.changes.pairs.lists (list_of (game_of l.game) l.changes.marks l.cell.pos.0 l.cell.state.0)) l.next)

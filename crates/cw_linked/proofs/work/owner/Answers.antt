@@ -9,17 +9,17 @@ use Rattle.cw_linked.proofs.work.owner.Goals as goal
 pub overflow_sub-result : goal.overflow_sub-result
 overflow_sub-result c =
     let g = game_of c.args.game.now in
-    let t = c.args.table.now in
-    let rise = subst IsNonDecreasing (sym c.deref.ensures.value) (bases_rise g t c.requires.table) in
+    let blocks = c.args.blocks.now in
+    let rise = subst IsNonDecreasing (sym c.deref.ensures.value) (bases_rise g blocks c.requires.blocks) in
     let point = IsPartitionPoint-from_clause (λ base. nat_le base c.args.place) c.deref.result.now _ c.partition_point.ensures.partitioned
     (IsPartitionedBy-leb (λ base. base) c.deref.result.now c.args.place rise) (λ a r q k. search rules) in
-    some_begun g t c.requires.table c.args.place c.partition_point.result c.requires.within c.deref.result.now c.deref.ensures.value c.partition_point.ensures.bound point
+    some_begun g blocks c.requires.blocks c.args.place c.partition_point.result c.requires.within c.deref.result.now c.deref.ensures.value c.partition_point.ensures.bound point
 
 pub returns : goal.returns
 returns c =
     let g = game_of c.args.game.now in
-    let t = c.args.table.now in
-    let rise = subst IsNonDecreasing (sym c.deref.ensures.value) (bases_rise g t c.requires.table) in
+    let blocks = c.args.blocks.now in
+    let rise = subst IsNonDecreasing (sym c.deref.ensures.value) (bases_rise g blocks c.requires.blocks) in
     let point = IsPartitionPoint-from_clause (λ base. nat_le base c.args.place) c.deref.result.now _ c.partition_point.ensures.partitioned
     (IsPartitionedBy-leb (λ base. base) c.deref.result.now c.args.place rise) (λ a r q k. search rules) in
-    last_begun g t c.requires.table c.args.place c.partition_point.result c.requires.within c.deref.result.now c.deref.ensures.value c.partition_point.ensures.bound point
+    last_begun g blocks c.requires.blocks c.args.place c.partition_point.result c.requires.within c.deref.result.now c.deref.ensures.value c.partition_point.ensures.bound point

@@ -13,19 +13,22 @@ pub promised-promise-requires-clause-cell : goal.promised-promise-requires-claus
 promised-promise-requires-clause-cell c =
     let g = game_of c.args.game.now in
     let functions = length c.args.game.now.graph.parts.items in
-    back_cell g functions c.requires.routed c.args.table.now c.requires.table c.args.at.now c.args.pos.0 c.args.state.0 c.args.function c.args.back.0 c.args.split c.requires.cell c.requires.call
+    let b = c.args.table.now.blocks in
+    back_cell g functions c.requires.routed b c.requires.table.blocks c.args.at.now c.args.pos.0 c.args.state.0 c.args.function c.args.back.0 c.args.split c.requires.cell c.requires.call
 
 pub entry-requires : goal.entry-requires
 entry-requires c =
     let g = game_of c.args.game.now in
     let functions = length c.args.game.now.graph.parts.items in
-    (callee_there g functions c.requires.routed c.args.table.now c.requires.table c.args.pos.0 c.args.function c.args.back.0 c.args.split c.requires.call).below
+    let b = c.args.table.now.blocks in
+    (callee_there g functions c.requires.routed b c.requires.table.blocks c.args.pos.0 c.args.function c.args.back.0 c.args.split c.requires.call).below
 
 pub holds-requires-clause-cell : goal.holds-requires-clause-cell
 holds-requires-clause-cell c =
     let g = game_of c.args.game.now in
     let functions = length c.args.game.now.graph.parts.items in
-    let contexts = c.args.table.now.contexts.items in
+    let b = c.args.table.now.blocks in
+    let contexts = b.contexts.items in
     let f = c.args.function in
     let set = c.promised-promise.result in
     let i = c.in-Some.number in
@@ -33,8 +36,8 @@ holds-requires-clause-cell c =
     = sym (c.in-Some.ensures.place ∙ ap (position (λ (x : Context). nat_eq x.function f && nat_eq x.promise set)) c.deref.ensures.value) in
     let at = place_is contexts f set i found in
     let callee = c.numbered-callee.result in
-    let same = same_context c.args.table.now callee i (context f set) c.numbered-callee.ensures.number c.numbered-callee.ensures.there at in
-    rw c.entry.ensures.is (callee_cell g functions c.requires.routed c.args.table.now c.requires.table c.args.pos.0 c.args.state.0 f c.args.back.0 c.args.split callee
+    let same = same_context b callee i (context f set) c.numbered-callee.ensures.number c.numbered-callee.ensures.there at in
+    rw c.entry.ensures.is (callee_cell g functions c.requires.routed b c.requires.table.blocks c.args.pos.0 c.args.state.0 f c.args.back.0 c.args.split callee
     c.requires.cell.state c.requires.call
     c.numbered-callee.ensures.there (ap (λ (x : Context). x.function) same))
 
@@ -42,10 +45,11 @@ pub returns-in-None-clause-missing : goal.returns-in-None-clause-missing
 returns-in-None-clause-missing c =
     let g = game_of c.args.game.now in
     let functions = length c.args.game.now.graph.parts.items in
-    let contexts = c.args.table.now.contexts.items in
+    let b = c.args.table.now.blocks in
+    let contexts = b.contexts.items in
     let f = c.args.function in
     let set = c.promised-promise.result in
-    call_missing g functions c.requires.routed c.args.table.now c.requires.table c.args.at.now c.args.n c.args.pos.0 c.args.state.0 f c.args.back.0 set c.args.split c.requires.cell c.requires.call
+    call_missing g functions c.requires.routed b c.requires.table.blocks c.args.at.now c.args.n c.args.pos.0 c.args.state.0 f c.args.back.0 set c.args.split c.requires.cell c.requires.call
     c.promised-promise.ensures
     (place_none contexts f set (sym (c.in-None.ensures.place ∙ ap (position (λ (x : Context). nat_eq x.function f && nat_eq x.promise set)) c.deref.ensures.value)))
 
@@ -53,27 +57,29 @@ pub returns-in-Some-clause-holds : goal.returns-in-Some-clause-holds
 returns-in-Some-clause-holds c =
     let g = game_of c.args.game.now in
     let functions = length c.args.game.now.graph.parts.items in
-    let contexts = c.args.table.now.contexts.items in
+    let b = c.args.table.now.blocks in
+    let contexts = b.contexts.items in
     let f = c.args.function in
     let set = c.promised-promise.result in
     let i = c.in-Some.number in
     let found : position (λ (x : Context). nat_eq x.function f && nat_eq x.promise set) contexts ≡ Some i
     = sym (c.in-Some.ensures.place ∙ ap (position (λ (x : Context). nat_eq x.function f && nat_eq x.promise set)) c.deref.ensures.value) in
     let at = place_is contexts f set i found in
-    let same = same_context c.args.table.now c.numbered-callee.result i (context f set) c.numbered-callee.ensures.number c.numbered-callee.ensures.there at in
+    let same = same_context b c.numbered-callee.result i (context f set) c.numbered-callee.ensures.number c.numbered-callee.ensures.there at in
     c.holds.ensures ∙ ap₂ (λ (p : ℕ) (x : Context). Holds g c.args.n p c.args.state.0 (has x.promise)) c.entry.ensures.is same
-    ∙ call_holds g functions c.requires.routed c.args.table.now c.requires.table c.args.at.now c.args.n c.args.pos.0 c.args.state.0 f c.args.back.0 set c.args.split c.requires.cell c.requires.call
+    ∙ call_holds g functions c.requires.routed b c.requires.table.blocks c.args.at.now c.args.n c.args.pos.0 c.args.state.0 f c.args.back.0 set c.args.split c.requires.cell c.requires.call
     c.promised-promise.ensures
 
 pub returns-in-Some-clause-asked : goal.returns-in-Some-clause-asked
 returns-in-Some-clause-asked c =
     let g = game_of c.args.game.now in
     let functions = length c.args.game.now.graph.parts.items in
-    let contexts = c.args.table.now.contexts.items in
+    let b = c.args.table.now.blocks in
+    let contexts = b.contexts.items in
     let f = c.args.function in
     let set = c.promised-promise.result in
     let i = c.in-Some.number in
     let found : position (λ (x : Context). nat_eq x.function f && nat_eq x.promise set) contexts ≡ Some i
     = sym (c.in-Some.ensures.place ∙ ap (position (λ (x : Context). nat_eq x.function f && nat_eq x.promise set)) c.deref.ensures.value) in
-    call_asked g functions c.requires.routed c.args.table.now c.requires.table c.args.at.now c.args.n c.args.pos.0 c.args.state.0 f c.args.back.0 set i c.args.split c.requires.call
+    call_asked g functions c.requires.routed b c.requires.table.blocks c.args.at.now c.args.n c.args.pos.0 c.args.state.0 f c.args.back.0 set i c.args.split c.requires.call
     c.promised-promise.ensures (place_is contexts f set i found)

@@ -7,5 +7,5 @@ abbrev pub invariant-loop-number : goal.invariant-loop-number
 invariant-loop-number l = record {
   table : IsTable (game_of l.game) l.table;
   later : IsLater l.fn.table l.table;
-  round : IsInRound (game_of l.game) l.table l.n (base (game_of l.game) l.table.contexts.items l.number);
+  round : IsInRound (game_of l.game) l.table l.n (base (game_of l.game) l.table.blocks.contexts.items l.number);
 }

@@ -1,5 +1,5 @@
-use Rattle.std.proofs.Common.{◌+◌, List, length, sym, ◌∙◌, subst}
-use Rattle.cw_solve.specs.declared.contexts.Context.{Context}
+use Rattle.std.proofs.Common.{◌+◌, length, sym, ◌∙◌, subst}
+use Rattle.cw_solve.specs.declared.table.Blocks.{Blocks}
 use Rattle.cw_solve.specs.Rounds.{slot}
 use Rattle.cw_solve.specs.Tables.{IsInRound}
 use Rattle.cw_product.specs.Product.{game_of}
@@ -20,6 +20,6 @@ returns-in-Ok-false-clause-round c =
     let new = c.write.new.table in
     let at = c.args.at.now in
     let w = c.write.ensures.written in
-    subst (λ (cs : List Context). IsInRound g new c.args.n (slot g cs at.number at.context.function c.args.pos.0 c.args.state.0 + 1)) (sym w.contexts)
+    subst (λ (b : Blocks). IsInRound g new c.args.n (slot g b.contexts.items at.number at.context.function c.args.pos.0 c.args.state.0 + 1)) (sym w.blocks)
     (look_false g functions c.requires.routed c.args.table.now new at c.args.n c.args.pos.0 c.args.state.0 c.slot-cell.result c.requires.table c.requires.cell c.slot-cell.ensures.is
     c.slot-cell.ensures.within c.requires.round c.in-Ok-false.ensures.asked (sym c.in-Ok-false.ensures.holds ∙ c.in-Ok-false.field-0-test) w)

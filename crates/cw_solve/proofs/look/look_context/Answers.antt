@@ -12,9 +12,9 @@ loop-x-init c =
     let at = c.args.at.now in
     record {
       table = c.requires.table;
-      later = record { contexts = refl; bases = refl; more = omega arith; same = λ e. refl };
+      later = record { blocks = refl; more = omega arith; same = λ e. refl };
       tabled = c.requires.tabled;
-      round = subst (λ (s : ℕ). IsInRound g t c.args.n s) (slot_begins g t.contexts.items at.number at.context.function) c.requires.round;
+      round = subst (λ (s : ℕ). IsInRound g t c.args.n s) (slot_begins g t.blocks.contexts.items at.number at.context.function) c.requires.round;
     }
 
 pub returns-clause-round : goal.returns-clause-round
@@ -24,6 +24,6 @@ returns-clause-round c =
     let at = c.args.at.now in
     let e : c.loop-x.x ≡ c.states-x-end.result = omega (arith, c.loop-x-test.false, c.loop-x.auto.x-end) in
     subst (λ (s : ℕ). IsInRound g t c.args.n s)
-    (ap (λ (x : ℕ). slot g t.contexts.items at.number at.context.function (g.entry at.context.function) x) (e ∙ c.states-x-end.ensures)
-    ∙ slot_ends g t.contexts.items at.number at.context c.loop-x.invariant.tabled)
+    (ap (λ (x : ℕ). slot g t.blocks.contexts.items at.number at.context.function (g.entry at.context.function) x) (e ∙ c.states-x-end.ensures)
+    ∙ slot_ends g t.blocks.contexts.items at.number at.context c.loop-x.invariant.tabled)
     c.loop-x.invariant.round

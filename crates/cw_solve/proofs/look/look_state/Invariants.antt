@@ -7,6 +7,6 @@ abbrev pub invariant-loop-p : goal.invariant-loop-p
 invariant-loop-p l = record {
   table : IsTable (game_of l.game) l.table;
   later : IsLater l.fn.table l.table;
-  tabled : IsTabled l.table l.at;
-  round : IsInRound (game_of l.game) l.table l.n (slot (game_of l.game) l.table.contexts.items l.at.number l.at.context.function l.p l.state.0);
+  tabled : IsTabled l.table.blocks l.at;
+  round : IsInRound (game_of l.game) l.table l.n (slot (game_of l.game) l.table.blocks.contexts.items l.at.number l.at.context.function l.p l.state.0);
 }

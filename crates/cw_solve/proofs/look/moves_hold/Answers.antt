@@ -7,4 +7,4 @@ pub spot-requires : goal.spot-requires
 spot-requires c =
     let g = game_of c.args.game.now in
     let functions = length c.args.game.now.graph.parts.items in
-    cell_within g functions c.requires.routed c.args.table.now c.requires.table c.args.at.now c.args.pos.0 c.args.state.0 c.requires.cell
+    cell_within g functions c.requires.routed c.args.table.now.blocks c.requires.table.blocks c.args.at.now c.args.pos.0 c.args.state.0 c.requires.cell

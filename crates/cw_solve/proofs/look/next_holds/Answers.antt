@@ -15,7 +15,7 @@ pub turn-requires : goal.turn-requires
 turn-requires c =
     let g = game_of c.args.game.now in
     let functions = length c.args.game.now.graph.parts.items in
-    cell_within g functions c.requires.routed c.args.table.now c.requires.table c.args.at.now c.args.pos.0 c.args.state.0 c.requires.cell
+    cell_within g functions c.requires.routed c.args.table.now.blocks c.requires.table.blocks c.args.at.now c.args.pos.0 c.args.state.0 c.requires.cell
 
 pub call_holds-requires-clause-call : goal.call_holds-requires-clause-call
 call_holds-requires-clause-call c =
@@ -26,7 +26,7 @@ pub bad-requires-clause-position : goal.bad-requires-clause-position
 bad-requires-clause-position c =
     let g = game_of c.args.game.now in
     let functions = length c.args.game.now.graph.parts.items in
-    cell_within g functions c.requires.routed c.args.table.now c.requires.table c.args.at.now c.args.pos.0 c.args.state.0 c.requires.cell
+    cell_within g functions c.requires.routed c.args.table.now.blocks c.requires.table.blocks c.args.at.now c.args.pos.0 c.args.state.0 c.requires.cell
 
 pub returns-after-main-clause-holds : goal.returns-after-main-clause-holds
 unfolding has_member
@@ -37,6 +37,6 @@ returns-after-main-clause-holds c =
     elim c.if-main.branch [
       | then-main w ↦ w.result-is ∙ w.if-main.true ∙ sym (ap (λ b. b || e c.args.state.0) w.if-main.true) ∙ end
       | else-main w ↦
-          let read = read_context c.args.table.now c.args.at.now w.number.result w.index.result.now w.number.ensures c.requires.cell.at w.index.ensures in
+          let read = read_context c.args.table.now.blocks c.args.at.now w.number.result w.index.result.now w.number.ensures c.requires.cell.at w.index.ensures in
           w.result-is ∙ w.contains.ensures.member ∙ ap (λ (x : Context). has x.promise c.args.state.0) read ∙ sym (ap (λ b. b || e c.args.state.0) w.if-main.false) ∙ end
     ]

@@ -46,7 +46,7 @@ pub returns-clause-table : goal.returns-clause-table
 returns-clause-table c =
     let g = game_of c.args.game.now in
     let contexts = c.args.contexts.items in
-    let t : Table = record { contexts = c.args.contexts; bases = c.loop-context.bases; heights = c.in_ok-heights.heights; written = 0 } in
+    let t : Table = record { blocks = record { contexts = c.args.contexts; bases = c.loop-context.bases }; heights = c.in_ok-heights.heights; written = 0 } in
     let value = ap length c.deref-context-items.ensures.value in
     let e : c.loop-context.context-index ≡ length contexts = omega (arith, c.loop-context-test.false, c.loop-context.auto.context-index-end, value) in
     let all : c.loop-context.cells ≡ cells_of g contexts
@@ -58,7 +58,7 @@ pub returns-clause-start : goal.returns-clause-start
 returns-clause-start c =
     let g = game_of c.args.game.now in
     let contexts = c.args.contexts.items in
-    let t : Table = record { contexts = c.args.contexts; bases = c.loop-context.bases; heights = c.in_ok-heights.heights; written = 0 } in
+    let t : Table = record { blocks = record { contexts = c.args.contexts; bases = c.loop-context.bases }; heights = c.in_ok-heights.heights; written = 0 } in
     let value = ap length c.deref-context-items.ensures.value in
     let e : c.loop-context.context-index ≡ length contexts = omega (arith, c.loop-context-test.false, c.loop-context.auto.context-index-end, value) in
     let all : c.loop-context.cells ≡ cells_of g contexts

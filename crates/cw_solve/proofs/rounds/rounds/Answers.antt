@@ -16,7 +16,7 @@ rounds-preserved c =
     let functions = length c.args.game.now.graph.parts.items in
     record {
       table = c.in_default.ensures.table;
-      contexts = c.in_default.ensures.later.contexts ∙ c.rounds.invariant.contexts;
+      blocks = c.in_default.ensures.later.blocks ∙ c.rounds.invariant.blocks;
       round = round_ends g functions c.requires.routed c.rounds.table c.look_all.new.table c.rounds.n c.rounds.invariant.round c.in_default.ensures.later c.in_default.ensures.round
           c.if-table-written.false;
     }

@@ -6,7 +6,7 @@ use Rattle.cw_solve.proofs.rounds.rounds.Given as goal
 abbrev pub invariant-rounds : goal.invariant-rounds
 invariant-rounds l = record {
   table : IsTable (game_of l.game) l.table;
-  contexts : l.table.contexts.items ≡ l.fn.table.contexts.items;
+  blocks : l.table.blocks ≡ l.fn.table.blocks;
   round : IsAtRound (game_of l.game) l.table l.n;
 }
 

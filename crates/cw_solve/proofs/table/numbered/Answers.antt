@@ -7,10 +7,10 @@ use Rattle.cw_solve.proofs.table.numbered.Goals as goal
 
 pub overflow_cast-result : goal.overflow_cast-result
 overflow_cast-result c =
-    let le = few (game_of c.args.game.now) (length c.args.game.now.graph.parts.items) c.requires.routed c.args.table.now c.requires.table in
+    let le = few (game_of c.args.game.now) (length c.args.game.now.graph.parts.items) c.requires.routed c.args.blocks.now c.requires.blocks in
     omega (arith, le, c.requires.within)
 
 pub returns-clause-there : goal.returns-clause-there
 returns-clause-there c =
-    slice_get-get_or c.args.table.now.contexts.items c.args.number c.index-context.result.now c.requires.within ∙ ap (λ (y : Context). Some y) (sym c.index-context.ensures)
+    slice_get-get_or c.args.blocks.now.contexts.items c.args.number c.index-context.result.now c.requires.within ∙ ap (λ (y : Context). Some y) (sym c.index-context.ensures)
     ∙ ap (λ (y : Context). Some y) (sym c.of.ensures)

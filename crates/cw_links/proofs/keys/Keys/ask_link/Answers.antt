@@ -8,9 +8,9 @@ invariant_of-self-then-due-eq0 c =
     let s = c.self.inside in
     let view = ap (λ (k : Keyed). length k.due) c.self.view_is in
     let within : c.args.link < length s.due.items = omega (arith, view, c.requires.within) in
-    due_queued s.asked.items s.due.items s.queue c.put.new.self c.self.invariant c.args.link c.args.key within c.in_ok-put.ensures.put
+    due_queued s.cells.asked s.due.items s.queue c.put.new.self c.self.invariant c.args.link c.args.key within c.in_ok-put.ensures.put
 
 pub invariant_of-self : goal.invariant_of-self
 invariant_of-self c =
     let s = c.self.inside in
-    alike_queued s.asked.items s.due.items s.queue c.put.new.self c.self.invariant c.in_err-put.ensures.refused
+    alike_queued s.cells.asked s.due.items s.queue c.put.new.self c.self.invariant c.in_err-put.ensures.refused

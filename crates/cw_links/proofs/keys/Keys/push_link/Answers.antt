@@ -9,5 +9,5 @@ invariant_of-self c =
     let s = c.self.inside in
     let spare = ap (λ (k : Keyed). k.spare_links) c.self.view_is in
     let items : c.push.new.self.items ≡ s.due.items ++ 0 ∷ [] = c.push.ensures.items ∙ cond-true _ _ _ (c.push.ensures.succeeds (omega (arith, spare, c.requires.room))) in
-    subst (λ (ys : List ℕ). AreQueued s.asked.items ys s.queue) (sym items)
-    (pushed_link s.asked.items s.due.items s.queue c.self.invariant (omega (arith, spare, c.requires.room)))
+    subst (λ (ys : List ℕ). AreQueued s.cells.asked ys s.queue) (sym items)
+    (pushed_link s.cells.asked s.due.items s.queue c.self.invariant (omega (arith, spare, c.requires.room)))

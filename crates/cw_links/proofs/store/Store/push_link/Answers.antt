@@ -43,4 +43,5 @@ returns-clause-pushed c =
     (c.add_link.ensures.due ∙ ap (λ (xs : List ℕ). xs ++ 0 ∷ []) (c.push_cells.ensures.due ∙ c.reserve_link.ensures.due ∙ c.reserve_cells.ensures.due))
     (c.add_link.ensures.to ∙ ap (λ (xs : List ℕ). xs ++ 0 ∷ []) c.reserve.ensures.to)
     (c.add_link.ensures.waves ∙ ap (λ (xs : List ℕ). xs ++ 0 ∷ []) c.in_ok-reserve-2.ensures.items)
+    (c.add_link.ensures.heights ∙ c.push_cells.ensures.heights ∙ ap (λ (xs : List ℕ). xs ++ 0 ∷ []) (c.reserve_link.ensures.heights ∙ c.reserve_cells.ensures.heights))
     (c.add_link.ensures.lists ∙ ap (λ (ls : List (List ℕ)). length ls) c.reserve.ensures.lists)))

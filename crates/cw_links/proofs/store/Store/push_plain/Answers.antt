@@ -23,4 +23,5 @@ returns-clause-pushed c =
     (subst (λ (ms : List Bool). PushesPlain (stored s.marks s.keys s.callers s.waves.items) (stored ms keys s.callers s.waves.items) many) (sym c.in_ok-push_plain.ensures.pushed)
     (plain_at s.marks s.keys keys s.callers s.waves.items many c.self.invariant
     (c.push_cells.ensures.asked ∙ ap (λ (xs : List ℕ). xs ++ replicate many 0) c.reserve_cells.ensures.asked)
-    (c.push_cells.ensures.due ∙ c.reserve_cells.ensures.due)))
+    (c.push_cells.ensures.due ∙ c.reserve_cells.ensures.due)
+    (c.push_cells.ensures.heights ∙ ap (λ (xs : List ℕ). xs ++ replicate many 0) c.reserve_cells.ensures.heights)))

@@ -7,13 +7,13 @@ use Rattle.cw_solve.specs.Solved.{Held}
 use Rattle.cw_solve.proofs.Keeping.{kept_few}
 use Rattle.cw_solve.proofs.solved.Solved.find.Goals as goal
 
-found : (c : goal.In-Some) → slice_get c.self.inside.table.contexts.items c.in-Some.number ≡ Some (context c.args.function c.args.promise.now)
+found : (c : goal.In-Some) → slice_get c.self.inside.table.blocks.contexts.items c.in-Some.number ≡ Some (context c.args.function c.args.promise.now)
 found c = subst (λ (xs : List Context). slice_get xs c.in-Some.number ≡ Some (context c.args.function c.args.promise.now)) c.deref.ensures.value c.in-Some.ensures.some
 
 pub overflow_cast-result : goal.overflow_cast-result
 overflow_cast-result c =
     let few = kept_few c.self.inside.game.now c.self.inside.table c.self.invariant in
-    let within = slice_get_within c.self.inside.table.contexts.items c.in-Some.number (context c.args.function c.args.promise.now) (found c) in
+    let within = slice_get_within c.self.inside.table.blocks.contexts.items c.in-Some.number (context c.args.function c.args.promise.now) (found c) in
     omega (arith, few, within)
 
 pub returns-in-Some-clause-found : goal.returns-in-Some-clause-found

@@ -1,6 +1,6 @@
 use Rattle.cw_product.specs.Product.{game_of}
 use Rattle.cw_linked.specs.Edges.{AreChangesTo}
-use Rattle.cw_linked.proofs.edges.make_changes.Given as goal
+use Rattle.cw_linked.proofs.edges.make_pairs.Given as goal
 
 abbrev pub invariant-loop-p : goal.invariant-loop-p
-invariant-loop-p l = AreChangesTo (game_of l.game) l.changes l.p 0
+invariant-loop-p l = AreChangesTo (game_of l.game) l.marks l.pairs l.p 0

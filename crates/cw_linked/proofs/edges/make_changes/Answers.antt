@@ -1,7 +1,0 @@
-use Rattle.std.proofs.Common.{arith}
-use Rattle.cw_product.specs.Product.{game_of}
-use Rattle.cw_linked.proofs.Edging.{all_changes_in}
-use Rattle.cw_linked.proofs.edges.make_changes.Goals as goal
-
-pub returns : goal.returns
-returns c = all_changes_in (game_of c.args.game.now) c.loop-p.changes c.loop-p.p (omega (arith, c.positions-p-end.ensures, c.loop-p-test.false)) c.loop-p.invariant
