@@ -8,8 +8,8 @@ edits stand in the place of the gate's own, and `rt must-fail CRATE` tries them,
 crate's libraries are proved first; a checkout on this machine that has them built is used. Prints what was refused; the exit status is 1 where one was not.
 
 With `--quick` a crate's edits are tried several at once, at most one in a function, by a check of these functions alone: as long as one check of the
-crate at most, where the other way takes one for each edit. An edit is refused there where its function has no proof any more. What isn't an edit of bodies alone is told and left to the
-other way, and so is what doesn't compile, or ends at a limit of the prover.
+crate at most, where the other way takes one for each edit. An edit is refused there where its function has no proof any more, and not just because one that it calls has none. What isn't an
+edit of bodies alone is told and left to the other way, and so is what calls a function that another edit changes, doesn't compile, or ends at a limit of the prover.
 
 Needs the toolchain and Python 3.8.
 """
@@ -25,7 +25,7 @@ ROOT = os.path.dirname(os.path.dirname(os.path.abspath(__file__)))
 EDITS = f"{ROOT}/bench/edits"
 FUNCTION = re.compile(r"^( *)(?:pub(?:\([a-z]+\))? )?(?:const )?fn (\w+)", re.M)
 IMPL = re.compile(r"^impl\b(?:<.*?>)? *(?:([\w:]+)(?:<.*>)? for )?(\w+)", re.M)
-UNPROVED = re.compile(r"^fn \w+::(\S+): (?:no proof|not proved)", re.M)
+UNPROVED = re.compile(r"^fn \w+::(\S+): (?:no proof|not proved)(.*)$", re.M)
 
 
 def lines_of(edit):
@@ -101,6 +101,13 @@ def grouped(folder, edits):
     return groups, others
 
 
+def has_own_cause(name, why):
+    """Whether a function has no proof by itself: not just since one that it calls, or an answer of that one, has none."""
+    if f".{name.replace('::', '.')}.Answers." in why:
+        return True
+    return any(part and not part.startswith(("it calls `", "it stands on `")) for part in why.lstrip(":; ").split("; "))
+
+
 def tried(folder, group):
     """What a check says of each edit of a group, which are made together and taken back."""
     kept = {}
@@ -121,11 +128,15 @@ def tried(folder, group):
         for path, text in kept.items():
             with open(path, "w", encoding="utf-8") as source:
                 source.write(text)
-    without = UNPROVED.findall(done.stdout)
+    unproved = UNPROVED.findall(done.stdout)
+    own, handed_on = ([name for name, why in unproved if has_own_cause(name, why) == is_own] for is_own in (True, False))
+    are = lambda names, functions: any(name == function or name.endswith(f"::{function}") for name in names for function in functions)
     answer = {}
     for edit, functions in group.items():
-        if any(any(name == function or name.endswith(f"::{function}") for name in without) for function in functions):
+        if are(own, functions):
             answer[edit] = "refused"
+        elif are(handed_on, functions):
+            answer[edit] = "not judged: it calls a function that another edit changes"
         elif "only=" in done.stdout:
             answer[edit] = "NOT REFUSED"
         else:
