@@ -3,9 +3,10 @@ pub mod Acting
 pub mod Shapes
 pub mod Bounds
 pub mod Places
-mod Digits
-pub mod Ends
+mod Alike
 mod LabelShapes
 mod LabelJoins
 pub mod Lesser
+mod Numbered
 pub mod PlainNames
+pub mod Scening

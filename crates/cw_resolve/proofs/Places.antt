@@ -2,7 +2,7 @@
 use Rattle.std.proofs.Common.{◌≡◌, ◌<◌, ◌≤◌, ℕ, ◌+◌, List, [], ◌∷◌, Bool, true, false, cond, not, nat_lt, Some, None, drop, get_or, refl, sym, ap, ap₂, ◌∙◌, subst, arith}
 use Rattle.std.specs.Prelude.{map, length, position}
 use Rattle.std.specs.List.{position_or_len, prefix_len}
-use Rattle.std.proofs.lemmas.List.{length-map, at_drop_more, at_drop_all}
+use Rattle.std.proofs.lemmas.List.{length-map, at_drop_more, at_drop_all, get_or_default}
 use Rattle.std.proofs.lemmas.List.Sums.{prefix_len-le-length}
 use Rattle.std.proofs.lemmas.Bool.Decides.{nat_tests}
 
@@ -39,6 +39,10 @@ seeks_found q xs i x l e f s =
     let n : i ≡ position_or_len q xs = omega arith in
     let t : nat_lt i (length xs) ≡ true = grind (arith, nat_tests) in
     sym (ap (λ k. cond (nat_lt k (length xs)) (Some k) None) (sym n) ∙ ap (λ b. cond b (Some i) None) t)
+
+-- by whatever stands in for a place past the end
+pub seeks_here : {X : Type 0} (q : X → Bool) (xs : List X) (i : ℕ) (d : X) → i < length xs → q (get_or xs i d) ≡ true → Seeks q xs i → Some i ≡ position q xs
+seeks_here q xs i d l t s = seeks_found q xs i (get_or xs i d) l (get_or_default xs i d (get_or xs i d) l) t s
 
 pub seeks_none : {X : Type 0} (q : X → Bool) (xs : List X) (i : ℕ) → length xs ≤ i → Seeks q xs i → None ≡ position q xs
 seeks_none q xs i l s =

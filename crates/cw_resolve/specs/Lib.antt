@@ -3,4 +3,6 @@ pub mod Scenes
 pub mod Acts
 pub mod Held
 pub mod Labels
+pub mod Listed
+pub mod Own
 pub mod Soonest

@@ -5,14 +5,9 @@ ghost use Rattle.std.specs.Str.{bytes_eq};
 ghost use Rattle.cw_syntax.specs.Plans.{action_of, call_action, closed_by, closes_if, opens_if, assigned_action, descriptor_of};
 ghost use Rattle.cw_syntax.specs.Trees.{Node, none, more, tree_of, trees_of};
 ghost use Rattle.cw_syntax.specs.Names.{number_in};
-ghost use Rattle.cw_rights.specs.Policies.{policy_of};
-ghost use Rattle.cw_resolve.specs.Scenes.{scene_in};
 ghost use Rattle.cw_resolve.specs.Acts.{act_of};
 
-use crate::names::{descriptor_named, descriptor_numbered, function_named, is_split, text};
-use cw_rights::Policy;
-use cw_syntax::checked::Checked;
-use cw_syntax::names::slice;
+use crate::scene::Scene;
 use cw_syntax::program::{Expr, Name, Op};
 
 /// What an expression statement does: an open or a close of a descriptor of the policy, the call of a defined
@@ -30,12 +25,12 @@ pub enum Act {
 }
 
 /// The number of the descriptor that an expression names: a variable by its name, a number by its value.
-pub fn descriptor_of(checked: &Checked, policy: &Policy, e: &Expr) -> Option<usize>
-    ensures number { result ≡ descriptor_of (scene_in checked.now (policy_of policy.now)) (tree_of e.now) }
+pub fn descriptor_of(scene: &Scene, e: &Expr) -> Option<usize>
+    ensures number { result ≡ descriptor_of scene.now (tree_of e.now) }
 {
     match e.op {
-        Op::Name => descriptor_named(policy, slice(checked.source, e.from, e.to)),
-        Op::Number(n) => descriptor_numbered(policy, n),
+        Op::Name => scene.descriptor_named(scene.slice(e.from, e.to)),
+        Op::Number(n) => scene.descriptor_numbered(n),
         _ => None,
     }
 }
@@ -68,46 +63,46 @@ fn is_close(name: &[u8]) -> bool
 }
 
 /// `close(d);`, with `close` external.
-fn closed_by(checked: &Checked, policy: &Policy, name: &[u8], arguments: &[Expr]) -> Act
-    ensures { result ≡ act_of (closed_by (scene_in checked.now (policy_of policy.now)) name.now (trees_of arguments.now)) }
+fn closed_by(scene: &Scene, name: &[u8], arguments: &[Expr]) -> Act
+    ensures { result ≡ act_of (closed_by scene.now name.now (trees_of arguments.now)) }
 {
     match arguments {
-        [argument] if is_close(name) => closes_if(descriptor_of(checked, policy, argument)),
+        [argument] if is_close(name) => closes_if(descriptor_of(scene, argument)),
         _ => Act::Computes,
     }
 }
 
 /// `f(..);`
-fn call_action(checked: &Checked, policy: &Policy, name: &[u8], arguments: &[Expr]) -> Act
-    ensures { result ≡ act_of (call_action (scene_in checked.now (policy_of policy.now)) name.now (trees_of arguments.now) (number_in (scene_in checked.now (policy_of policy.now)).functions name.now)) }
+fn call_action(scene: &Scene, name: &[u8], arguments: &[Expr]) -> Act
+    ensures { result ≡ act_of (call_action scene.now name.now (trees_of arguments.now) (number_in scene.now.functions name.now)) }
 {
-    match function_named(checked, name) {
+    match scene.function_named(name) {
         Some(function) => Act::Invokes {
             function,
-            split: is_split(policy, name),
+            split: scene.is_split(name),
             result: None,
         },
-        None => closed_by(checked, policy, name, arguments),
+        None => closed_by(scene, name, arguments),
     }
 }
 
 /// `x = f(..);`
-fn assigned_action(checked: &Checked, policy: &Policy, x: Name, name: &[u8]) -> Act
-    ensures { result ≡ act_of (assigned_action (scene_in checked.now (policy_of policy.now)) x name.now (number_in (scene_in checked.now (policy_of policy.now)).functions name.now)) }
+fn assigned_action(scene: &Scene, x: Name, name: &[u8]) -> Act
+    ensures { result ≡ act_of (assigned_action scene.now x name.now (number_in scene.now.functions name.now)) }
 {
-    match function_named(checked, name) {
+    match scene.function_named(name) {
         Some(function) => Act::Invokes {
             function,
-            split: is_split(policy, name),
+            split: scene.is_split(name),
             result: Some(x),
         },
-        None => opens_if(descriptor_named(policy, text(checked, x))),
+        None => opens_if(scene.descriptor_named(scene.text(x))),
     }
 }
 
 /// An assignment of these two parts.
-fn assigned(checked: &Checked, policy: &Policy, x: &Expr, value: &Expr) -> Act
-    ensures { (from to : ℕ) → result ≡ act_of (action_of (scene_in checked.now (policy_of policy.now)) (Node (Op.Assign 0) (more (tree_of x.now) (more (tree_of value.now) none)) from to)) }
+fn assigned(scene: &Scene, x: &Expr, value: &Expr) -> Act
+    ensures { (from to : ℕ) → result ≡ act_of (action_of scene.now (Node (Op.Assign 0) (more (tree_of x.now) (more (tree_of value.now) none)) from to)) }
 {
     match x.op {
         Op::Name => match value.op {
@@ -116,7 +111,7 @@ fn assigned(checked: &Checked, policy: &Policy, x: &Expr, value: &Expr) -> Act
                     from: x.from,
                     to: x.to,
                 };
-                assigned_action(checked, policy, name, text(checked, f))
+                assigned_action(scene, name, scene.text(f))
             }
             _ => Act::Computes,
         },
@@ -125,25 +120,25 @@ fn assigned(checked: &Checked, policy: &Policy, x: &Expr, value: &Expr) -> Act
 }
 
 /// An assignment by an operator of this number: 0 is `=`.
-fn assignment(checked: &Checked, policy: &Policy, by: u8, parts: &[Expr]) -> Act
-    ensures { (from to : ℕ) → result ≡ act_of (action_of (scene_in checked.now (policy_of policy.now)) (Node (Op.Assign by) (trees_of parts.now) from to)) }
+fn assignment(scene: &Scene, by: u8, parts: &[Expr]) -> Act
+    ensures { (from to : ℕ) → result ≡ act_of (action_of scene.now (Node (Op.Assign by) (trees_of parts.now) from to)) }
 {
     if by != 0 {
         return Act::Computes;
     }
     match parts {
-        [x, value] => assigned(checked, policy, x, value),
+        [x, value] => assigned(scene, x, value),
         _ => Act::Computes,
     }
 }
 
 /// What an expression statement does.
-pub fn action_of(checked: &Checked, policy: &Policy, e: &Expr) -> Act
-    ensures act { result ≡ act_of (action_of (scene_in checked.now (policy_of policy.now)) (tree_of e.now)) }
+pub fn action_of(scene: &Scene, e: &Expr) -> Act
+    ensures act { result ≡ act_of (action_of scene.now (tree_of e.now)) }
 {
     match e.op {
-        Op::Call(f) => call_action(checked, policy, text(checked, f), &e.parts),
-        Op::Assign(by) => assignment(checked, policy, by, &e.parts),
+        Op::Call(f) => call_action(scene, scene.text(f), &e.parts),
+        Op::Assign(by) => assignment(scene, by, &e.parts),
         _ => Act::Computes,
     }
 }

@@ -11,7 +11,7 @@ ghost use Rattle.cw_resolve.specs.Labels.{labels_of, labels_of_all, labels_in_fi
 use cw_core::NoMemory;
 use cw_syntax::names::text;
 use cw_syntax::program::{Function, Name, Program, Stmt, What};
-use std::alloc::Global;
+use std::alloc::{AllocError, Global};
 
 /// A label of a source: its name, and the place after its `:`.
 #[derive(Clone, Copy, Drop)]
@@ -45,7 +45,7 @@ fn texts(alloc: Global, source: &[u8], labels: &[Labelled]) -> Result<Vec<Vec<u8
 /// Appends the labels of a statement.
 #[cycle(labels)]
 #[tactic(auto, using(crate::proofs::LabelShapes::block_labels, crate::proofs::LabelShapes::for_labels))]
-fn put_labels(statement: &Stmt, out: &mut Vec<Labelled>) -> Result<(), NoMemory>
+fn put_labels(statement: &Stmt, out: &mut Vec<Labelled>) -> Result<(), AllocError>
     ensures { IfOk result (λ _. out.new.items ≡ out.old.items ++ labels_of (statement_of statement.now)) }
 {
     match &statement.what {
@@ -74,7 +74,7 @@ fn put_labels(statement: &Stmt, out: &mut Vec<Labelled>) -> Result<(), NoMemory>
 
 /// Appends the labels of these statements.
 #[cycle(labels)]
-fn put_all_labels(statements: &[Stmt], out: &mut Vec<Labelled>) -> Result<(), NoMemory>
+fn put_all_labels(statements: &[Stmt], out: &mut Vec<Labelled>) -> Result<(), AllocError>
     ensures { IfOk result (λ _. out.new.items ≡ out.old.items ++ labels_of_all (statements_of statements.now)) }
 {
     for statement in statements {
@@ -84,7 +84,7 @@ fn put_all_labels(statements: &[Stmt], out: &mut Vec<Labelled>) -> Result<(), No
 }
 
 /// Appends the labels of all functions, in the order of the text.
-fn put_function_labels(functions: &[Function], out: &mut Vec<Labelled>) -> Result<(), NoMemory>
+pub(crate) fn put_function_labels(functions: &[Function], out: &mut Vec<Labelled>) -> Result<(), AllocError>
     ensures { IfOk result (λ _. out.new.items ≡ out.old.items ++ flat_map (λ f. labels_of_all f.body) (map definition_of functions.now)) }
 {
     for function in functions {

@@ -5,13 +5,14 @@
 mod actions;
 mod labelled;
 mod labels;
+mod name_list;
 mod names;
+mod scene;
 mod soonest;
 
 pub use actions::{Act, action_of, descriptor_of};
 pub use labelled::{Labelled, function_names, label_names, labels_in, name_in};
 pub use labels::is_label;
-pub use names::{
-    descriptor_named, descriptor_numbered, function_named, is_split, label_number, text,
-};
+pub use names::{function_named, text};
+pub use scene::Scene;
 pub use soonest::sooner;

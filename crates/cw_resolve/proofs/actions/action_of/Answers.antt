@@ -1,11 +1,9 @@
 use Rattle.std.proofs.Common.{ap, ap₂, sym, ◌∙◌}
-use Rattle.cw_rights.specs.Policies.{policy_of}
 use Rattle.cw_syntax.specs.declared.program.Expr.{out-Expr}
 use Rattle.cw_syntax.specs.declared.program.Op.TheVariants.{Assign}
 use Rattle.cw_syntax.specs.Names.{number_in}
 use Rattle.cw_syntax.specs.Plans.{call_action, action_of}
 use Rattle.cw_syntax.specs.Trees.{trees_of, Node}
-use Rattle.cw_resolve.specs.Scenes.{scene_in}
 use Rattle.cw_resolve.specs.Acts.{act_of}
 use Rattle.cw_syntax.proofs.Shapes.{node_is}
 use Rattle.cw_resolve.proofs.Acting.{calls, computes}
@@ -13,7 +11,7 @@ use Rattle.cw_resolve.proofs.actions.action_of.Goals as goal
 
 pub returns-in-Call : goal.returns-in-Call
 returns-in-Call c =
-    let s = scene_in c.args.checked.now (policy_of c.args.policy.now) in
+    let s = c.args.scene.now in
     let e = c.args.e.now in
     let o = out-Expr e in
     record {
@@ -24,7 +22,7 @@ returns-in-Call c =
 
 pub returns-in-Assign : goal.returns-in-Assign
 returns-in-Assign c =
-    let s = scene_in c.args.checked.now (policy_of c.args.policy.now) in
+    let s = c.args.scene.now in
     let e = c.args.e.now in
     let o = out-Expr e in
     record {
@@ -35,7 +33,7 @@ returns-in-Assign c =
 
 pub returns-in_default : goal.returns-in_default
 returns-in_default c =
-    let s = scene_in c.args.checked.now (policy_of c.args.policy.now) in
+    let s = c.args.scene.now in
     let e = c.args.e.now in
     let o = out-Expr e in
     record { act = sym (ap (λ t. act_of (action_of s t)) (node_is e) ∙ ap act_of (computes s o.op (trees_of o.parts.items) o.from o.to c.in_default.not-Call c.in_default.not-Assign)) }

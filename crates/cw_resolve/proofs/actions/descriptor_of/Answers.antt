@@ -1,17 +1,15 @@
 use Rattle.std.proofs.Common.{ap, sym, ◌∙◌}
-use Rattle.cw_rights.specs.Policies.{policy_of}
 use Rattle.cw_syntax.specs.declared.program.Expr.{out-Expr}
 use Rattle.cw_syntax.specs.Names.{number_in}
 use Rattle.cw_syntax.specs.Plans.{descriptor_of}
 use Rattle.cw_syntax.specs.Trees.{trees_of}
-use Rattle.cw_resolve.specs.Scenes.{scene_in}
 use Rattle.cw_syntax.proofs.Shapes.{node_is}
 use Rattle.cw_resolve.proofs.Acting.{names_one, numbers_one, names_none}
 use Rattle.cw_resolve.proofs.actions.descriptor_of.Goals as goal
 
 pub returns-in-Name : goal.returns-in-Name
 returns-in-Name c =
-    let s = scene_in c.args.checked.now (policy_of c.args.policy.now) in
+    let s = c.args.scene.now in
     let e = c.args.e.now in
     let o = out-Expr e in
     record {
@@ -21,7 +19,7 @@ returns-in-Name c =
 
 pub returns-in-Number : goal.returns-in-Number
 returns-in-Number c =
-    let s = scene_in c.args.checked.now (policy_of c.args.policy.now) in
+    let s = c.args.scene.now in
     let e = c.args.e.now in
     let o = out-Expr e in
     record {
@@ -31,7 +29,7 @@ returns-in-Number c =
 
 pub returns-in_default : goal.returns-in_default
 returns-in_default c =
-    let s = scene_in c.args.checked.now (policy_of c.args.policy.now) in
+    let s = c.args.scene.now in
     let e = c.args.e.now in
     let o = out-Expr e in
     record { number = sym (ap (descriptor_of s) (node_is e) ∙ names_none s o.op (trees_of o.parts.items) o.from o.to c.in_default.not-Name c.in_default.not-Number) }

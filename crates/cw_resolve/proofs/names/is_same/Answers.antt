@@ -1,5 +1,5 @@
 use Rattle.std.proofs.Common.{arith}
-use Rattle.cw_resolve.proofs.Ends.{alike}
+use Rattle.cw_resolve.proofs.Alike.{alike}
 use Rattle.cw_resolve.proofs.names.is_same.Goals as goal
 
 pub returns : goal.returns

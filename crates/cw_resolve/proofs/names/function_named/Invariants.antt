@@ -1,7 +1,7 @@
 use Rattle.std.specs.Str.{bytes_eq}
 use Rattle.cw_syntax.specs.Names.{text}
 use Rattle.cw_resolve.proofs.Places.{Seeks}
-use Rattle.cw_resolve.proofs.names.first_alike.Given as goal
+use Rattle.cw_resolve.proofs.names.function_named.Given as goal
 
 abbrev pub invariant-loop-i : goal.invariant-loop-i
 invariant-loop-i l = Seeks (λ f. bytes_eq l.name (text l.checked.source.now f.name)) l.checked.program.functions.items l.i

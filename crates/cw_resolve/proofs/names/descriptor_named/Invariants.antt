@@ -1,6 +1,0 @@
-use Rattle.std.specs.Str.{bytes_eq}
-use Rattle.cw_resolve.proofs.Places.{Seeks}
-use Rattle.cw_resolve.proofs.names.descriptor_named.Given as goal
-
-abbrev pub invariant-loop-i : goal.invariant-loop-i
-invariant-loop-i l = Seeks (λ d. bytes_eq l.name d.name.items) l.policy.descriptors.items l.i
