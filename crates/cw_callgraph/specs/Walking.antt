@@ -4,8 +4,6 @@ use Rattle.cw_syntax.specs.declared.program.Head.{Head, out-Head}
 use Rattle.cw_syntax.specs.declared.program.Function.{Function}
 use Rattle.cw_syntax.specs.Trees.{definition_of, Tree, Declared, tree_of, Definition, perhaps_of}
 use Rattle.cw_syntax.specs.Plans.{Scene, action_of}
-use Rattle.cw_rights.specs.Policies.{policy_of}
-use Rattle.cw_resolve.specs.Scenes.{scene_in}
 use Rattle.cw_callgraph.specs.declared.scopes.Known.{Known}
 use Rattle.cw_callgraph.specs.declared.statements.Setting.{Setting}
 use Rattle.cw_callgraph.specs.declared.expressions.Role.TheVariants.{Value}
@@ -14,10 +12,10 @@ use Rattle.cw_callgraph.specs.Forbidding.{place_if, places, places_in, given, si
 use Rattle.cw_callgraph.specs.Lowest.{lowest}
 
 abbrev pub scene_at : Setting → Scene
-scene_at t = scene_in t.checked.now (policy_of t.policy.now)
+scene_at t = t.scene.now
 
 abbrev pub source_at : Setting → List ℕ
-source_at t = t.checked.now.source.now
+source_at t = t.scene.now.source
 
 abbrev pub file_at : Setting → List Known
 file_at t = t.file.now

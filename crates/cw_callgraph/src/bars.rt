@@ -2,8 +2,6 @@
 
 ghost use Rattle.std.specs.Prelude.{◌≡◌, map, IfOk};
 ghost use Rattle.cw_syntax.specs.Trees.{definition_of, file_of};
-ghost use Rattle.cw_rights.specs.Policies.{policy_of};
-ghost use Rattle.cw_resolve.specs.Scenes.{scene_in};
 ghost use Rattle.cw_callgraph.specs.Lowest.{lowest};
 ghost use Rattle.cw_callgraph.specs.Forbidding.{body_places};
 ghost use Rattle.cw_callgraph.specs.Walking.{scene_at, file_at, head_bar, body_bar};
@@ -13,9 +11,8 @@ use crate::lowest::lowest;
 use crate::scopes::file_scope;
 use crate::statements::{Setting, body_places};
 use cw_core::NoMemory;
-use cw_rights::Policy;
-use cw_syntax::checked::Checked;
-use cw_syntax::program::Function;
+use cw_resolve::Scene;
+use cw_syntax::program::{Function, Program};
 use std::alloc::Global;
 
 /// The least place in each function's head, and the least in its body, by the numbers of the functions.
@@ -60,17 +57,13 @@ fn body_bars(
 }
 
 /// The least place in each function's head and in each function's body.
-pub(crate) fn all_bars(alloc: Global, checked: &Checked, policy: &Policy) -> Result<Bars, NoMemory>
-    ensures heads { IfOk result (λ bars. bars.heads.items ≡ map head_bar checked.now.program.functions.items) }
-    ensures bodies { IfOk result (λ bars. bars.bodies.items ≡ map (λ f. lowest (body_places (scene_in checked.now (policy_of policy.now)) (file_of checked.now.program) (definition_of f))) checked.now.program.functions.items) }
+pub(crate) fn all_bars(alloc: Global, scene: &Scene, program: &Program) -> Result<Bars, NoMemory>
+    ensures heads { IfOk result (λ bars. bars.heads.items ≡ map head_bar program.now.functions.items) }
+    ensures bodies { IfOk result (λ bars. bars.bodies.items ≡ map (λ f. lowest (body_places scene.now (file_of program.now) (definition_of f))) program.now.functions.items) }
 {
-    let file = file_scope(alloc, &checked.program)?;
-    let setting = Setting {
-        checked,
-        policy,
-        file: &file,
-    };
-    let heads = head_bars(alloc, &checked.program.functions)?;
-    let bodies = body_bars(alloc, &setting, &checked.program.functions)?;
+    let file = file_scope(alloc, program)?;
+    let setting = Setting { scene, file: &file };
+    let heads = head_bars(alloc, &program.functions)?;
+    let bodies = body_bars(alloc, &setting, &program.functions)?;
     Ok(Bars { heads, bodies })
 }

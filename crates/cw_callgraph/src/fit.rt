@@ -9,11 +9,11 @@ ghost use Rattle.cw_resolve.specs.Scenes.{names_of};
 ghost use Rattle.cw_callgraph.specs.Tabled.{AreEffectsOf};
 ghost use Rattle.cw_callgraph.specs.Fitting.{first_unlabelled, first_undefined, MayBeSplit, IsFirstForbidden, Fits, IsFitFault};
 ghost use Rattle.cw_callgraph.specs.Parts.{ArePartsOf, IsBarred};
-ghost use Rattle.cw_callgraph.specs.Barring.{barred, first_barred};
+ghost use Rattle.cw_callgraph.specs.Barring.{barred, first_barred, first_without_label, first_without_function};
 
 use crate::table::{Effect, EffectTable, Parts, bar_of, parts_of};
 use cw_core::NoMemory;
-use cw_resolve::{function_named, is_label};
+use cw_resolve::{Scene, function_named, is_label};
 use cw_rights::Policy;
 use cw_syntax::checked::Checked;
 use std::alloc::Global;
@@ -34,7 +34,7 @@ pub enum FitFault {
     NotSplittable(u16, u32),
 }
 
-/// The first of these names that no label has.
+/// The first of these names that no label has, by a walk for each.
 fn first_unlabelled(checked: &Checked, names: &[Vec<u8>]) -> Option<u16>
     requires { length names.now ≤ 65535 }
     ensures { result ≡ first_unlabelled checked.now.source.now (file_of checked.now.program) (map (λ n. n.items) names.now) }
@@ -47,7 +47,7 @@ fn first_unlabelled(checked: &Checked, names: &[Vec<u8>]) -> Option<u16>
     None
 }
 
-/// The first of these names that no function has.
+/// The first of these names that no function has, by a walk for each.
 fn first_undefined(checked: &Checked, names: &[Vec<u8>]) -> Option<u16>
     requires { length names.now ≤ 65535 }
     ensures { result ≡ first_undefined checked.now.source.now (file_of checked.now.program) (map (λ n. n.items) names.now) }
@@ -60,17 +60,51 @@ fn first_undefined(checked: &Checked, names: &[Vec<u8>]) -> Option<u16>
     None
 }
 
-/// The label or the function that a policy names and the source hasn't, first in the policy's order, labels before functions.
-fn missing(policy: &Policy, checked: &Checked) -> Option<FitFault>
-    requires labels { length (policy_of policy.now).labels ≤ 65535 }
-    requires split { length (policy_of policy.now).split ≤ 65535 }
+/// The first of these names that no label of a scene has.
+fn first_without_label(scene: &Scene, names: &[Vec<u8>]) -> Option<u16>
+    requires { length names.now ≤ 65535 }
+    ensures { result ≡ first_without_label scene.now.names.labels (map (λ n. n.items) names.now) }
+{
+    for (i, name) in names.iter().enumerate() {
+        if !scene.has_label(name) {
+            return Some(i as u16);
+        }
+    }
+    None
+}
+
+/// The first of these names that no function of a scene has.
+fn first_without_function(scene: &Scene, names: &[Vec<u8>]) -> Option<u16>
+    requires { length names.now ≤ 65535 }
+    ensures { result ≡ first_without_function scene.now.functions (map (λ n. n.items) names.now) }
+{
+    for (i, name) in names.iter().enumerate() {
+        if scene.function_named(name).is_none() {
+            return Some(i as u16);
+        }
+    }
+    None
+}
+
+/// The label or the function that a policy names and the source hasn't, first in the policy's order, labels before functions: this label,
+/// or this function.
+fn missing(
+    policy: &Policy,
+    checked: &Checked,
+    label: Option<u16>,
+    function: Option<u16>,
+) -> Option<FitFault>
+    requires label { label ≡ first_unlabelled checked.now.source.now (file_of checked.now.program) (policy_of policy.now).labels }
+    requires function { function ≡ first_undefined checked.now.source.now (file_of checked.now.program) (policy_of policy.now).split }
     ensures labelled { IfNone result (first_unlabelled checked.now.source.now (file_of checked.now.program) (policy_of policy.now).labels ≡ None) }
     ensures defined { IfNone result (first_undefined checked.now.source.now (file_of checked.now.program) (policy_of policy.now).split ≡ None) }
     ensures fault { IfSome result (IsFitFault checked.now.source.now (file_of checked.now.program) (policy_of policy.now)) }
 {
-    match first_unlabelled(checked, &policy.labels) {
+    let _ = policy;
+    let _ = checked;
+    match label {
         Some(label) => Some(FitFault::NoLabel(label)),
-        None => match first_undefined(checked, &policy.split) {
+        None => match function {
             Some(function) => Some(FitFault::NoFunction(function)),
             None => None,
         },
@@ -112,7 +146,9 @@ pub fn fits(policy: &Policy, checked: &Checked, effects: &EffectTable) -> Result
     ensures fits { IfOk result (λ _. Fits checked.now.source.now (file_of checked.now.program) (policy_of policy.now)) }
     ensures fault { IfErr result (λ fault. IsFitFault checked.now.source.now (file_of checked.now.program) (policy_of policy.now) fault) }
 {
-    if let Some(fault) = missing(policy, checked) {
+    let label = first_unlabelled(checked, &policy.labels);
+    let function = first_undefined(checked, &policy.split);
+    if let Some(fault) = missing(policy, checked, label, function) {
         return Err(fault);
     }
     match first_barred(checked, &effects.of, &policy.split) {
@@ -124,17 +160,20 @@ pub fn fits(policy: &Policy, checked: &Checked, effects: &EffectTable) -> Result
 /// The least place that forbids splitting the function of this name.
 fn bar_of_name(
     alloc: Global,
+    scene: &Scene,
     policy: &Policy,
     checked: &Checked,
     parts: &Parts,
     name: &[u8],
 ) -> Result<Option<u32>, NoMemory>
+    requires functions { scene.now.functions ≡ function_names checked.now.source.now (file_of checked.now.program) }
     requires parts { ArePartsOf checked.now (policy_of policy.now) parts.now }
     ensures none { IfOk result (λ place. IfNone place (MayBeSplit checked.now.source.now (file_of checked.now.program) (names_of (policy_of policy.now)) name.now)) }
     ensures some { IfOk result (λ place. IfSome place (IsBarred checked.now.source.now (file_of checked.now.program) (names_of (policy_of policy.now)) name.now)) }
 {
     let _ = policy;
-    match function_named(checked, name) {
+    let _ = checked;
+    match scene.function_named(name) {
         None => Ok(None),
         Some(function) => bar_of(alloc, &parts.calls, &parts.bars, function),
     }
@@ -143,18 +182,20 @@ fn bar_of_name(
 /// The first of these names whose function may not be split, and the least place that forbids it.
 fn first_forbidden(
     alloc: Global,
+    scene: &Scene,
     policy: &Policy,
     checked: &Checked,
     parts: &Parts,
     names: &[Vec<u8>],
 ) -> Result<Option<(u16, u32)>, NoMemory>
+    requires functions { scene.now.functions ≡ function_names checked.now.source.now (file_of checked.now.program) }
     requires few { length names.now ≤ 65535 }
     requires parts { ArePartsOf checked.now (policy_of policy.now) parts.now }
     ensures none { IfOk result (λ found. IfNone found (All (MayBeSplit checked.now.source.now (file_of checked.now.program) (names_of (policy_of policy.now))) (map (λ n. n.items) names.now))) }
     ensures some { IfOk result (λ found. IfSome found (λ w. IsFirstForbidden checked.now.source.now (file_of checked.now.program) (names_of (policy_of policy.now)) (map (λ n. n.items) names.now) w.0 w.1)) }
 {
     for (i, name) in names.iter().enumerate() {
-        if let Some(place) = bar_of_name(alloc, policy, checked, parts, name)? {
+        if let Some(place) = bar_of_name(alloc, scene, policy, checked, parts, name)? {
             return Ok(Some((i as u16, place)));
         }
     }
@@ -174,14 +215,17 @@ pub fn fit_fault(
     ensures fits { IfOk result (λ found. IfNone found (Fits checked.now.source.now (file_of checked.now.program) (policy_of policy.now))) }
     ensures fault { IfOk result (λ found. IfSome found (IsFitFault checked.now.source.now (file_of checked.now.program) (policy_of policy.now))) }
 {
-    if let Some(fault) = missing(policy, checked) {
+    let scene = Scene::own(alloc, checked)?;
+    let label = first_without_label(&scene, &policy.labels);
+    let function = first_without_function(&scene, &policy.split);
+    if let Some(fault) = missing(policy, checked, label, function) {
         return Ok(Some(fault));
     }
     if policy.split.is_empty() {
         return Ok(None);
     }
     let parts = parts_of(alloc, checked, policy)?;
-    match first_forbidden(alloc, policy, checked, &parts, &policy.split)? {
+    match first_forbidden(alloc, &scene, policy, checked, &parts, &policy.split)? {
         None => Ok(None),
         Some((function, place)) => Ok(Some(FitFault::NotSplittable(function, place))),
     }

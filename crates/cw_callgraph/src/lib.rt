@@ -14,4 +14,4 @@ mod statements;
 mod table;
 
 pub use fit::{FitFault, fit_fault, fits};
-pub use table::{Effect, EffectTable, call_table, effects};
+pub use table::{Effect, EffectTable, call_table, calls_in, effects};

@@ -12,17 +12,14 @@ ghost use Rattle.cw_callgraph.specs.Walking.{scene_at, source_at, file_at, item_
 use crate::expressions::{Role, put_if, put_places, put_places_in};
 use crate::scopes::{Known, Scope, local_meaning, parameters};
 use cw_core::NoMemory;
-use cw_resolve::{Act, action_of};
-use cw_rights::Policy;
-use cw_syntax::checked::Checked;
+use cw_resolve::{Act, Scene, action_of};
 use cw_syntax::program::{Decl, Expr, Function, Head, Item, Stmt, What};
 use std::alloc::Global;
 
-/// A source, the policy whose descriptors are opened and closed in it, and the names at its file scope.
+/// A source with the names by which opens and closes are known in it, and the names at its file scope.
 #[derive(Clone, Copy, Drop)]
 pub(crate) struct Setting<'a> {
-    pub checked: &'a Checked<'a>,
-    pub policy: &'a Policy,
+    pub scene: &'a Scene<'a>,
     pub file: &'a [Known],
 }
 
@@ -36,7 +33,7 @@ fn put_value(
     ensures { IfOk result (λ _. out.new.items ≡ out.old.items ++ places (source_at setting.now) (file_at setting.now) inner.now Value (tree_of e.now)) }
 {
     let scope = Scope {
-        source: setting.checked.source,
+        source: setting.scene.source(),
         file: setting.file,
         inner,
     };
@@ -53,7 +50,7 @@ fn put_values(
     ensures { IfOk result (λ _. out.new.items ≡ out.old.items ++ places_in (source_at setting.now) (file_at setting.now) inner.now Value (trees_of es.now)) }
 {
     let scope = Scope {
-        source: setting.checked.source,
+        source: setting.scene.source(),
         file: setting.file,
         inner,
     };
@@ -96,7 +93,7 @@ fn local(setting: &Setting, external: bool, item: &Item) -> Known
 {
     Known {
         name: item.name,
-        means: local_meaning(setting.checked.source, setting.file, external, item.name),
+        means: local_meaning(setting.scene.source(), setting.file, external, item.name),
     }
 }
 
@@ -191,14 +188,11 @@ fn put_head(
     put_given(setting, inner, &head.step, out)
 }
 
-/// Whether a whole statement of this expression is an open or a close: without descriptors none is.
+/// Whether a whole statement of this expression is an open or a close.
 fn is_seam(setting: &Setting, e: &Expr) -> bool
     ensures { result ≡ is_seam (action_of (scene_at setting.now) (tree_of e.now)) }
 {
-    if setting.policy.descriptors.is_empty() {
-        return false;
-    }
-    match action_of(setting.checked, setting.policy, e) {
+    match action_of(setting.scene, e) {
         Act::Opens(_) => true,
         Act::Closes(_) => true,
         _ => false,

@@ -4,11 +4,13 @@ ghost use Rattle.std.specs.Prelude.{◌≡◌, ◌<◌, ◌≤◌, ◌↔◌, �
 ghost use Rattle.std.specs.List.{All, Contains};
 ghost use Rattle.std.specs.List.Sorted.{IsStrictlyIncreasing};
 ghost use Rattle.cw_rights.specs.Policies.{policy_of};
+ghost use Rattle.cw_resolve.specs.Own.{IsSceneOf};
 ghost use Rattle.cw_resolve.specs.Scenes.{names_of, plan_in};
 ghost use Rattle.cw_callgraph.specs.Effects.{calls, Reaches, Each};
 ghost use Rattle.cw_callgraph.specs.Tabled.{AreEffectsOf};
 ghost use Rattle.cw_callgraph.specs.Forbidding.{Forbids, IsLeast};
 ghost use Rattle.cw_callgraph.specs.Lowest.{forbidden};
+ghost use Rattle.cw_syntax.specs.Plans.{plan_of};
 ghost use Rattle.cw_syntax.specs.Trees.{file_of};
 ghost use Rattle.cw_callgraph.specs.Finding.{AreBelow, lists_of, next_in, AreReached, IsReach, AreEffects};
 ghost use Rattle.cw_callgraph.specs.Parts.{ArePartsOf};
@@ -18,9 +20,10 @@ use crate::callees::all_calls;
 use crate::lowest::soonest_among;
 use crate::reach::{Calls, reach, walked};
 use cw_core::NoMemory;
-use cw_resolve::sooner;
+use cw_resolve::{Scene, sooner};
 use cw_rights::Policy;
 use cw_syntax::checked::Checked;
+use cw_syntax::program::Program;
 use std::alloc::Global;
 
 /// What a function calls directly, each function once, in the order of its first call in the text; all functions that it
@@ -50,8 +53,9 @@ pub(crate) fn parts_of(alloc: Global, checked: &Checked, policy: &Policy) -> Res
     requires few { length checked.now.program.functions.items ≤ 65535 }
     ensures { IfOk result (λ parts. ArePartsOf checked.now (policy_of policy.now) parts) }
 {
-    let rows = all_calls(alloc, checked, policy)?;
-    let bars = all_bars(alloc, checked, policy)?;
+    let scene = Scene::under(alloc, checked, policy)?;
+    let rows = all_calls(alloc, &scene, &checked.program)?;
+    let bars = all_bars(alloc, &scene, &checked.program)?;
     Ok(Parts {
         calls: Calls { rows },
         bars,
@@ -149,6 +153,18 @@ pub fn effects(alloc: Global, checked: &Checked, policy: &Policy) -> Result<Effe
     })
 }
 
+/// What each function of a program calls in a scene of it: an entry for each function, which lists what the function calls, each function
+/// once, in the order of its first call in the text.
+pub fn calls_in(alloc: Global, scene: &Scene, program: &Program) -> Result<Vec<Vec<u16>>, NoMemory>
+    requires scene { IsSceneOf scene.now (file_of program.now) }
+    requires few { length program.now.functions.items ≤ 65535 }
+    ensures count { IfOk result (λ rows. length rows.items ≡ length program.now.functions.items) }
+    ensures calls { IfOk result (λ rows. Each (λ f row. row.items ≡ calls (plan_of scene.now.names scene.now.source (file_of program.now)) f) rows.items) }
+{
+    let rows = all_calls(alloc, scene, program)?;
+    Ok(rows)
+}
+
 /// What each function of a program calls, as in its effects, without the rest of them: an entry for each function, which lists what the
 /// function calls, each function once, in the order of its first call in the text.
 pub fn call_table(
@@ -160,6 +176,6 @@ pub fn call_table(
     ensures count { IfOk result (λ rows. length rows.items ≡ length checked.now.program.functions.items) }
     ensures calls { IfOk result (λ rows. Each (λ f row. row.items ≡ calls (plan_in checked.now (policy_of policy.now)) f) rows.items) }
 {
-    let rows = all_calls(alloc, checked, policy)?;
-    Ok(rows)
+    let scene = Scene::under(alloc, checked, policy)?;
+    calls_in(alloc, &scene, &checked.program)
 }

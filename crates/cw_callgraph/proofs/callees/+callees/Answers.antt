@@ -2,8 +2,7 @@ use Rattle.std.proofs.Common.{◌≡◌, ◌<◌, ◌+◌, List, ◌++◌, lengt
 use Rattle.std.specs.Result.{IfOk}
 use Rattle.std.proofs.lemmas.List.{at_drop_more}
 use Rattle.cw_syntax.specs.declared.program.Stmt.{Stmt}
-use Rattle.cw_rights.specs.Policies.{policy_of}
-use Rattle.cw_resolve.specs.Scenes.{scene_in, stm_in, stms_in}
+use Rattle.cw_resolve.specs.Scenes.{stm_in, stms_in}
 use Rattle.cw_resolve.proofs.Shapes.{block_steps}
 use Rattle.cw_syntax.specs.Trees.{form_of}
 use Rattle.cw_syntax.specs.Plans.{steps_of_form}
@@ -14,7 +13,7 @@ use Rattle.cw_callgraph.proofs.callees.+callees.Goals as goal
 
 pub find_callees-returns-in-Block : goal.find_callees-returns-in-Block
 find_callees-returns-in-Block t c =
-    let s = scene_in c.args.checked.now (policy_of c.args.policy.now) in
+    let s = c.args.scene.now in
     let st = c.args.statement.now in
     let is =
     ap (λ l. callees_all (stms_in s l)) c.deref.ensures.value
@@ -24,7 +23,7 @@ find_callees-returns-in-Block t c =
 
 pub find_callees-returns-in-Some : goal.find_callees-returns-in-Some
 find_callees-returns-in-Some t c =
-    let s = scene_in c.args.checked.now (policy_of c.args.policy.now) in
+    let s = c.args.scene.now in
     let st = c.args.statement.now in
     let arm = stm_in s c.deref-in-If.result.now in
     let other = stm_in s c.deref-in-Some.result.now in
@@ -34,7 +33,7 @@ find_callees-returns-in-Some t c =
 
 pub find_callees_of_all-loop-statement-preserved : goal.find_callees_of_all-loop-statement-preserved
 find_callees_of_all-loop-statement-preserved t c =
-    let s = scene_in c.args.checked.now (policy_of c.args.policy.now) in
+    let s = c.args.scene.now in
     let xs = c.args.statements.now in
     let i = c.loop-statement.statement-index in
     let x = c.statement-item.result in

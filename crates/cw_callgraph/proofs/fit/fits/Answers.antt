@@ -15,7 +15,7 @@ returns-in-None-clause-fits c =
     let policy = policy_of c.args.policy.now in
     let none : c.first_barred.result ≡ None = search rules in
     let barred =
-    ap₂ (λ (es : List Effect) (l : List (Vec ℕ Global)). first_barred es (function_names source file) 0 (map (λ n. n.items) l)) (sym c.deref.ensures.value) (sym c.deref-2.ensures.value)
+    ap₂ (λ (es : List Effect) (l : List (Vec ℕ Global)). first_barred es (function_names source file) 0 (map (λ n. n.items) l)) (sym c.deref-3.ensures.value) (sym c.deref-4.ensures.value)
     ∙ sym c.first_barred.ensures
     ∙ none
     in (
@@ -33,7 +33,7 @@ returns-in-Some-first_barred-clause-fault c =
     let place = c.in-Some-first_barred.place in
     let some : c.first_barred.result ≡ Some (function, place) = search rules in
     let barred =
-    ap₂ (λ (es : List Effect) (l : List (Vec ℕ Global)). first_barred es (function_names source file) 0 (map (λ n. n.items) l)) (sym c.deref.ensures.value) (sym c.deref-2.ensures.value)
+    ap₂ (λ (es : List Effect) (l : List (Vec ℕ Global)). first_barred es (function_names source file) 0 (map (λ n. n.items) l)) (sym c.deref-3.ensures.value) (sym c.deref-4.ensures.value)
     ∙ sym c.first_barred.ensures
     ∙ some
     in (
