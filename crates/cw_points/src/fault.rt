@@ -3,6 +3,7 @@
 ghost use Rattle.std.specs.Prelude.{◌≡◌};
 ghost use Rattle.cw_points.specs.declared.fault.PointsFault.TheVariants as fault;
 
+use cw_core::NoMemory;
 use std::alloc::AllocError;
 use thiserror::Error;
 
@@ -21,6 +22,14 @@ impl From<AllocError> for PointsFault {
     ghost from_gives = { λ _ refused. refused ≡ fault.NoMemory };
 
     fn from(_refused: AllocError) -> PointsFault {
+        PointsFault::NoMemory
+    }
+}
+
+impl From<NoMemory> for PointsFault {
+    ghost from_gives = { λ _ refused. refused ≡ fault.NoMemory };
+
+    fn from(_refused: NoMemory) -> PointsFault {
         PointsFault::NoMemory
     }
 }

@@ -3,8 +3,6 @@
 ghost use Rattle.std.specs.Prelude.{◌≡◌, ◌+◌, ◌≤◌, ℕ, length, is_some, Some, None, IfOk, OnOk};
 ghost use Rattle.cw_syntax.specs.Trees.{Stated, Evaluates, tree_of, statement_of, statements_of};
 ghost use Rattle.cw_syntax.specs.declared.program.Head.{out-Head};
-ghost use Rattle.cw_rights.specs.Policies.{policy_of};
-ghost use Rattle.cw_resolve.specs.Scenes.{scene_in};
 ghost use Rattle.cw_points.specs.Points.{one_if};
 ghost use Rattle.cw_points.specs.Sizes.{size, size_all};
 ghost use Rattle.cw_points.specs.Graphs.{first, step_nodes, test_node};
@@ -13,9 +11,7 @@ ghost use Rattle.cw_points.specs.Drawing.{drawn_of, looped, before, with_nodes, 
 use crate::count::{count, count_all};
 use crate::draft::{Draft, Ways, first};
 use crate::graph::Point;
-use cw_resolve::{Act, action_of, label_number, text};
-use cw_rights::Policy;
-use cw_syntax::checked::Checked;
+use cw_resolve::{Act, Scene, action_of};
 use cw_syntax::program::{Expr, Head, Stmt, What};
 use std::alloc::AllocError;
 
@@ -57,19 +53,18 @@ pub(crate) fn function_number(number: usize) -> u16
 /// An expression that stands at this place.
 fn lay_expression(
     draft: &mut Draft,
-    checked: &Checked,
-    policy: &Policy,
+    scene: &Scene,
     function: u16,
     e: &Expr,
     place: u32,
     ways: Ways,
 ) -> Result<(), AllocError>
-    requires descriptors { length (policy_of policy.now).descriptors ≤ 255 }
-    requires functions { length checked.now.program.functions.items ≤ 65535 }
+    requires descriptors { length scene.now.names.descriptors ≤ 255 }
+    requires functions { length scene.now.functions ≤ 65535 }
     requires few { length draft.old.nodes.items ≤ 8192 }
-    ensures { OnOk result ((to : ℕ) → drawn_of draft.new ≡ laid (scene_in checked.now (policy_of policy.now)) function (Stated (Evaluates (tree_of e.now)) place to) ways (drawn_of draft.old)) }
+    ensures { OnOk result ((to : ℕ) → drawn_of draft.new ≡ laid scene.now function (Stated (Evaluates (tree_of e.now)) place to) ways (drawn_of draft.old)) }
 {
-    match action_of(checked, policy, e) {
+    match action_of(scene, e) {
         Act::Computes => draft.put_step(function, Some(ways.next)),
         Act::Opens(d) => {
             let d = descriptor_number(d);
@@ -124,17 +119,16 @@ fn put_head(
 #[cycle(lay)]
 fn lay(
     draft: &mut Draft,
-    checked: &Checked,
-    policy: &Policy,
+    scene: &Scene,
     function: u16,
     statement: &Stmt,
     ways: Ways,
 ) -> Result<(), AllocError>
-    requires labels { length (policy_of policy.now).labels ≤ 65535 }
-    requires descriptors { length (policy_of policy.now).descriptors ≤ 255 }
-    requires functions { length checked.now.program.functions.items ≤ 65535 }
+    requires labels { length scene.now.names.labels ≤ 65535 }
+    requires descriptors { length scene.now.names.descriptors ≤ 255 }
+    requires functions { length scene.now.functions ≤ 65535 }
     requires few { length draft.old.nodes.items + size (statement_of statement.now) ≤ 8192 }
-    ensures { OnOk result (drawn_of draft.new ≡ laid (scene_in checked.now (policy_of policy.now)) function (statement_of statement.now) ways (drawn_of draft.old)) }
+    ensures { OnOk result (drawn_of draft.new ≡ laid scene.now function (statement_of statement.now) ways (drawn_of draft.old)) }
 {
     match &statement.what {
         What::Decl(_) => draft.put_step(function, Some(ways.next)),
@@ -142,21 +136,21 @@ fn lay(
         What::Break => draft.put_step(function, ways.broken),
         What::Continue => draft.put_step(function, ways.continued),
         What::Return(_) => draft.put_step(function, Some(ways.exit)),
-        What::Expr(e) => lay_expression(draft, checked, policy, function, e, statement.from, ways),
-        What::Block(statements) => lay_all(draft, checked, policy, function, statements, ways),
+        What::Expr(e) => lay_expression(draft, scene, function, e, statement.from, ways),
+        What::Block(statements) => lay_all(draft, scene, function, statements, ways),
         What::Label(name, mark, body) => {
-            let label = label_number(policy, text(checked, *name));
+            let label = scene.label_number(scene.text(*name));
             let at = draft.next_point();
             let next = first(count(body), at + 1, ways.next);
             draft.put_seam(Point::Label(label), function, next, *mark, None)?;
-            lay(draft, checked, policy, function, body, ways)
+            lay(draft, scene, function, body, ways)
         }
         What::If(_, arm, other) => match other {
             None => {
                 let at = draft.next_point();
                 let holds = first(count(arm), at + 1, ways.next);
                 draft.put_branch(function, holds, ways.next)?;
-                lay(draft, checked, policy, function, arm, ways)
+                lay(draft, scene, function, arm, ways)
             }
             Some(other) => {
                 let at = draft.next_point();
@@ -164,25 +158,25 @@ fn lay(
                 let holds = first(own, at + 1, ways.next);
                 let fails = first(count(other), at + 1 + own, ways.next);
                 draft.put_branch(function, holds, fails)?;
-                lay(draft, checked, policy, function, arm, ways)?;
-                lay(draft, checked, policy, function, other, ways)
+                lay(draft, scene, function, arm, ways)?;
+                lay(draft, scene, function, other, ways)
             }
         },
         What::While(_, body) => {
             let at = draft.next_point();
             let holds = first(count(body), at + 1, at);
             draft.put_branch(function, holds, ways.next)?;
-            lay(draft, checked, policy, function, body, looped(ways, at))
+            lay(draft, scene, function, body, looped(ways, at))
         }
         What::Do(body, _) => {
             let at = draft.next_point();
             let test = at + count(body);
-            lay(draft, checked, policy, function, body, looped(ways, test))?;
+            lay(draft, scene, function, body, looped(ways, test))?;
             draft.put_branch(function, at, ways.next)
         }
         What::For(head, body) => {
             let turn = put_head(draft, function, head, count(body), ways.next)?;
-            lay(draft, checked, policy, function, body, looped(ways, turn))
+            lay(draft, scene, function, body, looped(ways, turn))
         }
     }
 }
@@ -191,17 +185,16 @@ fn lay(
 #[cycle(lay)]
 pub(crate) fn lay_all(
     draft: &mut Draft,
-    checked: &Checked,
-    policy: &Policy,
+    scene: &Scene,
     function: u16,
     statements: &[Stmt],
     ways: Ways,
 ) -> Result<(), AllocError>
-    requires labels { length (policy_of policy.now).labels ≤ 65535 }
-    requires descriptors { length (policy_of policy.now).descriptors ≤ 255 }
-    requires functions { length checked.now.program.functions.items ≤ 65535 }
+    requires labels { length scene.now.names.labels ≤ 65535 }
+    requires descriptors { length scene.now.names.descriptors ≤ 255 }
+    requires functions { length scene.now.functions ≤ 65535 }
     requires few { length draft.old.nodes.items + size_all (statements_of statements.now) ≤ 8192 }
-    ensures { OnOk result (drawn_of draft.new ≡ laid_all (scene_in checked.now (policy_of policy.now)) function (statements_of statements.now) ways (drawn_of draft.old)) }
+    ensures { OnOk result (drawn_of draft.new ≡ laid_all scene.now function (statements_of statements.now) ways (drawn_of draft.old)) }
 {
     let mut left = count_all(statements);
     for statement in statements {
@@ -209,14 +202,7 @@ pub(crate) fn lay_all(
         left -= own;
         let at = draft.next_point();
         let next = first(left, at + own, ways.next);
-        lay(
-            draft,
-            checked,
-            policy,
-            function,
-            statement,
-            before(ways, next),
-        )?;
+        lay(draft, scene, function, statement, before(ways, next))?;
     }
     Ok(())
 }

@@ -1,7 +1,5 @@
 use Rattle.std.proofs.Common.{◌+◌, length, ap, refl, ◌∙◌}
 use Rattle.cw_syntax.specs.Trees.{statements_of, definition_of}
-use Rattle.cw_rights.specs.Policies.{policy_of}
-use Rattle.cw_resolve.specs.Scenes.{scene_in}
 use Rattle.cw_points.specs.Sizes.{size_all, capped}
 use Rattle.cw_points.specs.Drawing.{drawn_of, laid_all}
 use Rattle.cw_points.proofs.Functions.{laid_function, function_ways}
@@ -10,7 +8,7 @@ use Rattle.cw_points.proofs.build.lay_function.Goals as goal
 
 pub returns-clause-drawn : goal.returns-clause-drawn
 returns-clause-drawn c =
-    let s = scene_in c.args.checked.now (policy_of c.args.policy.now) in
+    let s = c.args.scene.now in
     let d = drawn_of c.args.draft.now in
     let exit = c.next_point-entry.result + 1 + c.count_all-size.result in
     let begun = drawn_of c.put_seam.new.self in

@@ -6,8 +6,6 @@ use Rattle.cw_syntax.specs.Trees.{Block, Labels, Chooses, Whiles, Does, Fors, no
 use Rattle.std.specs.Prelude.{option_map, is_some}
 use Rattle.cw_syntax.specs.declared.program.Head.{Head, out-Head}
 use Rattle.cw_syntax.specs.Names.{number_or_other}
-use Rattle.cw_rights.specs.Policies.{policy_of}
-use Rattle.cw_resolve.specs.Scenes.{scene_in}
 use Rattle.cw_points.specs.Graphs.{branch, first}
 use Rattle.cw_points.specs.Sizes.{size, capped}
 use Rattle.cw_points.specs.Drawing.{drawn_of, laid_all}
@@ -21,7 +19,7 @@ use Rattle.cw_points.proofs.lay.+lay.Goals as goal
 
 pub lay-returns-in-Decl : goal.lay-returns-in-Decl
 lay-returns-in-Decl t c =
-    let sc = scene_in c.args.checked.now (policy_of c.args.policy.now) in
+    let sc = c.args.scene.now in
     let s = c.args.statement.now in
     let d = drawn_of c.args.draft.now in
     on_ok c.put_step.result c.put_step.ensures (λ h. at_form sc c.args.function s _ c.args.ways d (drawn_of c.put_step.new.self) (ap form_of c.in-Decl.is)
@@ -29,7 +27,7 @@ lay-returns-in-Decl t c =
 
 pub lay-returns-in-Empty : goal.lay-returns-in-Empty
 lay-returns-in-Empty t c =
-    let sc = scene_in c.args.checked.now (policy_of c.args.policy.now) in
+    let sc = c.args.scene.now in
     let s = c.args.statement.now in
     let d = drawn_of c.args.draft.now in
     on_ok c.put_step-in-Empty.result c.put_step-in-Empty.ensures (λ h. at_form sc c.args.function s _ c.args.ways d (drawn_of c.put_step-in-Empty.new.self) (ap form_of c.in-Empty.is)
@@ -37,7 +35,7 @@ lay-returns-in-Empty t c =
 
 pub lay-returns-in-Break : goal.lay-returns-in-Break
 lay-returns-in-Break t c =
-    let sc = scene_in c.args.checked.now (policy_of c.args.policy.now) in
+    let sc = c.args.scene.now in
     let s = c.args.statement.now in
     let d = drawn_of c.args.draft.now in
     on_ok c.put_step-in-Break.result c.put_step-in-Break.ensures (λ h. at_form sc c.args.function s _ c.args.ways d (drawn_of c.put_step-in-Break.new.self) (ap form_of c.in-Break.is)
@@ -45,7 +43,7 @@ lay-returns-in-Break t c =
 
 pub lay-returns-in-Continue : goal.lay-returns-in-Continue
 lay-returns-in-Continue t c =
-    let sc = scene_in c.args.checked.now (policy_of c.args.policy.now) in
+    let sc = c.args.scene.now in
     let s = c.args.statement.now in
     let d = drawn_of c.args.draft.now in
     on_ok c.put_step-in-Continue.result c.put_step-in-Continue.ensures (λ h. at_form sc c.args.function s _ c.args.ways d (drawn_of c.put_step-in-Continue.new.self)
@@ -53,7 +51,7 @@ lay-returns-in-Continue t c =
 
 pub lay-returns-in-Return : goal.lay-returns-in-Return
 lay-returns-in-Return t c =
-    let sc = scene_in c.args.checked.now (policy_of c.args.policy.now) in
+    let sc = c.args.scene.now in
     let s = c.args.statement.now in
     let d = drawn_of c.args.draft.now in
     on_ok c.put_step-in-Return.result c.put_step-in-Return.ensures (λ h. at_form sc c.args.function s _ c.args.ways d (drawn_of c.put_step-in-Return.new.self) (ap form_of c.in-Return.is)
@@ -61,7 +59,7 @@ lay-returns-in-Return t c =
 
 pub lay-returns-in-Block : goal.lay-returns-in-Block
 lay-returns-in-Block t c =
-    let sc = scene_in c.args.checked.now (policy_of c.args.policy.now) in
+    let sc = c.args.scene.now in
     let s = c.args.statement.now in
     let d = drawn_of c.args.draft.now in
     let ss = statements_of c.in-Block.statements.items in
@@ -71,7 +69,7 @@ lay-returns-in-Block t c =
 
 pub lay-returns-in_ok-put_seam-in-Label : goal.lay-returns-in_ok-put_seam-in-Label
 lay-returns-in_ok-put_seam-in-Label t c =
-    let sc = scene_in c.args.checked.now (policy_of c.args.policy.now) in
+    let sc = c.args.scene.now in
     let s = c.args.statement.now in
     let d = drawn_of c.args.draft.now in
     let body = statement_of c.in-Label.body.value in
@@ -86,7 +84,7 @@ lay-returns-in_ok-put_seam-in-Label t c =
 
 pub lay-returns-in_ok-put_branch-in-None : goal.lay-returns-in_ok-put_branch-in-None
 lay-returns-in_ok-put_branch-in-None t c =
-    let sc = scene_in c.args.checked.now (policy_of c.args.policy.now) in
+    let sc = c.args.scene.now in
     let s = c.args.statement.now in
     let d = drawn_of c.args.draft.now in
     let arm = statement_of c.in-If.arm.value in
@@ -102,7 +100,7 @@ lay-returns-in_ok-put_branch-in-None t c =
 
 pub lay-returns-in_ok-put_branch-in-While : goal.lay-returns-in_ok-put_branch-in-While
 lay-returns-in_ok-put_branch-in-While t c =
-    let sc = scene_in c.args.checked.now (policy_of c.args.policy.now) in
+    let sc = c.args.scene.now in
     let s = c.args.statement.now in
     let d = drawn_of c.args.draft.now in
     let body = statement_of c.in-While.body.value in
@@ -118,7 +116,7 @@ lay-returns-in_ok-put_branch-in-While t c =
 
 pub lay-returns-in_ok-lay-in-Do : goal.lay-returns-in_ok-lay-in-Do
 lay-returns-in_ok-lay-in-Do t c =
-    let sc = scene_in c.args.checked.now (policy_of c.args.policy.now) in
+    let sc = c.args.scene.now in
     let s = c.args.statement.now in
     let d = drawn_of c.args.draft.now in
     let body = statement_of c.in-Do.body.value in
@@ -134,7 +132,7 @@ lay-returns-in_ok-lay-in-Do t c =
 
 pub lay-returns-in_ok-turn-in-For : goal.lay-returns-in_ok-turn-in-For
 lay-returns-in_ok-turn-in-For t c =
-    let sc = scene_in c.args.checked.now (policy_of c.args.policy.now) in
+    let sc = c.args.scene.now in
     let s = c.args.statement.now in
     let d = drawn_of c.args.draft.now in
     let body = statement_of c.in-For.body.value in
@@ -153,7 +151,7 @@ lay-returns-in_ok-turn-in-For t c =
 
 pub lay_all-loop-statement-preserved : goal.lay_all-loop-statement-preserved
 lay_all-loop-statement-preserved t c =
-    let sc = scene_in c.args.checked.now (policy_of c.args.policy.now) in
+    let sc = c.args.scene.now in
     let ss = c.args.statements.now in
     let s = c.statement-item.result in
     let i = c.loop-statement.statement-index in
@@ -175,7 +173,7 @@ lay_all-loop-statement-preserved t c =
 
 pub lay_all-returns : goal.lay_all-returns
 lay_all-returns t c =
-    let sc = scene_in c.args.checked.now (policy_of c.args.policy.now) in
+    let sc = c.args.scene.now in
     let ss = c.args.statements.now in
     let i = c.loop-statement.statement-index in
     let d = drawn_of c.loop-statement.draft in
@@ -184,7 +182,7 @@ lay_all-returns t c =
 
 pub lay-returns-in_ok-lay-in-Some : goal.lay-returns-in_ok-lay-in-Some
 lay-returns-in_ok-lay-in-Some t c =
-    let sc = scene_in c.args.checked.now (policy_of c.args.policy.now) in
+    let sc = c.args.scene.now in
     let s = c.args.statement.now in
     let d = drawn_of c.args.draft.now in
     let arm = statement_of c.in-If.arm.value in
@@ -280,7 +278,7 @@ lay-lay-requires-in-Some-2 t c = (
       c.requires.descriptors,
       (
         c.requires.functions,
-        other_room c.args.statement.now (drawn_of c.args.draft.now) c.requires.few (scene_in c.args.checked.now (policy_of c.args.policy.now)) c.args.function c.args.ways
+        other_room c.args.statement.now (drawn_of c.args.draft.now) c.requires.few c.args.scene.now c.args.function c.args.ways
             (tree_of c.in-If.field-0) (statement_of c.in-If.arm.value) (statement_of c.deref-in-Some-3.result.now) (statement_of c.in-Some.other.value) (statement_of c.deref-in-Some-4.result.now)
             (branch c.args.function c.first-holds-in-Some.result c.first-fails.result) (drawn_of c.put_branch-in-Some.new.self) (drawn_of c.lay-in-Some.new.draft)
             (ap form_of (c.in-If.is ∙ ap (If c.in-If.field-0 c.in-If.arm) c.in-Some.is)) (ap statement_of c.deref-in-Some-3.ensures) (ap statement_of c.deref-in-Some-4.ensures)

@@ -1,7 +1,5 @@
 use Rattle.std.proofs.Common.{◌≡◌, ◌+◌, ◌≤◌, length, drop}
 use Rattle.cw_syntax.specs.Trees.{statements_of}
-use Rattle.cw_rights.specs.Policies.{policy_of}
-use Rattle.cw_resolve.specs.Scenes.{scene_in}
 use Rattle.cw_points.specs.Sizes.{size_all}
 use Rattle.cw_points.specs.Drawing.{drawn_of, laid_all}
 use Rattle.cw_points.proofs.lay.+lay.Given as goal
@@ -10,6 +8,6 @@ abbrev pub invariant-lay_all-loop-statement : goal.invariant-lay_all-loop-statem
 invariant-lay_all-loop-statement l = record {
   few : length l.draft.nodes.items + size_all (statements_of (drop l.statement-index l.statements)) ≤ 8192;
   left : l.left ≡ size_all (statements_of (drop l.statement-index l.statements));
-  drawn : laid_all (scene_in l.checked (policy_of l.policy)) l.function (statements_of (drop l.statement-index l.statements)) l.ways (drawn_of l.draft) ≡ laid_all
-      (scene_in l.checked (policy_of l.policy)) l.function (statements_of l.statements) l.ways (drawn_of l.initial.draft);
+  drawn : laid_all l.scene l.function (statements_of (drop l.statement-index l.statements)) l.ways (drawn_of l.draft) ≡ laid_all
+      l.scene l.function (statements_of l.statements) l.ways (drawn_of l.initial.draft);
 }

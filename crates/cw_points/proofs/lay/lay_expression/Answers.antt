@@ -1,10 +1,6 @@
-use Rattle.std.proofs.Common.{◌≡◌, ◌<◌, None, length, map, ap, sym, subst, ◌∙◌, arith}
-use Rattle.std.proofs.lemmas.List.{length-map}
-use Rattle.cw_syntax.specs.Names.{text}
-use Rattle.cw_syntax.specs.Trees.{Definition, definition_of, tree_of}
+use Rattle.std.proofs.Common.{◌≡◌, ◌<◌, None, length, ap, sym, subst, ◌∙◌, arith}
+use Rattle.cw_syntax.specs.Trees.{tree_of}
 use Rattle.cw_syntax.specs.Plans.{Callee, Opens, Closes, Invokes, action_of}
-use Rattle.cw_rights.specs.Policies.{PlainDescriptor, policy_of}
-use Rattle.cw_resolve.specs.Scenes.{scene_in}
 use Rattle.cw_resolve.proofs.Acting.{action_in, acts_back}
 use Rattle.cw_resolve.proofs.Bounds.{IsWithin, acts_within}
 use Rattle.cw_points.specs.declared.graph.Point.TheVariants as point
@@ -15,7 +11,7 @@ use Rattle.cw_points.proofs.lay.lay_expression.Goals as goal
 
 pub returns-in-Computes : goal.returns-in-Computes
 returns-in-Computes c =
-    let s = scene_in c.args.checked.now (policy_of c.args.policy.now) in
+    let s = c.args.scene.now in
     let e = tree_of c.args.e.now in
     let d = drawn_of c.args.draft.now in
     let act = sym (acts_back (action_of s e)) ∙ ap action_in (sym c.action_of.ensures.act ∙ c.in-Computes.is) in
@@ -23,7 +19,7 @@ returns-in-Computes c =
 
 pub returns-in-Opens : goal.returns-in-Opens
 returns-in-Opens c =
-    let s = scene_in c.args.checked.now (policy_of c.args.policy.now) in
+    let s = c.args.scene.now in
     let e = tree_of c.args.e.now in
     let d = drawn_of c.args.draft.now in
     let act = sym (acts_back (action_of s e)) ∙ ap action_in (sym c.action_of.ensures.act ∙ c.in-Opens.is) in
@@ -33,7 +29,7 @@ returns-in-Opens c =
 
 pub returns-in-Closes : goal.returns-in-Closes
 returns-in-Closes c =
-    let s = scene_in c.args.checked.now (policy_of c.args.policy.now) in
+    let s = c.args.scene.now in
     let e = tree_of c.args.e.now in
     let d = drawn_of c.args.draft.now in
     let act = sym (acts_back (action_of s e)) ∙ ap action_in (sym c.action_of.ensures.act ∙ c.in-Closes.is) in
@@ -43,7 +39,7 @@ returns-in-Closes c =
 
 pub returns-in-Invokes : goal.returns-in-Invokes
 returns-in-Invokes c =
-    let s = scene_in c.args.checked.now (policy_of c.args.policy.now) in
+    let s = c.args.scene.now in
     let e = tree_of c.args.e.now in
     let d = drawn_of c.args.draft.now in
     let callee : Callee = record { number = c.in-Invokes.callee; split = c.in-Invokes.split; result = c.in-Invokes.taken } in
@@ -54,31 +50,25 @@ returns-in-Invokes c =
 
 pub descriptor_number-d-requires : goal.descriptor_number-d-requires
 descriptor_number-d-requires c =
-    let policy = policy_of c.args.policy.now in
-    let s = scene_in c.args.checked.now policy in
+    let s = c.args.scene.now in
     let e = tree_of c.args.e.now in
     let act : action_of s e ≡ Opens c.in-Opens.d = sym (acts_back (action_of s e)) ∙ ap action_in (sym c.action_of.ensures.act ∙ c.in-Opens.is) in
     let within : c.in-Opens.d < length s.names.descriptors = subst (IsWithin s) act (acts_within s e) in
-    record { few = omega (arith, within, length-map policy.descriptors (λ (d : PlainDescriptor). d.name), c.requires.descriptors) }
+    record { few = omega (arith, within, c.requires.descriptors) }
 
 pub descriptor_number-d-requires-in-Closes : goal.descriptor_number-d-requires-in-Closes
 descriptor_number-d-requires-in-Closes c =
-    let policy = policy_of c.args.policy.now in
-    let s = scene_in c.args.checked.now policy in
+    let s = c.args.scene.now in
     let e = tree_of c.args.e.now in
     let act : action_of s e ≡ Closes c.in-Closes.d = sym (acts_back (action_of s e)) ∙ ap action_in (sym c.action_of.ensures.act ∙ c.in-Closes.is) in
     let within : c.in-Closes.d < length s.names.descriptors = subst (IsWithin s) act (acts_within s e) in
-    record { few = omega (arith, within, length-map policy.descriptors (λ (d : PlainDescriptor). d.name), c.requires.descriptors) }
+    record { few = omega (arith, within, c.requires.descriptors) }
 
 pub function_number-callee-requires : goal.function_number-callee-requires
 function_number-callee-requires c =
-    let checked = c.args.checked.now in
-    let items = checked.program.functions.items in
-    let s = scene_in checked (policy_of c.args.policy.now) in
+    let s = c.args.scene.now in
     let e = tree_of c.args.e.now in
     let callee : Callee = record { number = c.in-Invokes.callee; split = c.in-Invokes.split; result = c.in-Invokes.taken } in
     let act : action_of s e ≡ Invokes callee = sym (acts_back (action_of s e)) ∙ ap action_in (sym c.action_of.ensures.act ∙ c.in-Invokes.is) in
     let within : c.in-Invokes.callee < length s.functions = subst (IsWithin s) act (acts_within s e) in
-    record {
-      few = omega (arith, within, length-map (map definition_of items) (λ (f : Definition). text checked.source.now f.name), length-map items definition_of, c.requires.functions);
-    }
+    record { few = omega (arith, within, c.requires.functions) }
