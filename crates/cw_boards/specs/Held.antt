@@ -1,5 +1,5 @@
 -- Boards as the program holds them, and the boards that they stand for. `checked` and `policy` are the program's own.
-use Rattle.std.specs.Prelude.{◌↔◌, ◌+◌, ◌<◌, IsTrue, ℕ, List, [], ◌∷◌, Option, Some, None, map, drop}
+use Rattle.std.specs.Prelude.{◌≡◌, ◌↔◌, ◌+◌, ◌<◌, IsTrue, ℕ, List, [], ◌∷◌, Option, Some, None, map, drop, codes}
 use Rattle.std.specs.declared.collections.VecDeque.{VecDeque}
 use Rattle.std.specs.declared.alloc.Global.{Global}
 use Rattle.cw_rights.specs.declared.capabilities.Primitive.{Primitive}
@@ -7,9 +7,10 @@ use Rattle.cw_rights.specs.declared.policy.Policy.{Policy}
 use Rattle.cw_rights.specs.Policies.{PlainPolicy, policy_of}
 use Rattle.cw_certs.specs.declared.moves.Move.{Move}
 use Rattle.cw_syntax.specs.declared.checked.Checked.{Checked}
-use Rattle.cw_syntax.specs.Trees.{file_of}
+use Rattle.cw_syntax.specs.Names.{number_or_other}
+use Rattle.cw_syntax.specs.Trees.{definition_of, file_of}
 use Rattle.cw_syntax.specs.declared.program.Function.{Function}
-use Rattle.cw_syntax.specs.Plans.{Plain, Group, end, Scene, numbered, seams_all}
+use Rattle.cw_syntax.specs.Plans.{Plain, Group, end, Scene, numbered, seams_all, routines_from, Plan}
 use Rattle.cw_syntax.specs.Frames.{Item, Entry, Todo, Test, After as AfterItem, Mark, End, Frame}
 use Rattle.cw_resolve.specs.Scenes.{scene_in, stm_in, stms_in}
 use Rattle.cw_model.specs.Boards.{Problem, problem_of, Phase, Asked, Refused, FreeSplit, Over, Board, primitives_in, onward, Violates, Moves}
@@ -29,6 +30,10 @@ scene checked policy = scene_in checked (policy_of policy)
 -- the program of a source under a policy
 abbrev pub problem : Checked → Policy → Problem
 problem checked policy = problem_of (policy_of policy) checked.source.now (file_of checked.program)
+
+-- the plan of these functions, by the names of a scene
+abbrev pub plan_by : Scene → List Function → Plan
+plan_by s fs = record { routines = routines_from s 0 (map definition_of fs); main = number_or_other s.functions (codes "main") }
 
 -- a statement that is still to do is held with the number of its first seam
 abbrev pub item_of : Scene → Held → Item
@@ -90,8 +95,9 @@ seams_before s (f ∷ fs) = 1 + seams_all (stms_in s f.body.items) + seams_befor
 abbrev pub HasFewSeams : Checked → Policy → Type 0
 HasFewSeams checked policy = seams_before (scene checked policy) checked.program.functions.items < most_seams
 
--- a board of this source and policy: it says of itself whether it violates, and its seams have such numbers
+-- a board of this source and policy: it has their names, says of itself whether it violates, and its seams have such numbers
 pub record IsBoard (checked : Checked) (policy : Policy) (held : HeldBoard) : Type 0 where
+  pub named : held.scene ≡ scene checked policy
   pub judged : IsTrue held.violates ↔ Violates (problem checked policy) (board_of checked policy held)
   pub few : HasFewSeams checked policy
   pub below : StackBelow most_seams (board_of checked policy held).stack

@@ -6,8 +6,9 @@ ghost use Rattle.cw_syntax.specs.Plans.{Scene};
 ghost use Rattle.cw_rights.specs.Capabilities.{applied};
 ghost use Rattle.cw_rights.specs.Valid.{IsValid};
 ghost use Rattle.cw_syntax.specs.Frames.{pass};
+ghost use Rattle.cw_resolve.specs.Scenes.{scene_in};
 ghost use Rattle.cw_model.specs.Boards.{landed, stepped, way_of, begin, Violates, start_board, mode_of};
-ghost use Rattle.cw_boards.specs.Held.{scene, primitives_at, phase_by, stack_in, board_in, board_of, problem, seams_before, HasFewSeams, IsBoard, After};
+ghost use Rattle.cw_boards.specs.Held.{primitives_at, phase_by, stack_in, board_in, board_of, problem, seams_before, HasFewSeams, IsBoard, After};
 ghost use Rattle.cw_boards.specs.Numbered.{most_seams, StackBelow};
 ghost use Rattle.cw_boards.specs.Choices.{chosen};
 ghost use Rattle.cw_boards.specs.Kinds.{front_kind};
@@ -18,12 +19,13 @@ use crate::changes::{caps_after, is_bad_with, kept_after, reached_letter, way_of
 use crate::choices::{Choice, Phase, choice_of};
 use crate::fault::BoardFault;
 use crate::items::Item;
-use crate::kinds::{FrontKind, front_kind};
+use crate::kinds::FrontKind;
 use crate::seams::seams_before;
-use crate::steps::{pass, start_stack};
+use crate::sourced::{front_kind, pass, start_stack};
 use crate::turns::Way;
 use cw_certs::Move;
 use cw_core::NoMemory;
+use cw_resolve::Scene;
 use cw_rights::policy::start_caps;
 use cw_rights::{Caps, Letter, Policy, Primitive, open_hold};
 use cw_syntax::checked::Checked;
@@ -41,11 +43,12 @@ pub(crate) struct State<'s> {
     pub(crate) phase: Phase,
 }
 
-/// A board of a program under a policy, in the source's lifetime.
+/// A board of a program under a policy, in the lifetime of both.
 #[derive(Drop)]
 pub struct Board<'s> {
     pub(crate) state: State<'s>,
     pub(crate) violates: bool,
+    pub(crate) scene: Scene<'s>,
 }
 
 /// The phase in which a front begins.
@@ -68,6 +71,7 @@ fn mode_of(split: bool, caps: Caps) -> Option<Caps>
 /// The board after a step of the program, whose front item is of this kind.
 fn landed<'s>(
     alloc: Global,
+    scene: &Scene,
     checked: &'s Checked<'s>,
     policy: &Policy,
     state: State<'s>,
@@ -76,9 +80,10 @@ fn landed<'s>(
     way: Way,
 ) -> Result<Option<State<'s>>, AllocError>
     requires valid { IsValid (policy_of policy.now) }
+    requires scene { scene.now ≡ scene_in checked.now (policy_of policy.now) }
     requires few { HasFewSeams checked.now policy.now }
-    requires below { StackBelow most_seams (stack_in (scene checked.now policy.now) state.stack) }
-    requires kind { front_kind (stack_in (scene checked.now policy.now) state.stack) ≡ Some kind }
+    requires below { StackBelow most_seams (stack_in (scene_in checked.now (policy_of policy.now)) state.stack) }
+    requires kind { front_kind (stack_in (scene_in checked.now (policy_of policy.now)) state.stack) ≡ Some kind }
     ensures { IfOk result (λ o. option_map (board_in checked.now policy.now) o ≡ stepped (problem checked.now policy.now) (mode_of split state.entry.caps) (board_in checked.now policy.now state.entry) (Some (way_in way))) }
 {
     let State {
@@ -88,7 +93,7 @@ fn landed<'s>(
         word,
         phase: _,
     } = state;
-    match pass(alloc, checked, policy, stack, way)? {
+    match pass(alloc, scene, checked, policy, stack, way)? {
         None => Ok(None),
         Some(next) => {
             let after = caps_after(policy, kind, &kept, way, caps);
@@ -109,6 +114,7 @@ fn landed<'s>(
 /// The board after a step of the program by this move, where it is one.
 fn stepped<'s>(
     alloc: Global,
+    scene: &Scene,
     checked: &'s Checked<'s>,
     policy: &Policy,
     state: State<'s>,
@@ -116,15 +122,16 @@ fn stepped<'s>(
     by: Move,
 ) -> Result<Option<State<'s>>, AllocError>
     requires valid { IsValid (policy_of policy.now) }
+    requires scene { scene.now ≡ scene_in checked.now (policy_of policy.now) }
     requires few { HasFewSeams checked.now policy.now }
-    requires below { StackBelow most_seams (stack_in (scene checked.now policy.now) state.stack) }
+    requires below { StackBelow most_seams (stack_in (scene_in checked.now (policy_of policy.now)) state.stack) }
     ensures { IfOk result (λ o. option_map (board_in checked.now policy.now) o ≡ stepped (problem checked.now policy.now) (mode_of split state.entry.caps) (board_in checked.now policy.now state.entry) (way_of by)) }
 {
     match way_of(by) {
         None => Ok(None),
-        Some(way) => match front_kind(checked, policy, &state.stack) {
+        Some(way) => match front_kind(scene, checked, policy, &state.stack) {
             None => Ok(None),
-            Some(kind) => landed(alloc, checked, policy, state, split, kind, way),
+            Some(kind) => landed(alloc, scene, checked, policy, state, split, kind, way),
         },
     }
 }
@@ -149,6 +156,7 @@ fn applied(caps: Caps, prim: Primitive) -> Caps
 /// The board after a choice.
 fn chosen<'s>(
     alloc: Global,
+    scene: &Scene,
     checked: &'s Checked<'s>,
     policy: &Policy,
     state: State<'s>,
@@ -156,8 +164,9 @@ fn chosen<'s>(
     by: Move,
 ) -> Result<Option<State<'s>>, AllocError>
     requires valid { IsValid (policy_of policy.now) }
+    requires scene { scene.now ≡ scene_in checked.now (policy_of policy.now) }
     requires few { HasFewSeams checked.now policy.now }
-    requires below { StackBelow most_seams (stack_in (scene checked.now policy.now) state.stack) }
+    requires below { StackBelow most_seams (stack_in (scene_in checked.now (policy_of policy.now)) state.stack) }
     ensures { IfOk result (λ o. option_map (board_in checked.now policy.now) o ≡ chosen (problem checked.now policy.now) (board_in checked.now policy.now state.entry) choice by) }
 {
     match choice {
@@ -171,27 +180,30 @@ fn chosen<'s>(
                 ..state
             }))
         }
-        Choice::Steps { split } => stepped(alloc, checked, policy, state, split, by),
+        Choice::Steps { split } => stepped(alloc, scene, checked, policy, state, split, by),
     }
 }
 
 /// A board with whether it violates.
 fn judged<'s>(
+    scene: Scene<'s>,
     checked: &Checked<'s>,
     policy: &Policy,
     state: State<'s>,
 ) -> Result<Board<'s>, AllocError>
     requires valid { IsValid (policy_of policy.now) }
+    requires scene { scene ≡ scene_in checked.now (policy_of policy.now) }
     requires few { HasFewSeams checked.now policy.now }
-    requires below { StackBelow most_seams (stack_in (scene checked.now policy.now) state.stack) }
+    requires below { StackBelow most_seams (stack_in (scene_in checked.now (policy_of policy.now)) state.stack) }
     ensures same { IfOk result (λ b. board_of checked.now policy.now b ≡ board_in checked.now policy.now state.entry) }
     ensures board { IfOk result (λ b. IsBoard checked.now policy.now b) }
 {
-    let kind = front_kind(checked, policy, &state.stack);
+    let kind = front_kind(&scene, checked, policy, &state.stack);
     match reached_letter(policy, kind, state.caps, state.phase) {
         None => Ok(Board {
             state,
             violates: false,
+            scene,
         }),
         Some(letter) => {
             let State {
@@ -209,7 +221,11 @@ fn judged<'s>(
                 word,
                 phase,
             };
-            Ok(Board { state, violates })
+            Ok(Board {
+                state,
+                violates,
+                scene,
+            })
         }
     }
 }
@@ -219,17 +235,18 @@ fn judged<'s>(
 pub fn board_start<'s>(
     alloc: Global,
     checked: &'s Checked<'s>,
-    policy: &Policy,
+    policy: &'s Policy,
 ) -> Result<Board<'s>, BoardFault>
     requires { IsValid (policy_of policy.now) }
     ensures start { IfOk result (λ b. board_of checked.now policy.now b ≡ start_board (problem checked.now policy.now)) }
     ensures board { IfOk result (λ b. IsBoard checked.now policy.now b) }
-    ensures many { IfErr result (λ fault. fault ≡ BoardFault.TooManySeams → most_seams ≤ seams_before (scene checked.now policy.now) checked.now.program.functions.items) }
+    ensures many { IfErr result (λ fault. fault ≡ BoardFault.TooManySeams → most_seams ≤ seams_before (scene_in checked.now (policy_of policy.now)) checked.now.program.functions.items) }
 {
-    if seams_before(checked, policy, &checked.program.functions) == usize::MAX {
+    let scene = Scene::under(alloc, checked, policy)?;
+    if seams_before(&scene, &checked.program.functions) == usize::MAX {
         return Err(BoardFault::TooManySeams);
     }
-    let stack = start_stack(alloc, checked, policy)?;
+    let stack = start_stack(alloc, &scene, checked, policy)?;
     let phase = begin(&stack);
     let mut kept = VecDeque::new(alloc);
     let mode: Option<Caps> = None;
@@ -243,7 +260,7 @@ pub fn board_start<'s>(
         word: Vec::new(alloc),
         phase,
     };
-    let board = judged(checked, policy, state)?;
+    let board = judged(scene, checked, policy, state)?;
     Ok(board)
 }
 
@@ -259,16 +276,20 @@ pub fn board_move<'s>(
     requires board { IsBoard checked.now policy.now board }
     ensures { IfOk result (λ o. After checked.now policy.now board.entry by o) }
 {
-    let Board { state, violates } = board;
+    let Board {
+        state,
+        violates,
+        scene,
+    } = board;
     if violates {
         return Ok(None);
     }
-    let kind = front_kind(checked, policy, &state.stack);
+    let kind = front_kind(&scene, checked, policy, &state.stack);
     let choice = choice_of(policy, kind, &state.caps, state.phase, by);
-    match chosen(alloc, checked, policy, state, choice, by)? {
+    match chosen(alloc, &scene, checked, policy, state, choice, by)? {
         None => Ok(None),
         Some(next) => {
-            let after = judged(checked, policy, next)?;
+            let after = judged(scene, checked, policy, next)?;
             Ok(Some(after))
         }
     }

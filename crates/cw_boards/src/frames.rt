@@ -4,16 +4,14 @@ ghost use Rattle.std.specs.Prelude.{◌≡◌, ◌∷◌, IfOk, option_map, is_s
 ghost use Rattle.cw_syntax.specs.Plans.{Scene, numbered, numbered_all};
 ghost use Rattle.cw_syntax.specs.Frames.{Todo, Test, Mark, items_of, init_if, settle, broken, continued, ended};
 ghost use Rattle.cw_syntax.specs.declared.program.Head.{out-Head};
-ghost use Rattle.cw_rights.specs.Policies.{policy_of};
 ghost use Rattle.cw_resolve.specs.Scenes.{stm_in, stms_in};
-ghost use Rattle.cw_boards.specs.Held.{scene, item_of, frame_in};
+ghost use Rattle.cw_boards.specs.Held.{item_of, frame_in};
 ghost use Rattle.cw_boards.specs.Numbered.{most_seams, SeamsBelow, AllSeamsBelow, ItemBelow, FrameBelow};
 ghost use Rattle.cw_boards.specs.Rewriting.{Rewrites};
 
 use crate::items::Item;
 use crate::seams::{seams, seams_all};
-use cw_rights::Policy;
-use cw_syntax::checked::Checked;
+use cw_resolve::Scene;
 use cw_syntax::program::{Head, Stmt, What};
 use std::alloc::{AllocError, Global};
 use std::collections::VecDeque;
@@ -31,22 +29,21 @@ pub(crate) fn put<'s>(
 
 /// A frame with these statements before it, whose seams are numbered from this one on.
 pub(crate) fn put_all<'s>(
-    checked: &Checked<'s>,
-    policy: &Policy,
+    scene: &Scene,
     statements: &'s [Stmt],
     seam: usize,
     rest: VecDeque<Item<'s>>,
 ) -> Result<VecDeque<Item<'s>>, AllocError>
-    requires below { AllSeamsBelow most_seams (numbered_all (stms_in (scene checked.now policy.now) statements.now) seam) }
-    ensures { IfOk result (λ next. frame_in (scene checked.now policy.now) next ≡ items_of (numbered_all (stms_in (scene checked.now policy.now) statements.now) seam) (frame_in (scene checked.now policy.now) rest.entry)) }
+    requires below { AllSeamsBelow most_seams (numbered_all (stms_in scene.now statements.now) seam) }
+    ensures { IfOk result (λ next. frame_in scene.now next ≡ items_of (numbered_all (stms_in scene.now statements.now) seam) (frame_in scene.now rest.entry)) }
 {
     let mut frame = rest;
-    let mut at = seam + seams_all(checked, policy, statements);
+    let mut at = seam + seams_all(scene, statements);
     let mut i = statements.len();
     while i > 0 {
         i -= 1;
         let statement = &statements[i];
-        let own = seams(checked, policy, statement);
+        let own = seams(scene, statement);
         at -= own;
         frame = put(
             frame,
@@ -67,36 +64,32 @@ pub(crate) enum Rewritten<'s> {
 
 /// Rewrites the front item of a frame.
 fn rewrite<'s>(
-    checked: &Checked<'s>,
-    policy: &Policy,
+    scene: &Scene,
     item: Item<'s>,
     rest: VecDeque<Item<'s>>,
 ) -> Result<Rewritten<'s>, AllocError>
-    requires below { ItemBelow most_seams (item_of (scene checked.now policy.now) item) }
-    ensures { IfOk result (λ r. Rewrites (scene checked.now policy.now) (item_of (scene checked.now policy.now) item.entry ∷ frame_in (scene checked.now policy.now) rest.entry) r) }
+    requires below { ItemBelow most_seams (item_of scene.now item) }
+    ensures { IfOk result (λ r. Rewrites scene.now (item_of scene.now item.entry ∷ frame_in scene.now rest.entry) r) }
 {
     match item {
         Item::Mark | Item::Nothing => Ok(Rewritten::More(rest)),
-        Item::Todo { statement, seam } => rewrite_statement(checked, policy, statement, seam, rest),
+        Item::Todo { statement, seam } => rewrite_statement(scene, statement, seam, rest),
         _ => Ok(Rewritten::Last(put(rest, item)?)),
     }
 }
 
 /// A statement at the front taken apart, where it is made of others; its seams are numbered from `seam`.
 fn rewrite_statement<'s>(
-    checked: &Checked<'s>,
-    policy: &Policy,
+    scene: &Scene,
     statement: &'s Stmt,
     seam: usize,
     rest: VecDeque<Item<'s>>,
 ) -> Result<Rewritten<'s>, AllocError>
-    requires below { SeamsBelow most_seams (numbered (stm_in (scene checked.now policy.now) statement.now) seam) }
-    ensures { IfOk result (λ r. Rewrites (scene checked.now policy.now) (Todo (numbered (stm_in (scene checked.now policy.now) statement.now) seam) ∷ frame_in (scene checked.now policy.now) rest.entry) r) }
+    requires below { SeamsBelow most_seams (numbered (stm_in scene.now statement.now) seam) }
+    ensures { IfOk result (λ r. Rewrites scene.now (Todo (numbered (stm_in scene.now statement.now) seam) ∷ frame_in scene.now rest.entry) r) }
 {
     match &statement.what {
-        What::Block(statements) => Ok(Rewritten::More(put_all(
-            checked, policy, statements, seam, rest,
-        )?)),
+        What::Block(statements) => Ok(Rewritten::More(put_all(scene, statements, seam, rest)?)),
         What::While(_, body) => Ok(Rewritten::More(looped(
             rest,
             statement.from,
@@ -182,15 +175,14 @@ fn with_init<'s>(
 
 /// A frame rewritten, so that a step passes its front.
 pub(crate) fn settle<'s>(
-    checked: &Checked<'s>,
-    policy: &Policy,
+    scene: &Scene,
     mut frame: VecDeque<Item<'s>>,
 ) -> Result<VecDeque<Item<'s>>, AllocError>
-    requires below { FrameBelow most_seams (frame_in (scene checked.now policy.now) frame) }
-    ensures { IfOk result (λ next. frame_in (scene checked.now policy.now) next ≡ settle (frame_in (scene checked.now policy.now) frame.entry)) }
+    requires below { FrameBelow most_seams (frame_in scene.now frame) }
+    ensures { IfOk result (λ next. frame_in scene.now next ≡ settle (frame_in scene.now frame.entry)) }
 {
     while let Some(item) = frame.pop_front() {
-        match rewrite(checked, policy, item, frame)? {
+        match rewrite(scene, item, frame)? {
             Rewritten::Last(next) => return Ok(next),
             Rewritten::More(next) => frame = next,
         }

@@ -1,17 +1,13 @@
 //! What a front item does.
 
-ghost use Rattle.std.specs.Prelude.{◌≡◌, ℕ};
+ghost use Rattle.std.specs.Prelude.{◌≡◌, ◌≤◌, ℕ, length};
 ghost use Rattle.cw_syntax.specs.Plans.{steps_of_form};
 ghost use Rattle.cw_syntax.specs.Trees.{form_of};
-ghost use Rattle.cw_rights.specs.Policies.{policy_of};
-ghost use Rattle.cw_rights.specs.Valid.{IsValid};
-ghost use Rattle.cw_boards.specs.Held.{scene, item_of, stack_in};
+ghost use Rattle.cw_boards.specs.Held.{item_of, stack_in};
 ghost use Rattle.cw_boards.specs.Kinds.{act_kind, kind_of, item_kind, front_kind};
 
 use crate::items::Item;
-use cw_resolve::{Act, action_of, label_number, text};
-use cw_rights::Policy;
-use cw_syntax::checked::Checked;
+use cw_resolve::{Act, Scene, action_of};
 use cw_syntax::program::What;
 use std::collections::VecDeque;
 
@@ -53,15 +49,15 @@ fn act_kind(act: Act) -> FrontKind
 }
 
 /// What a statement does.
-pub(crate) fn statement_kind(checked: &Checked, policy: &Policy, what: &What) -> FrontKind
-    requires { IsValid (policy_of policy.now) }
-    ensures { (at : ℕ) → result ≡ kind_of (steps_of_form (scene checked.now policy.now) at (form_of what.now)) }
+pub(crate) fn statement_kind(scene: &Scene, what: &What) -> FrontKind
+    requires labels { length scene.now.names.labels ≤ 65535 }
+    ensures { (at : ℕ) → result ≡ kind_of (steps_of_form scene.now at (form_of what.now)) }
 {
     match what {
         What::Block(_) => FrontKind::Group,
         What::Decl(_) | What::Empty => FrontKind::Plain,
-        What::Expr(e) => act_kind(action_of(checked, policy, e)),
-        What::Label(name, _, _) => FrontKind::Label(label_number(policy, text(checked, *name))),
+        What::Expr(e) => act_kind(action_of(scene, e)),
+        What::Label(name, _, _) => FrontKind::Label(scene.label_number(scene.text(*name))),
         What::If(_, _, _) => FrontKind::If,
         What::While(_, _) | What::Do(_, _) => FrontKind::Loop,
         What::For(_, _) => FrontKind::Loop,
@@ -72,13 +68,13 @@ pub(crate) fn statement_kind(checked: &Checked, policy: &Policy, what: &What) ->
 }
 
 /// What an item does.
-pub(crate) fn item_kind(checked: &Checked, policy: &Policy, item: &Item) -> FrontKind
-    requires { IsValid (policy_of policy.now) }
-    ensures { result ≡ item_kind (item_of (scene checked.now policy.now) item.now) }
+pub(crate) fn item_kind(scene: &Scene, item: &Item) -> FrontKind
+    requires labels { length scene.now.names.labels ≤ 65535 }
+    ensures { result ≡ item_kind (item_of scene.now item.now) }
 {
     match item {
         Item::Entry { .. } => FrontKind::Entry,
-        Item::Todo { statement, .. } => statement_kind(checked, policy, &statement.what),
+        Item::Todo { statement, .. } => statement_kind(scene, &statement.what),
         Item::Nothing => FrontKind::Group,
         Item::Init(_) => FrontKind::Plain,
         Item::Test { decided, .. } => FrontKind::Test(*decided),
@@ -89,19 +85,15 @@ pub(crate) fn item_kind(checked: &Checked, policy: &Policy, item: &Item) -> Fron
 }
 
 /// What the front item of the top frame does.
-pub(crate) fn front_kind(
-    checked: &Checked,
-    policy: &Policy,
-    stack: &VecDeque<VecDeque<Item>>,
-) -> Option<FrontKind>
-    requires { IsValid (policy_of policy.now) }
-    ensures { result ≡ front_kind (stack_in (scene checked.now policy.now) stack.now) }
+pub(crate) fn front_kind(scene: &Scene, stack: &VecDeque<VecDeque<Item>>) -> Option<FrontKind>
+    requires labels { length scene.now.names.labels ≤ 65535 }
+    ensures { result ≡ front_kind (stack_in scene.now stack.now) }
 {
     match stack.front() {
         None => None,
         Some(frame) => match frame.front() {
             None => None,
-            Some(item) => Some(item_kind(checked, policy, item)),
+            Some(item) => Some(item_kind(scene, item)),
         },
     }
 }

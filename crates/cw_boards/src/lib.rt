@@ -12,6 +12,7 @@ mod kinds;
 mod moves;
 mod paths;
 mod seams;
+mod sourced;
 mod steps;
 mod turns;
 

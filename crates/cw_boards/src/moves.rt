@@ -6,18 +6,19 @@ ghost use Rattle.cw_rights.specs.Valid.{IsValid};
 ghost use Rattle.cw_syntax.specs.Plans.{Scene};
 ghost use Rattle.cw_syntax.specs.Frames.{broken, continued, frame_of, pass, popped};
 ghost use Rattle.cw_model.specs.Boards.{moved, way_of, IsWeavers};
-ghost use Rattle.cw_boards.specs.Held.{scene, primitives_at, phase_by, frame_in, stack_in, board_in, board_of, problem, IsBoard, HasMove};
+ghost use Rattle.cw_boards.specs.Held.{primitives_at, phase_by, frame_in, stack_in, board_in, board_of, problem, IsBoard, HasMove};
 ghost use Rattle.cw_boards.specs.Changes.{may_turn, may_step};
-ghost use Rattle.cw_resolve.specs.Scenes.{plan_in};
+ghost use Rattle.cw_resolve.specs.Scenes.{plan_in, scene_in};
 ghost use Rattle.cw_boards.specs.Turns.{way_in};
 
 use crate::boards::{Board, State};
 use crate::changes::way_of;
 use crate::choices::{Choice, Phase, choice_of, primitive_at};
 use crate::items::Item;
-use crate::kinds::{front_kind, item_kind};
+use crate::sourced::{front_kind, item_kind};
 use crate::turns::{Turn, Way, turn_of};
 use cw_certs::Move;
+use cw_resolve::Scene;
 use cw_rights::Policy;
 use cw_syntax::checked::Checked;
 use std::collections::VecDeque;
@@ -88,7 +89,7 @@ fn may_turn(
     frame: &VecDeque<Item>,
     stack: &VecDeque<VecDeque<Item>>,
 ) -> bool
-    ensures { result ≡ may_turn (plan_in checked.now (policy_of policy.now)) turn (frame_in (scene checked.now policy.now) frame.now) (map (frame_in (scene checked.now policy.now)) (drop 1 stack.now.items)) }
+    ensures { result ≡ may_turn (plan_in checked.now (policy_of policy.now)) turn (frame_in (scene_in checked.now (policy_of policy.now)) frame.now) (map (frame_in (scene_in checked.now (policy_of policy.now))) (drop 1 stack.now.items)) }
 {
     match turn {
         Turn::Passes | Turn::Ends | Turn::Enters => true,
@@ -101,16 +102,23 @@ fn may_turn(
 }
 
 /// Whether the front item can be passed on this way.
-fn may_pass(checked: &Checked, policy: &Policy, stack: &VecDeque<VecDeque<Item>>, way: Way) -> bool
-    requires { IsValid (policy_of policy.now) }
-    ensures { result ≡ is_some (pass (plan_in checked.now (policy_of policy.now)) (stack_in (scene checked.now policy.now) stack.now) (way_in way)) }
+fn may_pass(
+    scene: &Scene,
+    checked: &Checked,
+    policy: &Policy,
+    stack: &VecDeque<VecDeque<Item>>,
+    way: Way,
+) -> bool
+    requires valid { IsValid (policy_of policy.now) }
+    requires scene { scene.now ≡ scene_in checked.now (policy_of policy.now) }
+    ensures { result ≡ is_some (pass (plan_in checked.now (policy_of policy.now)) (stack_in (scene_in checked.now (policy_of policy.now)) stack.now) (way_in way)) }
 {
     match stack.front() {
         None => false,
         Some(frame) => match frame.front() {
             None => false,
             Some(item) => {
-                let turn = turn_of(item_kind(checked, policy, item), way);
+                let turn = turn_of(item_kind(scene, checked, policy, item), way);
                 may_turn(checked, policy, turn, frame, stack)
             }
         },
@@ -118,27 +126,35 @@ fn may_pass(checked: &Checked, policy: &Policy, stack: &VecDeque<VecDeque<Item>>
 }
 
 /// Whether a move passes the front item.
-fn may_step(checked: &Checked, policy: &Policy, stack: &VecDeque<VecDeque<Item>>, by: Move) -> bool
-    requires { IsValid (policy_of policy.now) }
-    ensures { result ≡ may_step (problem checked.now policy.now) (stack_in (scene checked.now policy.now) stack.now) (way_of by) }
+fn may_step(
+    scene: &Scene,
+    checked: &Checked,
+    policy: &Policy,
+    stack: &VecDeque<VecDeque<Item>>,
+    by: Move,
+) -> bool
+    requires valid { IsValid (policy_of policy.now) }
+    requires scene { scene.now ≡ scene_in checked.now (policy_of policy.now) }
+    ensures { result ≡ may_step (problem checked.now policy.now) (stack_in (scene_in checked.now (policy_of policy.now)) stack.now) (way_of by) }
 {
     match way_of(by) {
         None => false,
-        Some(way) => may_pass(checked, policy, stack, way),
+        Some(way) => may_pass(scene, checked, policy, stack, way),
     }
 }
 
 /// Whether a board that keeps the policy has this move.
-fn may_move(checked: &Checked, policy: &Policy, state: &State, by: Move) -> bool
-    requires { IsValid (policy_of policy.now) }
-    ensures { result ≡ is_some (moved (problem checked.now policy.now) (board_in checked.now policy.now state.now) (phase_by (primitives_at (policy_of policy.now) (stack_in (scene checked.now policy.now) state.now.stack)) state.now.phase) by) }
+fn may_move(scene: &Scene, checked: &Checked, policy: &Policy, state: &State, by: Move) -> bool
+    requires valid { IsValid (policy_of policy.now) }
+    requires scene { scene.now ≡ scene_in checked.now (policy_of policy.now) }
+    ensures { result ≡ is_some (moved (problem checked.now policy.now) (board_in checked.now policy.now state.now) (phase_by (primitives_at (policy_of policy.now) (stack_in (scene_in checked.now (policy_of policy.now)) state.now.stack)) state.now.phase) by) }
 {
-    let kind = front_kind(checked, policy, &state.stack);
+    let kind = front_kind(scene, checked, policy, &state.stack);
     match choice_of(policy, kind, &state.caps, state.phase, by) {
         Choice::Forbidden => false,
         Choice::To(_) => true,
         Choice::Grants(_, _) => true,
-        Choice::Steps { split: _ } => may_step(checked, policy, &state.stack, by),
+        Choice::Steps { split: _ } => may_step(scene, checked, policy, &state.stack, by),
     }
 }
 
@@ -151,15 +167,16 @@ fn has_move(checked: &Checked, policy: &Policy, board: &Board, by: Move) -> bool
     if board.violates {
         return false;
     }
-    may_move(checked, policy, &board.state, by)
+    may_move(&board.scene, checked, policy, &board.state, by)
 }
 
 /// Whether the weaver is to move.
-fn is_weavers(checked: &Checked, policy: &Policy, state: &State) -> bool
-    requires { IsValid (policy_of policy.now) }
+fn is_weavers(scene: &Scene, checked: &Checked, policy: &Policy, state: &State) -> bool
+    requires valid { IsValid (policy_of policy.now) }
+    requires scene { scene.now ≡ scene_in checked.now (policy_of policy.now) }
     ensures { IsTrue result ↔ IsWeavers (board_in checked.now policy.now state.now) }
 {
-    let kind = front_kind(checked, policy, &state.stack);
+    let kind = front_kind(scene, checked, policy, &state.stack);
     match state.phase {
         Phase::Visit(stage) => match primitive_at(policy, kind, stage) {
             None => false,
@@ -191,7 +208,7 @@ pub fn board_moves(checked: &Checked, policy: &Policy, board: &Board) -> Moves
     ensures stop { IsTrue result.stop ↔ HasMove checked.now policy.now board.now Move.Stop }
 {
     Moves {
-        weaver: is_weavers(checked, policy, &board.state),
+        weaver: is_weavers(&board.scene, checked, policy, &board.state),
         skip: has_move(checked, policy, board, Move::Skip),
         tried: has_move(checked, policy, board, Move::Try),
         grant: has_move(checked, policy, board, Move::Grant),

@@ -1,14 +1,11 @@
 //! Steps of a stack of frames, the top first.
 
 ghost use Rattle.std.specs.Prelude.{◌≡◌, codes, ◌<◌, ◌≤◌, ◌+◌, [], ◌∷◌, length, take, IfOk, option_map};
-ghost use Rattle.cw_syntax.specs.Plans.{Scene, function_names, numbered, numbered_all, seams, seams_all};
+ghost use Rattle.cw_syntax.specs.Plans.{Scene, numbered, numbered_all, seams, seams_all};
 ghost use Rattle.cw_syntax.specs.Names.{number_or_other};
-ghost use Rattle.cw_syntax.specs.Trees.{file_of};
 ghost use Rattle.cw_syntax.specs.Frames.{Entry, Todo, Test, End, after_if, items_of, settle, frame_of, pass, popped, start_stack};
-ghost use Rattle.cw_rights.specs.Policies.{policy_of};
-ghost use Rattle.cw_rights.specs.Valid.{IsValid};
-ghost use Rattle.cw_resolve.specs.Scenes.{plan_in, stm_in, stms_in};
-ghost use Rattle.cw_boards.specs.Held.{scene, item_of, frame_in, stack_in, HasFewSeams};
+ghost use Rattle.cw_resolve.specs.Scenes.{stm_in, stms_in};
+ghost use Rattle.cw_boards.specs.Held.{item_of, frame_in, stack_in, plan_by};
 ghost use Rattle.cw_boards.specs.Numbered.{most_seams, SeamsBelow, ItemBelow, FrameBelow, StackBelow};
 ghost use Rattle.cw_boards.specs.Held.{seams_before};
 ghost use Rattle.cw_boards.specs.Kinds.{item_kind};
@@ -19,36 +16,33 @@ use crate::items::Item;
 use crate::kinds::item_kind;
 use crate::seams::{seams, seams_before};
 use crate::turns::{Turn, Way, turn_of};
-use cw_resolve::function_named;
-use cw_rights::Policy;
-use cw_syntax::checked::Checked;
+use cw_resolve::Scene;
 use cw_syntax::program::{Function, Stmt, What};
 use std::alloc::{AllocError, Global};
 use std::collections::VecDeque;
 
 /// The number of the entry's seam of the function with this number.
-fn entry_seam(checked: &Checked, policy: &Policy, number: usize) -> usize
-    requires number { number < length checked.now.program.functions.items }
-    requires few { HasFewSeams checked.now policy.now }
-    ensures { result ≡ seams_before (scene checked.now policy.now) (take number checked.now.program.functions.items) }
+fn entry_seam(scene: &Scene, functions: &[Function], number: usize) -> usize
+    requires number { number < length functions.now }
+    requires few { seams_before scene.now functions.now < most_seams }
+    ensures { result ≡ seams_before scene.now (take number functions.now) }
 {
-    seams_before(checked, policy, &checked.program.functions[..number])
+    seams_before(scene, &functions[..number])
 }
 
 /// A new frame of this function, which has this number, by the seam of its entry.
 fn frame_from<'s>(
     alloc: Global,
-    checked: &Checked<'s>,
-    policy: &Policy,
+    scene: &Scene,
     f: &'s Function,
     number: usize,
     seam: usize,
 ) -> Result<VecDeque<Item<'s>>, AllocError>
-    requires fits { seam + 1 + seams_all (stms_in (scene checked.now policy.now) f.now.body.items) ≤ most_seams }
-    ensures { IfOk result (λ frame. frame_in (scene checked.now policy.now) frame ≡ Entry number seam ∷ items_of (numbered_all (stms_in (scene checked.now policy.now) f.now.body.items) (seam + 1)) (End number ∷ [])) }
+    requires fits { seam + 1 + seams_all (stms_in scene.now f.now.body.items) ≤ most_seams }
+    ensures { IfOk result (λ frame. frame_in scene.now frame ≡ Entry number seam ∷ items_of (numbered_all (stms_in scene.now f.now.body.items) (seam + 1)) (End number ∷ [])) }
 {
     let last = put(VecDeque::new(alloc), Item::End(number))?;
-    let body = put_all(checked, policy, &f.body, seam + 1, last)?;
+    let body = put_all(scene, &f.body, seam + 1, last)?;
     put(
         body,
         Item::Entry {
@@ -61,35 +55,34 @@ fn frame_from<'s>(
 /// A new frame of a function, where there is one with this number.
 fn new_frame<'s>(
     alloc: Global,
-    checked: &'s Checked<'s>,
-    policy: &Policy,
+    scene: &Scene,
+    functions: &'s [Function],
     number: usize,
 ) -> Result<Option<VecDeque<Item<'s>>>, AllocError>
-    requires few { HasFewSeams checked.now policy.now }
-    ensures { IfOk result (λ o. option_map (frame_in (scene checked.now policy.now)) o ≡ frame_of (plan_in checked.now (policy_of policy.now)) number) }
+    requires few { seams_before scene.now functions.now < most_seams }
+    ensures { IfOk result (λ o. option_map (frame_in scene.now) o ≡ frame_of (plan_by scene.now functions.now) number) }
 {
-    if number >= checked.program.functions.len() {
+    if number >= functions.len() {
         return Ok(None);
     }
-    let f = &checked.program.functions[number];
-    let seam = entry_seam(checked, policy, number);
-    let frame = frame_from(alloc, checked, policy, f, number, seam)?;
+    let f = &functions[number];
+    let seam = entry_seam(scene, functions, number);
+    let frame = frame_from(alloc, scene, f, number, seam)?;
     Ok(Some(frame))
 }
 
 /// The second arm of an `if` before a frame: its seams come behind those of the first.
 fn other_arm<'s>(
-    checked: &Checked<'s>,
-    policy: &Policy,
+    scene: &Scene,
     arm: &Stmt,
     other: &'s Stmt,
     seam: usize,
     rest: VecDeque<Item<'s>>,
 ) -> Result<VecDeque<Item<'s>>, AllocError>
-    requires below { SeamsBelow most_seams (numbered (stm_in (scene checked.now policy.now) arm.now) seam) }
-    ensures { IfOk result (λ next. frame_in (scene checked.now policy.now) next ≡ Todo (numbered (stm_in (scene checked.now policy.now) other.now) (seam + seams (stm_in (scene checked.now policy.now) arm.now))) ∷ frame_in (scene checked.now policy.now) rest.entry) }
+    requires below { SeamsBelow most_seams (numbered (stm_in scene.now arm.now) seam) }
+    ensures { IfOk result (λ next. frame_in scene.now next ≡ Todo (numbered (stm_in scene.now other.now) (seam + seams (stm_in scene.now arm.now))) ∷ frame_in scene.now rest.entry) }
 {
-    let behind = seam + seams(checked, policy, arm);
+    let behind = seam + seams(scene, arm);
     put(
         rest,
         Item::Todo {
@@ -101,15 +94,14 @@ fn other_arm<'s>(
 
 /// The statement that stands in a label or an `if` comes next.
 fn enter_statement<'s>(
-    checked: &Checked<'s>,
-    policy: &Policy,
+    scene: &Scene,
     statement: &'s Stmt,
     seam: usize,
     way: Way,
     rest: VecDeque<Item<'s>>,
 ) -> Result<Option<VecDeque<Item<'s>>>, AllocError>
-    requires below { SeamsBelow most_seams (numbered (stm_in (scene checked.now policy.now) statement.now) seam) }
-    ensures { IfOk result (λ o. option_map (frame_in (scene checked.now policy.now)) o ≡ entered (Todo (numbered (stm_in (scene checked.now policy.now) statement.now) seam)) (way_in way) (frame_in (scene checked.now policy.now) rest.entry)) }
+    requires below { SeamsBelow most_seams (numbered (stm_in scene.now statement.now) seam) }
+    ensures { IfOk result (λ o. option_map (frame_in scene.now) o ≡ entered (Todo (numbered (stm_in scene.now statement.now) seam)) (way_in way) (frame_in scene.now rest.entry)) }
 {
     match &statement.what {
         What::Label(_, _, body) => match way {
@@ -142,7 +134,7 @@ fn enter_statement<'s>(
                     Ok(Some(next))
                 }
                 Some(other) => {
-                    let next = other_arm(checked, policy, arm, other, seam, rest)?;
+                    let next = other_arm(scene, arm, other, seam, rest)?;
                     Ok(Some(next))
                 }
             },
@@ -189,19 +181,16 @@ fn enter_body<'s>(
 
 /// The statement that stands in an item comes next.
 fn enter<'s>(
-    checked: &Checked<'s>,
-    policy: &Policy,
+    scene: &Scene,
     item: Item<'s>,
     way: Way,
     rest: VecDeque<Item<'s>>,
 ) -> Result<Option<VecDeque<Item<'s>>>, AllocError>
-    requires below { ItemBelow most_seams (item_of (scene checked.now policy.now) item) }
-    ensures { IfOk result (λ o. option_map (frame_in (scene checked.now policy.now)) o ≡ entered (item_of (scene checked.now policy.now) item.entry) (way_in way) (frame_in (scene checked.now policy.now) rest.entry)) }
+    requires below { ItemBelow most_seams (item_of scene.now item) }
+    ensures { IfOk result (λ o. option_map (frame_in scene.now) o ≡ entered (item_of scene.now item.entry) (way_in way) (frame_in scene.now rest.entry)) }
 {
     match item {
-        Item::Todo { statement, seam } => {
-            enter_statement(checked, policy, statement, seam, way, rest)
-        }
+        Item::Todo { statement, seam } => enter_statement(scene, statement, seam, way, rest),
         Item::Test {
             at,
             decided,
@@ -242,15 +231,14 @@ fn enter_test<'s>(
 /// What is to do after an item that is passed, not yet rewritten; a call and an end aren't passed within their frame.
 fn after<'s>(
     alloc: Global,
-    checked: &Checked<'s>,
-    policy: &Policy,
+    scene: &Scene,
     item: Item<'s>,
     turn: Turn,
     way: Way,
     rest: VecDeque<Item<'s>>,
 ) -> Result<Option<VecDeque<Item<'s>>>, AllocError>
-    requires below { ItemBelow most_seams (item_of (scene checked.now policy.now) item) }
-    ensures { IfOk result (λ o. option_map (frame_in (scene checked.now policy.now)) o ≡ taken turn (item_of (scene checked.now policy.now) item.entry) (way_in way) (frame_in (scene checked.now policy.now) rest.entry)) }
+    requires below { ItemBelow most_seams (item_of scene.now item) }
+    ensures { IfOk result (λ o. option_map (frame_in scene.now) o ≡ taken turn (item_of scene.now item.entry) (way_in way) (frame_in scene.now rest.entry)) }
 {
     match turn {
         Turn::Passes => Ok(Some(rest)),
@@ -263,7 +251,7 @@ fn after<'s>(
             let next = ended(alloc, rest)?;
             Ok(Some(next))
         }
-        Turn::Enters => enter(checked, policy, item, way, rest),
+        Turn::Enters => enter(scene, item, way, rest),
         Turn::Calls(_) => Ok(None),
         Turn::Returns | Turn::Stops => Ok(None),
     }
@@ -272,22 +260,21 @@ fn after<'s>(
 /// A step within the top frame.
 fn within<'s>(
     alloc: Global,
-    checked: &Checked<'s>,
-    policy: &Policy,
+    scene: &Scene,
     item: Item<'s>,
     turn: Turn,
     way: Way,
     rest: VecDeque<Item<'s>>,
     mut frames: VecDeque<VecDeque<Item<'s>>>,
 ) -> Result<Option<VecDeque<VecDeque<Item<'s>>>>, AllocError>
-    requires item { ItemBelow most_seams (item_of (scene checked.now policy.now) item) }
-    requires rest { FrameBelow most_seams (frame_in (scene checked.now policy.now) rest) }
-    ensures { IfOk result (λ o. option_map (stack_in (scene checked.now policy.now)) o ≡ option_map (λ next. settle next ∷ stack_in (scene checked.now policy.now) frames.entry) (taken turn (item_of (scene checked.now policy.now) item.entry) (way_in way) (frame_in (scene checked.now policy.now) rest.entry))) }
+    requires item { ItemBelow most_seams (item_of scene.now item) }
+    requires rest { FrameBelow most_seams (frame_in scene.now rest) }
+    ensures { IfOk result (λ o. option_map (stack_in scene.now) o ≡ option_map (λ next. settle next ∷ stack_in scene.now frames.entry) (taken turn (item_of scene.now item.entry) (way_in way) (frame_in scene.now rest.entry))) }
 {
-    match after(alloc, checked, policy, item, turn, way, rest)? {
+    match after(alloc, scene, item, turn, way, rest)? {
         None => Ok(None),
         Some(next) => {
-            let top = settle(checked, policy, next)?;
+            let top = settle(scene, next)?;
             frames.push_front(top)?;
             Ok(Some(frames))
         }
@@ -297,15 +284,15 @@ fn within<'s>(
 /// A call of the defined function with this number: its frame comes on top.
 fn called<'s>(
     alloc: Global,
-    checked: &'s Checked<'s>,
-    policy: &Policy,
+    scene: &Scene,
+    functions: &'s [Function],
     number: usize,
     mut frames: VecDeque<VecDeque<Item<'s>>>,
 ) -> Result<Option<VecDeque<VecDeque<Item<'s>>>>, AllocError>
-    requires few { HasFewSeams checked.now policy.now }
-    ensures { IfOk result (λ o. option_map (stack_in (scene checked.now policy.now)) o ≡ option_map (λ frame. frame ∷ stack_in (scene checked.now policy.now) frames.entry) (frame_of (plan_in checked.now (policy_of policy.now)) number)) }
+    requires few { seams_before scene.now functions.now < most_seams }
+    ensures { IfOk result (λ o. option_map (stack_in scene.now) o ≡ option_map (λ frame. frame ∷ stack_in scene.now frames.entry) (frame_of (plan_by scene.now functions.now) number)) }
 {
-    match new_frame(alloc, checked, policy, number)? {
+    match new_frame(alloc, scene, functions, number)? {
         None => Ok(None),
         Some(frame) => {
             frames.push_front(frame)?;
@@ -316,19 +303,18 @@ fn called<'s>(
 
 /// The end of a frame that was taken off: the call at the front of the frame below is passed.
 fn returned<'s>(
-    checked: &Checked<'s>,
-    policy: &Policy,
+    scene: &Scene,
     mut frames: VecDeque<VecDeque<Item<'s>>>,
 ) -> Result<Option<VecDeque<VecDeque<Item<'s>>>>, AllocError>
-    requires below { StackBelow most_seams (stack_in (scene checked.now policy.now) frames) }
-    ensures { IfOk result (λ o. option_map (stack_in (scene checked.now policy.now)) o ≡ popped (stack_in (scene checked.now policy.now) frames.entry)) }
+    requires below { StackBelow most_seams (stack_in scene.now frames) }
+    ensures { IfOk result (λ o. option_map (stack_in scene.now) o ≡ popped (stack_in scene.now frames.entry)) }
 {
     match frames.pop_front() {
         None => Ok(Some(frames)),
         Some(mut frame) => match frame.pop_front() {
             None => Ok(None),
             Some(_) => {
-                let top = settle(checked, policy, frame)?;
+                let top = settle(scene, frame)?;
                 frames.push_front(top)?;
                 Ok(Some(frames))
             }
@@ -339,30 +325,30 @@ fn returned<'s>(
 /// A step of a stack whose front item was taken off.
 fn pass_front<'s>(
     alloc: Global,
-    checked: &'s Checked<'s>,
-    policy: &Policy,
+    scene: &Scene,
+    functions: &'s [Function],
     item: Item<'s>,
     rest: VecDeque<Item<'s>>,
     mut frames: VecDeque<VecDeque<Item<'s>>>,
     way: Way,
 ) -> Result<Option<VecDeque<VecDeque<Item<'s>>>>, AllocError>
-    requires valid { IsValid (policy_of policy.now) }
-    requires few { HasFewSeams checked.now policy.now }
-    requires item { ItemBelow most_seams (item_of (scene checked.now policy.now) item) }
-    requires rest { FrameBelow most_seams (frame_in (scene checked.now policy.now) rest) }
-    requires frames { StackBelow most_seams (stack_in (scene checked.now policy.now) frames) }
-    ensures { IfOk result (λ o. option_map (stack_in (scene checked.now policy.now)) o ≡ stepped_by (plan_in checked.now (policy_of policy.now)) (turn_of (item_kind (item_of (scene checked.now policy.now) item.entry)) way) (item_of (scene checked.now policy.now) item.entry) (way_in way) (frame_in (scene checked.now policy.now) rest.entry) (stack_in (scene checked.now policy.now) frames.entry)) }
+    requires labels { length scene.now.names.labels ≤ 65535 }
+    requires few { seams_before scene.now functions.now < most_seams }
+    requires item { ItemBelow most_seams (item_of scene.now item) }
+    requires rest { FrameBelow most_seams (frame_in scene.now rest) }
+    requires frames { StackBelow most_seams (stack_in scene.now frames) }
+    ensures { IfOk result (λ o. option_map (stack_in scene.now) o ≡ stepped_by (plan_by scene.now functions.now) (turn_of (item_kind (item_of scene.now item.entry)) way) (item_of scene.now item.entry) (way_in way) (frame_in scene.now rest.entry) (stack_in scene.now frames.entry)) }
 {
-    let turn = turn_of(item_kind(checked, policy, &item), way);
+    let turn = turn_of(item_kind(scene, &item), way);
     match turn {
         Turn::Calls(number) => {
             let caller = put(rest, item)?;
             frames.push_front(caller)?;
-            called(alloc, checked, policy, number, frames)
+            called(alloc, scene, functions, number, frames)
         }
-        Turn::Returns => returned(checked, policy, frames),
+        Turn::Returns => returned(scene, frames),
         Turn::Passes | Turn::Breaks | Turn::Continues | Turn::Ends | Turn::Enters | Turn::Stops => {
-            within(alloc, checked, policy, item, turn, way, rest, frames)
+            within(alloc, scene, item, turn, way, rest, frames)
         }
     }
 }
@@ -370,21 +356,21 @@ fn pass_front<'s>(
 /// One step of a stack of frames, where its front can be passed this way.
 pub(crate) fn pass<'s>(
     alloc: Global,
-    checked: &'s Checked<'s>,
-    policy: &Policy,
+    scene: &Scene,
+    functions: &'s [Function],
     mut frames: VecDeque<VecDeque<Item<'s>>>,
     way: Way,
 ) -> Result<Option<VecDeque<VecDeque<Item<'s>>>>, AllocError>
-    requires valid { IsValid (policy_of policy.now) }
-    requires few { HasFewSeams checked.now policy.now }
-    requires below { StackBelow most_seams (stack_in (scene checked.now policy.now) frames) }
-    ensures { IfOk result (λ o. option_map (stack_in (scene checked.now policy.now)) o ≡ pass (plan_in checked.now (policy_of policy.now)) (stack_in (scene checked.now policy.now) frames.entry) (way_in way)) }
+    requires labels { length scene.now.names.labels ≤ 65535 }
+    requires few { seams_before scene.now functions.now < most_seams }
+    requires below { StackBelow most_seams (stack_in scene.now frames) }
+    ensures { IfOk result (λ o. option_map (stack_in scene.now) o ≡ pass (plan_by scene.now functions.now) (stack_in scene.now frames.entry) (way_in way)) }
 {
     match frames.pop_front() {
         None => Ok(None),
         Some(mut rest) => match rest.pop_front() {
             None => Ok(None),
-            Some(item) => pass_front(alloc, checked, policy, item, rest, frames, way),
+            Some(item) => pass_front(alloc, scene, functions, item, rest, frames, way),
         },
     }
 }
@@ -392,14 +378,14 @@ pub(crate) fn pass<'s>(
 /// The stack with which a program starts: one frame, that of `main`, where it has that function.
 pub(crate) fn start_stack<'s>(
     alloc: Global,
-    checked: &'s Checked<'s>,
-    policy: &Policy,
+    scene: &Scene,
+    functions: &'s [Function],
 ) -> Result<VecDeque<VecDeque<Item<'s>>>, AllocError>
-    requires { HasFewSeams checked.now policy.now }
-    ensures { IfOk result (λ stack. stack_in (scene checked.now policy.now) stack ≡ start_stack (plan_in checked.now (policy_of policy.now))) }
+    requires few { seams_before scene.now functions.now < most_seams }
+    ensures { IfOk result (λ stack. stack_in scene.now stack ≡ start_stack (plan_by scene.now functions.now)) }
 {
     let mut stack = VecDeque::new(alloc);
-    if let Some(frame) = new_frame(alloc, checked, policy, main_number(checked))? {
+    if let Some(frame) = new_frame(alloc, scene, functions, main_number(scene))? {
         stack.push_front(frame)?;
     }
     Ok(stack)
@@ -413,11 +399,11 @@ fn main_text() -> &'static [u8]
 }
 
 /// The number of `main`, or the number of functions where there is none.
-fn main_number(checked: &Checked) -> usize
-    ensures { result ≡ number_or_other (function_names checked.now.source.now (file_of checked.now.program)) (codes "main") }
+fn main_number(scene: &Scene) -> usize
+    ensures { result ≡ number_or_other scene.now.functions (codes "main") }
 {
-    match function_named(checked, main_text()) {
+    match scene.function_named(main_text()) {
         Some(number) => number,
-        None => checked.program.functions.len(),
+        None => scene.function_count(),
     }
 }

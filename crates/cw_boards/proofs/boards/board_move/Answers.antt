@@ -32,7 +32,7 @@ returns-in_ok-after-in-Some c =
     )
 
 pub chosen-requires : goal.chosen-requires
-chosen-requires c = record { valid = c.requires.valid; few = c.requires.board.few; below = c.requires.board.below }
+chosen-requires c = record { valid = c.requires.valid; scene = c.requires.board.named; few = c.requires.board.few; below = c.requires.board.below }
 
 pub judged-requires : goal.judged-requires
 judged-requires c =
@@ -44,6 +44,7 @@ judged-requires c =
     let is = sym c.in_ok-chosen.ensures ∙ ap (option_map (board_in c.args.checked.now c.args.policy.now)) c.in-Some.is in
     record {
       valid = c.requires.valid;
+      scene = c.requires.board.named;
       few = c.requires.board.few;
       below = chosen_below most_seams p b after c.choice_of-choice.result c.args.by is (λ f frame e. frames_below most_seams s fs f frame e (omega (arith, c.requires.board.few)))
           c.requires.board.below;

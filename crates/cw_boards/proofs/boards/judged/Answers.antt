@@ -10,7 +10,7 @@ returns-in-None-clause-board c =
     let p = problem c.args.checked.now c.args.policy.now in
     let b = board_in c.args.checked.now c.args.policy.now c.args.state in
     let e = letter_by_kind p b None c.front_kind-kind.result c.args.state.phase c.front_kind-kind.ensures refl c.in-None.ensures in
-    record { judged = (λ z. absurd (cc), λ v. absurd (violates_not p b e v)); few = c.requires.few; below = c.requires.below }
+    record { named = c.requires.scene; judged = (λ z. absurd (cc), λ v. absurd (violates_not p b e v)); few = c.requires.few; below = c.requires.below }
 
 pub returns-in_ok-word-in-Some-clause-board : goal.returns-in_ok-word-in-Some-clause-board
 returns-in_ok-word-in-Some-clause-board c =
@@ -24,6 +24,7 @@ returns-in_ok-word-in-Some-clause-board c =
     let same = c.in_ok-word-in-Some.ensures.same in
     let bad = c.in_ok-word-in-Some.ensures.bad in
     record {
+      named = c.requires.scene;
       judged = (λ z. q.0 (subst (λ w. IsBad pol (w ++ x ∷ [])) (sym same) (bad.0 z)), λ v. bad.1 (subst (λ w. IsBad pol (w ++ x ∷ [])) same (q.1 v)));
       few = c.requires.few;
       below = c.requires.below;

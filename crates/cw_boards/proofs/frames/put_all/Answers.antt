@@ -2,7 +2,7 @@ use Rattle.std.proofs.Common.{◌≡◌, ◌<◌, ◌≤◌, ◌+◌, ◌-◌, �
 use Rattle.cw_syntax.specs.Plans.{numbered, seams, seams_all}
 use Rattle.cw_syntax.specs.Frames.{Todo}
 use Rattle.cw_resolve.specs.Scenes.{stm_in, stms_in}
-use Rattle.cw_boards.specs.Held.{scene, frame_in}
+use Rattle.cw_boards.specs.Held.{frame_in}
 use Rattle.cw_boards.specs.Numbered.{most_seams, capped}
 use Rattle.cw_boards.proofs.Below.{all_fit, whole}
 use Rattle.cw_boards.proofs.Putting.{none_put, one_within, own_fits, one_more}
@@ -10,13 +10,13 @@ use Rattle.cw_boards.proofs.frames.put_all.Goals as goal
 
 pub overflow_add-at : goal.overflow_add-at
 overflow_add-at c =
-    let ss = stms_in (scene c.args.checked.now c.args.policy.now) c.args.statements.now in
+    let ss = stms_in c.args.scene.now c.args.statements.now in
     let total : c.args.seam + seams_all ss ≤ most_seams = all_fit most_seams ss c.args.seam (omega (arith, c.ranges.seam)) c.requires.below in
     omega (arith, total, whole c.seams_all.result (seams_all ss) c.seams_all.ensures (omega (arith, total)))
 
 pub loop-i-init : goal.loop-i-init
 loop-i-init c =
-    let s = scene c.args.checked.now c.args.policy.now in
+    let s = c.args.scene.now in
     let xs = c.args.statements.now in
     let ss = stms_in s xs in
     let total : c.args.seam + seams_all ss ≤ most_seams = all_fit most_seams ss c.args.seam (omega (arith, c.ranges.seam)) c.requires.below in
@@ -25,7 +25,7 @@ loop-i-init c =
 
 pub overflow_sub-at : goal.overflow_sub-at
 overflow_sub-at c =
-    let s = scene c.args.checked.now c.args.policy.now in
+    let s = c.args.scene.now in
     let xs = c.args.statements.now in
     let i = c.loop-i.i in
     let x = c.index-statements-i.result in
@@ -43,7 +43,7 @@ overflow_sub-at c =
 
 pub loop-i-preserved : goal.loop-i-preserved
 loop-i-preserved c =
-    let s = scene c.args.checked.now c.args.policy.now in
+    let s = c.args.scene.now in
     let xs = c.args.statements.now in
     let i = c.loop-i.i in
     let x = c.index-statements-i.result in

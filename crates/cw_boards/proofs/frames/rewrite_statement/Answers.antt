@@ -5,7 +5,7 @@ use Rattle.cw_syntax.specs.declared.program.Stmt.{Stmt}
 use Rattle.cw_syntax.specs.Plans.{numbered, numbered_all}
 use Rattle.cw_syntax.specs.Frames.{Test, Mark, items_of, init_if}
 use Rattle.cw_resolve.specs.Scenes.{stm_in, stms_in}
-use Rattle.cw_boards.specs.Held.{scene, frame_in}
+use Rattle.cw_boards.specs.Held.{frame_in}
 use Rattle.cw_resolve.proofs.Shapes.{block_steps}
 use Rattle.cw_boards.specs.Numbered.{most_seams, SeamsBelow, AllSeamsBelow}
 use Rattle.cw_boards.proofs.Settled.{a_block, a_for}
@@ -13,7 +13,7 @@ use Rattle.cw_boards.proofs.frames.rewrite_statement.Goals as goal
 
 pub returns-in_ok-put_all-in-Block : goal.returns-in_ok-put_all-in-Block
 returns-in_ok-put_all-in-Block c =
-    let s = scene c.args.checked.now c.args.policy.now in
+    let s = c.args.scene.now in
     let st = c.args.statement.now in
     let rest = frame_in s c.args.rest in
     a_block s st c.in-Block.statements c.args.seam rest c.in_ok-put_all-in-Block.field-0 c.in-Block.is
@@ -21,7 +21,7 @@ returns-in_ok-put_all-in-Block c =
 
 pub returns-in_ok-for_loop-in-For : goal.returns-in_ok-for_loop-in-For
 returns-in_ok-for_loop-in-For c =
-    let s = scene c.args.checked.now c.args.policy.now in
+    let s = c.args.scene.now in
     let st = c.args.statement.now in
     let rest = frame_in s c.args.rest in
     a_for s st c.in-For.head c.in-For.body c.args.seam rest c.in_ok-for_loop-in-For.field-0 c.in-For.is
@@ -31,7 +31,7 @@ returns-in_ok-for_loop-in-For c =
 
 pub put_all-requires : goal.put_all-requires
 put_all-requires c =
-    let s = scene c.args.checked.now c.args.policy.now in
+    let s = c.args.scene.now in
     let st = c.args.statement.now in
     let below = subst (λ x. SeamsBelow most_seams (numbered x c.args.seam)) (block_steps s st.from st.what c.in-Block.statements c.in-Block.is) c.requires.below in
     record { below = subst (λ l. AllSeamsBelow most_seams (numbered_all (stms_in s l) c.args.seam)) (sym c.deref.ensures.value) below }

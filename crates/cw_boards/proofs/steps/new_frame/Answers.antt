@@ -1,22 +1,22 @@
 use Rattle.std.proofs.Common.{◌≡◌, ◌<◌, ◌≤◌, length, get_or, ap, sym, arith, rules}
 use Rattle.std.specs.Prelude.{option_map}
 use Rattle.cw_syntax.specs.Frames.{new_frame}
-use Rattle.cw_boards.specs.Held.{scene, frame_in}
+use Rattle.cw_boards.specs.Held.{frame_in}
 use Rattle.cw_boards.proofs.Below.{function_fits}
 use Rattle.cw_boards.proofs.Routines.{routine_none, frame_at}
 use Rattle.cw_boards.proofs.steps.new_frame.Goals as goal
 
 pub returns-then-number-len : goal.returns-then-number-len
 returns-then-number-len c =
-    let s = scene c.args.checked.now c.args.policy.now in
-    let fs = c.args.checked.now.program.functions.items in
+    let s = c.args.scene.now in
+    let fs = c.args.functions.now in
     let l : length fs ≤ c.args.number = omega arith in
     sym (ap (option_map (new_frame c.args.number)) (routine_none s fs 0 c.args.number l))
 
 pub returns : goal.returns
 returns c =
-    let s = scene c.args.checked.now c.args.policy.now in
-    let fs = c.args.checked.now.program.functions.items in
+    let s = c.args.scene.now in
+    let fs = c.args.functions.now in
     let l : c.args.number < length fs = omega arith in
     let x = c.index-f.result.now in
     let e : x ≡ get_or fs c.args.number x = search rules in
@@ -24,8 +24,8 @@ returns c =
 
 pub frame_from-requires : goal.frame_from-requires
 frame_from-requires c =
-    let s = scene c.args.checked.now c.args.policy.now in
-    let fs = c.args.checked.now.program.functions.items in
+    let s = c.args.scene.now in
+    let fs = c.args.functions.now in
     let l : c.args.number < length fs = omega arith in
     let x = c.index-f.result.now in
     let e : x ≡ get_or fs c.args.number x = search rules in
