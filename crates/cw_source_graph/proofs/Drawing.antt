@@ -10,12 +10,11 @@ use Rattle.cw_syntax.specs.Names.{Names}
 use Rattle.cw_syntax.specs.Plans.{Plan, plan_of}
 use Rattle.cw_syntax.specs.Trees.{File, definition_of, file_of}
 use Rattle.cw_resolve.specs.Held.{lists}
-use Rattle.cw_resolve.specs.Labels.{label_names}
 use Rattle.cw_points.specs.Graphs.{IsGraph}
 use Rattle.cw_points.specs.Points.{point_count}
 use Rattle.cw_callgraph.specs.Effects.{calls, Each}
 use Rattle.cw_source_graph.specs.declared.own.Drawn.{Drawn}
-use Rattle.cw_source_graph.specs.Own.{call_lists, own_names, IsDrawn}
+use Rattle.cw_source_graph.specs.Own.{call_lists, IsDrawn}
 
 rows_from : (plan : Plan) (k : ℕ) (rows : List (Vec ℕ Global)) → ((f : ℕ) (row : Vec ℕ Global) → slice_get rows f ≡ Some row → row.items ≡ calls plan (k + f))
     → lists rows ≡ map (calls plan) (range_with_len k (length rows))
@@ -44,11 +43,3 @@ module _ (names : Names) (source : List ℕ) (p : Program) where
         graph = graph;
         calls = rows_are plan (length p.functions.items) drawn.calls.items count rows ∙ ap (call_lists plan) many;
       }
-
--- no names but these labels
-abbrev only : List (List ℕ) → Names
-only labels = record { descriptors = []; labels = labels; splits = [] }
-
--- where they are the program's
-pub own_are : (names : Names) (labels : List (List ℕ)) (source : List ℕ) (file : File) → names ≡ only labels → labels ≡ label_names source file → names ≡ own_names source file
-own_are names labels source file e f = e ∙ ap only f
