@@ -6,11 +6,11 @@ ghost use Rattle.cw_syntax.specs.Trees.{file_of, tree_of};
 ghost use Rattle.cw_syntax.specs.Plans.{acting, action_of, plan_of};
 ghost use Rattle.cw_syntax.specs.declared.program.Head.{out-Head};
 ghost use Rattle.cw_rights.specs.Policies.{policy_of};
-ghost use Rattle.cw_resolve.specs.Scenes.{names_of, plan_in, scene_in, stm_in, stms_in};
+ghost use Rattle.cw_resolve.specs.Scenes.{names_of, plan_in, stm_in, stms_in};
 ghost use Rattle.cw_points.specs.Points.{points, points_in, points_in_all};
 ghost use Rattle.cw_deeds.specs.Rows.{function_rows, head_rows, row_of};
 
-use cw_resolve::{Act, action_of};
+use cw_resolve::{Act, Scene, action_of};
 use cw_rights::Policy;
 use cw_syntax::checked::Checked;
 use cw_syntax::program::{Expr, Function, Head, Name, Stmt, What};
@@ -36,10 +36,10 @@ pub enum Row {
 }
 
 /// An expression that stands at this place.
-fn expression_row(checked: &Checked, policy: &Policy, e: &Expr, at: u32) -> Row
-    ensures { map row_of (points_in (acting (action_of (scene_in checked.now (policy_of policy.now)) (tree_of e.now)) at)) ≡ result ∷ [] }
+fn expression_row(scene: &Scene, e: &Expr, at: u32) -> Row
+    ensures { map row_of (points_in (acting (action_of scene.now (tree_of e.now)) at)) ≡ result ∷ [] }
 {
-    match action_of(checked, policy, e) {
+    match action_of(scene, e) {
         Act::Computes => Row::Plain(at),
         Act::Opens(_) => Row::Opens(at),
         Act::Closes(_) => Row::Closes(at),
@@ -71,13 +71,8 @@ fn put_head(rows: &mut Vec<Row>, head: &Head, at: u32) -> Result<(), AllocError>
 
 /// Appends the rows of a statement.
 #[cycle(rows)]
-fn put_statement(
-    rows: &mut Vec<Row>,
-    checked: &Checked,
-    policy: &Policy,
-    statement: &Stmt,
-) -> Result<(), AllocError>
-    ensures { IfOk result (λ _. rows.new.items ≡ rows.old.items ++ map row_of (points_in (stm_in (scene_in checked.now (policy_of policy.now)) statement.now))) }
+fn put_statement(rows: &mut Vec<Row>, scene: &Scene, statement: &Stmt) -> Result<(), AllocError>
+    ensures { IfOk result (λ _. rows.new.items ≡ rows.old.items ++ map row_of (points_in (stm_in scene.now statement.now))) }
 {
     match &statement.what {
         What::Decl(_) => {
@@ -101,67 +96,57 @@ fn put_statement(
             Ok(())
         }
         What::Expr(e) => {
-            rows.push(expression_row(checked, policy, e, statement.from))?;
+            rows.push(expression_row(scene, e, statement.from))?;
             Ok(())
         }
-        What::Block(statements) => put_statements(rows, checked, policy, statements),
+        What::Block(statements) => put_statements(rows, scene, statements),
         What::Label(_, _, body) => {
             rows.push(Row::Rests)?;
-            put_statement(rows, checked, policy, body)
+            put_statement(rows, scene, body)
         }
         What::If(_, arm, other) => {
             rows.push(Row::Decides(statement.from))?;
             match other {
-                None => put_statement(rows, checked, policy, arm),
+                None => put_statement(rows, scene, arm),
                 Some(other) => {
-                    put_statement(rows, checked, policy, arm)?;
-                    put_statement(rows, checked, policy, other)
+                    put_statement(rows, scene, arm)?;
+                    put_statement(rows, scene, other)
                 }
             }
         }
         What::While(_, body) => {
             rows.push(Row::Decides(statement.from))?;
-            put_statement(rows, checked, policy, body)
+            put_statement(rows, scene, body)
         }
         What::Do(body, _) => {
-            put_statement(rows, checked, policy, body)?;
+            put_statement(rows, scene, body)?;
             rows.push(Row::Decides(statement.from))?;
             Ok(())
         }
         What::For(head, body) => {
             put_head(rows, head, statement.from)?;
-            put_statement(rows, checked, policy, body)
+            put_statement(rows, scene, body)
         }
     }
 }
 
 /// Appends the rows of these statements.
 #[cycle(rows)]
-fn put_statements(
-    rows: &mut Vec<Row>,
-    checked: &Checked,
-    policy: &Policy,
-    statements: &[Stmt],
-) -> Result<(), AllocError>
-    ensures { IfOk result (λ _. rows.new.items ≡ rows.old.items ++ map row_of (points_in_all (stms_in (scene_in checked.now (policy_of policy.now)) statements.now))) }
+fn put_statements(rows: &mut Vec<Row>, scene: &Scene, statements: &[Stmt]) -> Result<(), AllocError>
+    ensures { IfOk result (λ _. rows.new.items ≡ rows.old.items ++ map row_of (points_in_all (stms_in scene.now statements.now))) }
 {
     for statement in statements {
-        put_statement(rows, checked, policy, statement)?;
+        put_statement(rows, scene, statement)?;
     }
     Ok(())
 }
 
 /// Appends the rows of a function: its entry, its statements, its exit.
-fn put_function(
-    rows: &mut Vec<Row>,
-    checked: &Checked,
-    policy: &Policy,
-    function: &Function,
-) -> Result<(), AllocError>
-    ensures { IfOk result (λ _. rows.new.items ≡ rows.old.items ++ function_rows (scene_in checked.now (policy_of policy.now)) function.now) }
+fn put_function(rows: &mut Vec<Row>, scene: &Scene, function: &Function) -> Result<(), AllocError>
+    ensures { IfOk result (λ _. rows.new.items ≡ rows.old.items ++ function_rows scene.now function.now) }
 {
     rows.push(Row::Rests)?;
-    put_statements(rows, checked, policy, &function.body)?;
+    put_statements(rows, scene, &function.body)?;
     rows.push(Row::Ends)?;
     Ok(())
 }
@@ -169,14 +154,13 @@ fn put_function(
 /// Appends the rows of these functions.
 fn put_functions(
     rows: &mut Vec<Row>,
-    checked: &Checked,
-    policy: &Policy,
+    scene: &Scene,
     functions: &[Function],
 ) -> Result<(), AllocError>
-    ensures { IfOk result (λ _. rows.new.items ≡ rows.old.items ++ flat_map (function_rows (scene_in checked.now (policy_of policy.now))) functions.now) }
+    ensures { IfOk result (λ _. rows.new.items ≡ rows.old.items ++ flat_map (function_rows scene.now) functions.now) }
 {
     for function in functions {
-        put_function(rows, checked, policy, function)?;
+        put_function(rows, scene, function)?;
     }
     Ok(())
 }
@@ -185,7 +169,8 @@ fn put_functions(
 pub fn rows(alloc: Global, checked: &Checked, policy: &Policy) -> Result<Vec<Row>, AllocError>
     ensures rows { IfOk result (λ rows. rows.items ≡ map row_of (points (plan_in checked.now (policy_of policy.now)))) }
 {
+    let scene = Scene::under(alloc, checked, policy)?;
     let mut rows = Vec::new(alloc);
-    put_functions(&mut rows, checked, policy, &checked.program.functions)?;
+    put_functions(&mut rows, &scene, &checked.program.functions)?;
     Ok(rows)
 }

@@ -6,8 +6,7 @@ use Rattle.cw_syntax.specs.declared.program.Head.{out-Head}
 use Rattle.cw_syntax.specs.Trees.{tree_of}
 use Rattle.cw_syntax.specs.Plans.{place_if, steps_of_form}
 use Rattle.cw_syntax.proofs.Shapes.{block_form}
-use Rattle.cw_rights.specs.Policies.{policy_of}
-use Rattle.cw_resolve.specs.Scenes.{scene_in, stm_in, stms_in}
+use Rattle.cw_resolve.specs.Scenes.{stm_in, stms_in}
 use Rattle.cw_points.specs.Points.{points_in, points_in_all}
 use Rattle.cw_scope.proofs.Pushed.{further}
 use Rattle.cw_deeds.specs.Rows.{row_of, head_rows}
@@ -17,7 +16,7 @@ use Rattle.cw_deeds.proofs.items.+rows.Goals as goal
 
 pub put_statement-returns-in-Block : goal.put_statement-returns-in-Block
 put_statement-returns-in-Block t c =
-    let s = scene_in c.args.checked.now (policy_of c.args.policy.now) in
+    let s = c.args.scene.now in
     let at = c.args.statement.now.from in
     let is =
     ap (λ l. c.args.rows.now.items ++ map row_of (points_in_all (stms_in s l))) c.deref.ensures.value
@@ -27,7 +26,7 @@ put_statement-returns-in-Block t c =
 
 pub put_statement-returns-in_ok-put_head-in-For : goal.put_statement-returns-in_ok-put_head-in-For
 put_statement-returns-in_ok-put_head-in-For t c =
-    let s = scene_in c.args.checked.now (policy_of c.args.policy.now) in
+    let s = c.args.scene.now in
     let at = c.args.statement.now.from in
     let old = c.args.rows.now.items in
     let h = c.in-For.head.value in
@@ -51,7 +50,7 @@ put_statement-returns-in_ok-put_head-in-For t c =
 
 pub put_statements-loop-statement-preserved : goal.put_statements-loop-statement-preserved
 put_statements-loop-statement-preserved t c =
-    let s = scene_in c.args.checked.now (policy_of c.args.policy.now) in
+    let s = c.args.scene.now in
     let x = c.statement-item.result in
     further (λ l. map row_of (points_in_all (stms_in s l))) c.args.statements.now c.loop-statement.statement-index x _ _ (map row_of (points_in (stm_in s x))) _ c.loop-statement-test.true
     c.statement-item.is (λ ys. both (points_in (stm_in s x)) (points_in_all (stms_in s ys))) c.in_ok-put_statement.ensures c.loop-statement.invariant
