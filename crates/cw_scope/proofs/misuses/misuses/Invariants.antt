@@ -2,10 +2,8 @@ use Rattle.std.proofs.Common.{◌≡◌, map, drop}
 use Rattle.cw_resolve.specs.Soonest.{sooner, soonest}
 use Rattle.cw_scope.specs.Descriptors.{misuse}
 use Rattle.cw_scope.specs.Held.{tree_at}
-use Rattle.cw_resolve.specs.Scenes.{scene_in}
-use Rattle.cw_rights.specs.Policies.{policy_of}
 use Rattle.cw_scope.proofs.misuses.misuses.Given as goal
 
 abbrev pub invariant-loop-e : goal.invariant-loop-e
-invariant-loop-e l = sooner l.place (soonest (map (misuse (scene_in l.checked (policy_of l.policy))) (map tree_at (drop l.e-index l.nodes)))) ≡ soonest
-    (map (misuse (scene_in l.checked (policy_of l.policy))) (map tree_at l.nodes))
+invariant-loop-e l = sooner l.place (soonest (map (misuse l.scene) (map tree_at (drop l.e-index l.nodes)))) ≡ soonest
+    (map (misuse l.scene) (map tree_at l.nodes))
