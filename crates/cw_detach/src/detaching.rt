@@ -1,6 +1,7 @@
 //! The form of a source.
 
 ghost use Rattle.std.specs.Prelude.{◌≡◌, ◌⊎◌, ◌≤◌, None, Some, true, map, length, IfOk, IfErr};
+ghost use Rattle.cw_syntax.specs.Plans.{function_names};
 ghost use Rattle.cw_syntax.specs.Trees.{file_of};
 ghost use Rattle.cw_rights.specs.Policies.{policy_of};
 ghost use Rattle.cw_rights.specs.Valid.{IsValid};
@@ -19,7 +20,7 @@ use crate::nesting::are_shallow;
 use crate::spans::{first_result, spans};
 use crate::tokens::taken;
 use cw_core::{NoMemory, Quantity, limits};
-use cw_resolve::function_named;
+use cw_resolve::Scene;
 use cw_rights::Policy;
 use cw_scope::{Placed, every_statement};
 use cw_syntax::checked::Checked;
@@ -33,20 +34,23 @@ fn is_main(name: &[u8]) -> bool
 }
 
 /// Whether a name is that of a function which the source defines, and not `main`.
-fn is_function(checked: &Checked, name: &[u8]) -> bool
+fn is_function(scene: &Scene, checked: &Checked, name: &[u8]) -> bool
+    requires { scene.now.functions ≡ function_names checked.now.source.now (file_of checked.now.program) }
     ensures { result ≡ is_function checked.now.source.now (file_of checked.now.program) name.now }
 {
-    function_named(checked, name).is_some() && !is_main(name)
+    let _ = checked;
+    scene.function_named(name).is_some() && !is_main(name)
 }
 
 /// The first detached name that is no function.
 #[tactic(auto, unfolding(crate::specs::Faults::no_function))]
-fn no_function(checked: &Checked, detached: &[Vec<u8>]) -> Option<ProcFault>
-    requires { length detached.now ≤ 65535 }
+fn no_function(scene: &Scene, checked: &Checked, detached: &[Vec<u8>]) -> Option<ProcFault>
+    requires few { length detached.now ≤ 65535 }
+    requires functions { scene.now.functions ≡ function_names checked.now.source.now (file_of checked.now.program) }
     ensures { result ≡ no_function checked.now.source.now (file_of checked.now.program) (lists detached.now) }
 {
     for (i, name) in detached.iter().enumerate() {
-        if !is_function(checked, name) {
+        if !is_function(scene, checked, name) {
             return Some(ProcFault::NoFunction(i as u16));
         }
     }
@@ -160,11 +164,12 @@ fn text(alloc: Global, checked: &Checked, detached: &[Vec<u8>]) -> Result<Vec<u8
 }
 
 /// The first rule on names that is broken.
-fn name_fault(checked: &Checked, policy: &Policy) -> Option<ProcFault>
+fn name_fault(scene: &Scene, checked: &Checked, policy: &Policy) -> Option<ProcFault>
     requires valid { IsValid (policy_of policy.now) }
+    requires functions { scene.now.functions ≡ function_names checked.now.source.now (file_of checked.now.program) }
     ensures { result ≡ name_fault checked.now.source.now (file_of checked.now.program) (policy_of policy.now) }
 {
-    no_function(checked, &policy.detached).or(both(&policy.split, &policy.detached))
+    no_function(scene, checked, &policy.detached).or(both(&policy.split, &policy.detached))
 }
 
 /// The form of a source that was read, under a policy that detaches functions: the source with each statement `f(ARGS);` of a detached
@@ -185,7 +190,8 @@ pub fn detach(alloc: Global, checked: &Checked, policy: &Policy) -> Result<Vec<u
     ensures clear { IfOk result (λ _. IsFirstFault checked.now.source.now (file_of checked.now.program) (policy_of policy.now) None) }
     ensures fault { IfErr result (IsDetachFault checked.now.source.now (file_of checked.now.program) (policy_of policy.now)) }
 {
-    match name_fault(checked, policy) {
+    let scene = Scene::under(alloc, checked, policy)?;
+    match name_fault(&scene, checked, policy) {
         None => text(alloc, checked, &policy.detached),
         Some(fault) => Err(fault),
     }
