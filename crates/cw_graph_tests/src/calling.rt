@@ -98,3 +98,15 @@ fn calls_stand_in_the_order_of_the_text_each_once(rt: HostRuntime) {
         "[] []\n[0] [0]\n[1, 0] [0, 1]\n",
     );
 }
+
+/// More functions than are walked over.
+#[test]
+fn calls_among_many_functions(rt: HostRuntime) {
+    calls(
+        &rt,
+        rt.alloc(),
+        "void a(void){h();}void b(void){}void c(void){b();}void d(void){}void e(void){}void f(void){}void g(void){}void h(void){i();}int main(void){h();c();a();}",
+        "[7]\n[]\n[1]\n[]\n[]\n[]\n[]\n[]\n[7, 2, 0]\n",
+        "[7] [7]\n[] []\n[1] [1]\n[] []\n[] []\n[] []\n[] []\n[] []\n[7, 2, 0] [0, 1, 2, 7]\n",
+    );
+}

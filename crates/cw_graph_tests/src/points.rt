@@ -130,6 +130,40 @@ main 0
     );
 }
 
+/// More labels than are walked over, and one that the policy doesn't name.
+#[test]
+fn labels_have_their_numbers_among_many(rt: HostRuntime) {
+    let named = Named {
+        descriptor: "x",
+        labels: &["a", "b", "c", "d", "e", "f", "g", "h"],
+        split: &[],
+    };
+    all_told(
+        &rt,
+        rt.alloc(),
+        named,
+        Question::Graph,
+        &[(
+            "int main(void){h:a:i:g:;}",
+            "(Entry, 0, Some(1), None, Some(0))
+(Label(7), 0, Some(2), None, Some(1))
+(Label(0), 0, Some(3), None, Some(2))
+(Label(8), 0, Some(4), None, Some(3))
+(Label(6), 0, Some(5), None, Some(4))
+(Step, 0, Some(6), None, None)
+(Exit, 0, None, None, None)
+(0, 6, false)
+main 0
+(15, 0, Entry)
+(17, 1, Label)
+(19, 2, Label)
+(21, 3, Label)
+(23, 4, Label)
+",
+        )],
+    );
+}
+
 #[test]
 fn a_for_goes_on_at_its_step(rt: HostRuntime) {
     draws(
