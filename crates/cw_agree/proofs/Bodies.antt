@@ -32,11 +32,6 @@ or_here false false false true e f h = refl
 or_here false false false false true f h = refl
 or_here false false false false false f h = absurd (cc)
 
-or_in : (a b c : Bool) → b ≡ true → (a || (b || c)) ≡ true
-or_in true b c h = refl
-or_in false true c h = refl
-or_in false false c h = absurd (cc)
-
 -- a parameter as the rules know it
 abbrev one_parameter : Name → Param
 one_parameter name = record { kind = record { base = Void; unsigned = false; stars = 0 }; name = Some name; array = false }

@@ -4,7 +4,6 @@ use Rattle.std.specs.Prelude.{nat_lt, is_some, is_none}
 use Rattle.std.specs.List.{filter, flat_map, list_any, position_or_len, AllByRecursion}
 use Rattle.std.specs.Str.{bytes_eq}
 use Rattle.std.proofs.lemmas.List.Folds.{list_any-append}
-use Rattle.std.proofs.lemmas.Slice.Eq.{bytes_eq-Decides}
 use Rattle.std.proofs.lemmas.Bool.{lt-ltb, or_right, or_left}
 use Rattle.cw_lemmas.proofs.Numbers.{nat_lt_suc}
 use Rattle.cw_syntax.specs.declared.program.Name.{Name}
@@ -194,9 +193,6 @@ module _ (s : Source) (f : Definition) where
       own_place (number_in (own_names s.bytes f).arrays word) (number_in (own_names s.bytes f).plain word)
       (number_in (shared_names s.bytes s.file).arrays word) (number_in (shared_names s.bytes s.file).plain word)
       (or_both _ _ _ _ (is_listed (own_names s.bytes f).arrays word) (is_listed (own_names s.bytes f).plain word) ∙ h)
-
-  same_word : (word : List ℕ) → bytes_eq word word ≡ true
-  same_word word = (bytes_eq-Decides word word).1 refl
 
   -- the items of a list whose names are all among those of the function
   abbrev pub AreOwn : List Declared → Type 0

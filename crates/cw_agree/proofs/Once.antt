@@ -22,10 +22,6 @@ use Rattle.cw_value.specs.Runs.{Going, move_of, answer, counted, told, IsFree, I
 use Rattle.cw_agree.specs.Laws.{OneRun}
 use Rattle.cw_agree.proofs.Paired.{same_state, same_goes, same_halts}
 
-top_none : (f : ℕ → Option ℕ) (ms next : List ℕ) → ((m : ℕ) → f m ≡ None) → top_by f ms ≡ Some next → ⊥
-top_none f [] next h e = absurd (none-some next e)
-top_none f (m ∷ ms) next h e = absurd (none-some next (sym (ap (option_map (λ (new : ℕ). new ∷ ms)) (h m)) ∙ e))
-
 -- a skip and a try, or a skip and a stop, aren't both moves of a table
 not_both : (f g : ℕ → Option ℕ) (ms a b : List ℕ) → ((m x y : ℕ) → f m ≡ Some x → g m ≡ Some y → ⊥) → top_by f ms ≡ Some a → top_by g ms ≡ Some b → ⊥
 not_both f g [] a b h d e = absurd (none-some a d)

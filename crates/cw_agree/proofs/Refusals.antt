@@ -119,9 +119,6 @@ module _ (source : Source) (p : Problem) where
   refused_by true b next i a l e h = refl
   refused_by false b next i a l e h = absurd (both_ways (is_refused (onward (suc i) l)) (onward_unrefused (suc i) l) (ap (λ (x : Board). is_refused x.phase) e ∙ h))
 
-  onward_next : (b next : Board) (stage : ℕ) (later : List Primitive) → next.phase ≡ onward stage later → is_refused next.phase ≡ false
-  onward_next b next stage later e = ap is_refused e ∙ onward_unrefused stage later
-
   grant_unrefused : (b next : Board) (i : ℕ) (a : Primitive) (l : List Primitive) → granted b i a l ≡ next → is_refused next.phase ≡ true → ⊥
   grant_unrefused b next i Split l e h = both_ways (is_refused next.phase) (ap (λ (x : Board). is_refused x.phase) (sym e)) h
   grant_unrefused b next i Enter l e h = both_ways (is_refused next.phase) (ap (λ (x : Board). is_refused x.phase) (sym e) ∙ onward_unrefused (suc i) l) h

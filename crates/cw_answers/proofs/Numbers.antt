@@ -1,5 +1,5 @@
 -- Signed numbers as words.
-use Rattle.std.proofs.Common.{◌≡◌, ◌≢◌, ◌⊎◌, ℕ, zero, suc, ◌-◌, ◌^◌, ◌<◌, ◌≤◌, cond, eqb, ℤ, pos, negsuc, List, [], ◌∷◌, length, false, Option, Some, None, option_map, refl, sym, ap, ◌∙◌, subst, arith}
+use Rattle.std.proofs.Common.{◌≡◌, ◌≢◌, ◌⊎◌, ℕ, suc, ◌-◌, ◌^◌, ◌<◌, cond, eqb, ℤ, pos, negsuc, List, [], ◌∷◌, length, false, Option, Some, None, refl, sym, ap, ◌∙◌, arith}
 use Rattle.std.specs.List.{list_all}
 use Rattle.std.specs.Char.{is_ascii_digit}
 use Rattle.std.specs.Fmt.{decimal, signed_decimal}
@@ -74,31 +74,9 @@ with_sign word digits first None e sign reads = record { some = tt; none = by }
     by (pos n) fits is = no_sign n digits (omega (arith, fits)) (is ∙ e ∙ ap (λ (b : ℕ). b ∷ digits) sign)
     by (negsuc n) fits is = reads.none (negsuc n) fits (ap tail_of (is ∙ e))
 
-pub without_sign : (word digits : List ℕ) (first : ℕ) (read : Option ℕ) (most : ℕ) → most ≡ 2 ^ 63 - 1 → word ≡ first ∷ digits → first ≢ 45 → Reads (λ n. n ≤ most) decimal word read
-    → Reads FitsValue signed_decimal word (option_map pos read)
-without_sign word digits first (Some n) most m e other reads = record { some = (let le = reads.some.0 in omega (arith, le, m), reads.some.1); none = tt }
-without_sign word digits first None most m e other reads = record { some = tt; none = by }
-  where
-    by : (z : ℤ) → FitsValue z → signed_decimal z ≢ word
-    by (pos n) fits is = reads.none n (omega (arith, fits, m)) is
-    by (negsuc n) fits is = other (sym (ap head_of (is ∙ e)))
-
-pub no_size : (digits : List ℕ) (most : ℕ) → most ≡ 2 ^ 63 → Reads (λ n. n ≤ most) decimal digits None → Reads IsNegative unsigned digits None
-no_size digits most m reads = record { some = tt; none = by }
-  where
-    by : (z : ℤ) → IsNegative z → unsigned z ≢ digits
-    by (pos n) fits is = fits
-    by (negsuc n) fits is = reads.none (suc n) (omega (arith, fits, m)) is
-
 pub size_zero : (digits : List ℕ) (size : ℕ) → size ≡ 0 → decimal size ≡ digits → Reads IsNegative unsigned digits None
 size_zero digits size zeroed e = record { some = tt; none = by }
   where
     by : (z : ℤ) → IsNegative z → unsigned z ≢ digits
     by (pos n) fits is = fits
     by (negsuc n) fits is = let same = decimal_injective (suc n) size (omega (arith, fits)) (omega (arith, zeroed)) (is ∙ sym e) in omega (arith, same, zeroed)
-
-pub size_some : (digits : List ℕ) (size most : ℕ) → most ≡ 2 ^ 63 → size ≢ 0 → size ≤ most → decimal size ≡ digits → Reads IsNegative unsigned digits (Some (negsuc (size - 1)))
-size_some digits zero most m some le e = absurd (some refl)
-size_some digits (suc n) most m some le e =
-    let one : suc n - 1 ≡ n = omega arith in
-    subst (λ k. Reads IsNegative unsigned digits (Some (negsuc k))) (sym one) (record { some = (omega (arith, le, m), e); none = tt })

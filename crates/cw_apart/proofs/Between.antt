@@ -7,10 +7,6 @@ use Rattle.cw_syntax.specs.Trees.{Statement, Stated}
 use Rattle.cw_value.specs.Deeds.{begins_at}
 use Rattle.cw_apart.specs.Starts.{start_of, Ascend}
 
-pub ascend_le : (from to : ℕ) (ss : List Statement) → Ascend from to ss → from ≤ to
-ascend_le from to [] h = h
-ascend_le from to (s ∷ ss) h = let p = h.0 in let q = ascend_le (start_of s + 1) to ss h.1 in omega (arith, p, q)
-
 pub wider : (a b c d : ℕ) (ss : List Statement) → c ≤ a → b ≤ d → Ascend a b ss → Ascend c d ss
 wider a b c d [] p q h = omega (arith, p, q, h)
 wider a b c d (s ∷ ss) p q h = ((let r = h.0 in omega (arith, p, r)), wider (start_of s + 1) b (start_of s + 1) d ss (omega arith) q h.1)

@@ -65,6 +65,3 @@ module _ (g : Game) (t : Audit) where
 
     pub group_next : (n : ℕ) (x : Group) → n < length groups → x ≡ get_or groups n x → first_failing (group_conditions g t n (group_of x)) ≡ None → GroupsFrom n ≡ GroupsFrom (n + 1)
     group_next n x lt is e = step_group n x lt is ∙ append_none (group_conditions g t n (group_of x)) (the_rest n) e
-
-    pub group_end : (n : ℕ) → length groups ≤ n → GroupsFrom n ≡ None
-    group_end n le = ap (λ (gs : List Group). first_failing (group_faults g t (enumerate_from n (map group_of gs)))) (drop_all n groups le)

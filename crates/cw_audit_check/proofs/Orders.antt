@@ -72,9 +72,6 @@ module _ (g : Game) (functions : ℕ) (groups : List Group) where
       ap (λ (gs : List Group). first_failing (ranges g functions last (enumerate_from n (map group_of gs))))
       (subst (λ k. drop n groups ≡ get_or groups n x ∷ drop k groups) next (drop-cons groups n x lt) ∙ ap (λ y. y ∷ drop (n + 1) groups) (sym e))
 
-  pub group_own : (last : Option (ℕ × ℕ)) (n : ℕ) (x : Group) → n < length groups → x ≡ get_or groups n x → own x last ≡ false → RangesFrom last n ≡ Some (fault_at n 0 1)
-  group_own last n x lt is e = step_group last n x lt is ∙ ap (λ b. cond b (first_failing (rows_in n x ++ rest n x)) (Some (fault_at n 0 1))) e
-
   pub group_row : (last : Option (ℕ × ℕ)) (n : ℕ) (x : Group) (fault : GroupFault) → n < length groups → x ≡ get_or groups n x → own x last ≡ true
       → first_failing (rows_in n x) ≡ Some fault → RangesFrom last n ≡ Some fault
   group_row last n x fault lt is e h =
@@ -84,9 +81,6 @@ module _ (g : Game) (functions : ℕ) (groups : List Group) where
       → first_failing (rows_in n x) ≡ None → RangesFrom last n ≡ RangesFrom (Some (key_of (group_of x))) (n + 1)
   group_next last n x lt is e h =
       step_group last n x lt is ∙ ap (λ b. cond b (first_failing (rows_in n x ++ rest n x)) (Some (fault_at n 0 1))) e ∙ append_none (rows_in n x) (rest n x) h
-
-  pub group_end : (last : Option (ℕ × ℕ)) (n : ℕ) → length groups ≤ n → RangesFrom last n ≡ None
-  group_end last n le = ap (λ (gs : List Group). first_failing (ranges g functions last (enumerate_from n (map group_of gs)))) (drop_all n groups le)
 
 abbrev pub no_row : ARow
 no_row = (record { 0 = 0 }, record { 0 = 0 }, 0)

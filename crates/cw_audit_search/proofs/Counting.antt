@@ -147,11 +147,6 @@ rows_differ grp a b h = apart (row_place grp a) (row_place grp b) (λ e.
     let same = place_same (λ k. (k.2 ≡ a.pos) × (k.3 ≡ a.state)) (row_place grp a) (row_place grp b) e (refl, refl) in
     not_after (pair_of a) (pair_of b) h same.0 same.1)
 
-groups_differ : (x y : PlainGroup) (a b : PlainRow) → After (key_of x) (key_of y) → is_place (row_place x a) (row_place y b) ≡ false
-groups_differ x y a b h = apart (row_place x a) (row_place y b) (λ e.
-    let same = place_same (λ k. (k.0 ≡ x.function) × (k.1 ≡ x.entered)) (row_place x a) (row_place y b) e (refl, refl) in
-    not_after (key_of x) (key_of y) h same.0 same.1)
-
 distinct_rows : (grp : PlainGroup) (last : Option (ℕ × ℕ)) (rows : List PlainRow) → AscendAfter last (map pair_of rows) → IsDistinct is_place (map (row_place grp) rows)
 unfolding IsDistinct
 distinct_rows grp last [] h = tt

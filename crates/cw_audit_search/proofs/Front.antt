@@ -45,10 +45,6 @@ module _ (g : Game) (functions : ℕ) (fair : IsFair g functions) (s : Found) (s
   start_before bound None b = refl
   start_before bound (Some d) b = low_before d 0 b.0
 
-  less_before : (bound : ℕ) (D : Option ℕ) → IsBound s bound D → (m n : ℕ) → m ≤ n → is_before D n ≡ true → is_before D m ≡ true
-  less_before bound None b m n le e = refl
-  less_before bound (Some d) b m n le e = let l = (before_low bound d n b e).0 in low_before d m (omega (arith, l, le))
-
   -- The lemma: below a distance that the search stands for its rows are closed.
   pub front : (bound : ℕ) (D : Option ℕ) → IsBound s bound D → IsSettled g s bound → IsClosedBy g D (IsRowBelow s D)
   front bound D b settled = record {

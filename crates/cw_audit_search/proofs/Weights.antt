@@ -60,11 +60,6 @@ module _ (g : Game) (s : Found) where
       let sum = b.sum in
       ((b.reach, b.group, omega (arith, sum, few)), way_low h.function h.entered b.pos b.state b.inside h.way (omega (arith, sum, few)) b.leads)
 
-  pub hit_weighs : (T : ℕ) (h : BadWay) → T ≤ 65536 → IsBadWay g s T h → weight s (unfold_hit g h) ≤ 3 * T + 1
-  hit_weighs T h few b =
-      let sum = b.sum in
-      omega (arith, reach_weighs h.function h.entered b.reach b.group, way_weighs h.function h.entered b.pos b.state b.inside h.way (omega (arith, sum, few)) b.leads, sum, few)
-
 -- What is to be written, by what stands first.
 module _ (g : Game) (w : Ways) where
   pub nothing_left : (ms : List Move) → Unfolds g w [] ms → ms ≡ []

@@ -7,7 +7,7 @@ use Rattle.std.specs.Ordering.{is_eq, nat_cmp, ordering_then}
 use Rattle.std.specs.BTreeMap.{is_at}
 use Rattle.std.specs.Cmp.{IsTotalOrder, both_ways, on_total, then_total, nat_cmp_total}
 use Rattle.cw_audit_search.specs.Searches.{is_row}
-use Rattle.cw_audit_search.proofs.Setting.{same_row, same_group, row_itself}
+use Rattle.cw_audit_search.proofs.Setting.{same_row, same_group}
 use Rattle.cw_audit_store.specs.declared.place.Entrance.{Entrance}
 use Rattle.cw_audit_store.specs.declared.place.Place.{Place}
 use Rattle.cw_audit_store.specs.Stores.{entrance_cmp, entrance_eq, place_cmp, place_eq}
@@ -70,6 +70,3 @@ pub equal_entrances : (a b : Entrance) → entrance_eq a b ≡ true → a ≡ b
 equal_entrances a b e =
     same_group (λ f q. a ≡ entrance f q) a.function a.state.0 b.function b.state.0
     (ap (λ s. s && nat_eq b.state.0 a.state.0) (flip b.function a.function) ∙ ap (λ s. nat_eq a.function b.function && s) (flip b.state.0 a.state.0) ∙ e) refl
-
-pub place_itself : (a : Place) → place_eq a a ≡ true
-place_itself a = eq_place a a ∙ row_itself a.entrance.function a.entrance.state.0 a.pos.0 a.state.0

@@ -38,9 +38,6 @@ module _ (g : Game) where
   pub stays : (p : ℕ) → weavers_in (slice_get g.spots p) ≡ false → skipped g p ≡ p
   stays p e = stays_by (length g.spots) p e
 
-  pub again : (p : ℕ) → skipped g (skipped g p) ≡ skipped g p
-  again p = stays (skipped g p) (rests p)
-
   -- one skip leads no further
   pub skip_on : (p : ℕ) → weavers_in (slice_get g.spots p) ≡ true → skipped g (p + 2) ≡ skipped g p
   skip_on p e = sym (ap (λ b. cond b (skip_by (length g.spots) g (p + 2)) p) e) ∙ steady_by (length g.spots) p (omega arith)

@@ -108,12 +108,6 @@ groups_stop text rest old new g e h = subst (λ gs. StopsAt gs text rest) (sym e
     by [] = h
     by (x ∷ old) = h
 
-pub groups_shorter : (rest after more : List ℕ) (l : TextLine) (rows : List RowData) → StartsWith rest l after → after ≡ whole_lines (rows_lines rows) ++ more → length more < length rest
-groups_shorter rest after more l rows s e =
-    let first = shorter rest after l s in
-    let second : length after ≡ length (whole_lines (rows_lines rows)) + length more = ap length e ∙ length-append (whole_lines (rows_lines rows)) more in
-    omega (arith, first, second)
-
 -- ---- how many lines
 
 abbrev Lines : List Group → ℕ

@@ -1,5 +1,5 @@
 -- A line's words, and which line has them.
-use Rattle.std.proofs.Common.{◌≡◌, ℕ, cond, List, [], ◌∷◌, ◌++◌, length, refl, sym, ap, ◌∙◌, subst, arith}
+use Rattle.std.proofs.Common.{◌≡◌, ℕ, cond, List, [], ◌∷◌, ◌++◌, refl, sym, ap, ◌∙◌, subst, arith}
 use Rattle.std.specs.Prelude.{None, Some, Option, codes, bytes_eq}
 use Rattle.std.specs.List.{All}
 use Rattle.std.specs.Char.{is_ascii_digit}
@@ -18,7 +18,7 @@ use Rattle.cw_audit_text.specs.declared.text_line.Kind.{Kind}
 use Rattle.cw_audit_text.specs.declared.text_line.Kind.TheVariants as kind
 use Rattle.cw_audit_text.specs.TextLines.{line_words, line_text, FitsLine}
 use Rattle.cw_audit_text.specs.Faults.{StartsWith}
-use Rattle.cw_audit_text.specs.Kinds.{kind_in, kind_word, rest_words, FitsKind, IsOf}
+use Rattle.cw_audit_text.specs.Kinds.{kind_in, kind_word, rest_words, FitsKind}
 
 words-kind : (l : TextLine) → line_words l ≡ kind_word (kind_in l) ∷ rest_words l
 words-kind Head = refl
@@ -82,30 +82,8 @@ first_word : (l : TextLine) (word : List ℕ) (rest : List (List ℕ)) → line_
 unfolding first others
 first_word l word rest e = let same : kind_word (kind_in l) ∷ rest_words l ≡ word ∷ rest = sym (words-kind l) ∙ e in (ap first same, ap others same)
 
-pub no_words : (whole : List (List ℕ)) → whole ≡ [] → Reads FitsLine line_words whole None
-no_words whole e = record { some = tt; none = λ l fits is. let bad : kind_word (kind_in l) ∷ rest_words l ≡ [] = sym (words-kind l) ∙ is ∙ e in omega (arith, ap length bad) }
-
 pub no_kind : (whole : List (List ℕ)) (word : List ℕ) (rest : List (List ℕ)) → whole ≡ word ∷ rest → Reads FitsKind kind_word word None → Reads FitsLine line_words whole None
 no_kind whole word rest e reads = record { some = tt; none = λ l fits is. reads.none (kind_in l) (fits_kind l fits) (first_word l word rest (is ∙ e)).0 }
-
-pub of_kind : (whole : List (List ℕ)) (word : List ℕ) (rest : List (List ℕ)) (k : Kind) (read : Option TextLine) → whole ≡ word ∷ rest → Reads FitsKind kind_word word (Some k)
-    → Reads (IsOf k) rest_words rest read → Reads FitsLine line_words whole read
-of_kind whole word rest k None e named reads = record {
-  some = tt;
-  none = λ l fits is.
-      let p = first_word l word rest (is ∙ e) in
-      reads.none l (record { fits = fits; kind = one_kind (kind_in l) k (p.0 ∙ sym named.some.1) }) p.1;
-}
-of_kind whole word rest k (Some l) e named reads = record {
-  some = (
-    reads.some.0.fits,
-    words-kind l
-        ∙ ap (λ (w : List ℕ). w ∷ rest_words l) (ap kind_word reads.some.0.kind ∙ named.some.1)
-        ∙ ap (λ (ws : List (List ℕ)). word ∷ ws) reads.some.1
-        ∙ sym e,
-  );
-  none = tt;
-}
 
 -- ---- words without the mark
 
@@ -144,13 +122,6 @@ from_words text words None e reads = record { some = tt; none = λ l fits is. re
 from_words text words (Some l) e reads = record { some = (reads.some.0, ap (joined 32) (reads.some.1 ∙ e) ∙ joined-words 32 text); none = tt }
 
 -- ---- the text begins with a line
-
--- the text begins with this line, and this is behind it
-pub starts : (text l rest : List ℕ) (said : TextLine) → text ≡ l ++ (10 ∷ rest) → Reads FitsLine line_text l (Some said) → StartsWith text said rest
-starts text l rest said e reads = record {
-  fits = reads.some.0;
-  spelled = e ∙ ap (λ (t : List ℕ). t ++ (10 ∷ rest)) (sym reads.some.1) ∙ sym (line_end (line_text said) rest);
-}
 
 pub starts_nowhere : (text more : List ℕ) (said : TextLine) → IsFree 10 text → StartsWith text said more → ⊥
 starts_nowhere text more said free s = no_line 10 text (line_text said) more free (s.spelled ∙ line_end (line_text said) more)

@@ -1,5 +1,5 @@
 -- What a visited row leads to is told of, but for what is behind returns.
-use Rattle.std.proofs.Common.{◌≡◌, ℕ, ◌+◌, ◌∙◌, ◌≤◌, ◌<◌, true, false, Option, Some, sym, ap, subst, arith}
+use Rattle.std.proofs.Common.{◌≡◌, ℕ, ◌+◌, ◌∙◌, ◌≤◌, true, false, Option, Some, sym, ap, subst}
 use Rattle.std.specs.Prelude.{slice_get}
 use Rattle.std.proofs.lemmas.Option.{same_Some}
 use Rattle.cw_lemmas.proofs.Truths.{not_both}
@@ -33,9 +33,6 @@ module _ (h : Held) (s : Search) (key number : ℕ) where
         let same = same_Some (met.place, met.row) (at, row) (sym entry ∙ e) in
         subst (λ (p : Place × Row). reach_of s p.0 ≡ Some r → key ≤ r + p.1.inside → AreLeadsTold h s p.0 p.1 r) same
         (λ known. subst (λ (r : ℕ). key ≤ r + met.row.inside → AreLeadsTold h s met.place met.row r) (same_Some met.reach r (sym there.reach ∙ known)) told) er low
-
-    pub leads_nearer : met.reach + met.row.inside < key → AreLeadsToldBy h s key number
-    leads_nearer less = of_met (λ low. absurd (omega (arith, less, low)))
 
     pub leads_within : is_inner (spot_at h met.place) ≡ true → ((by : Move) → is_step by ≡ true → IsStepTold h s met.place met.row.inside by) → AreLeadsToldBy h s key number
     leads_within inner moves = of_met (λ low. record {

@@ -1,6 +1,6 @@
 -- What a move does, by the choice that it makes.
 use Rattle.std.proofs.Common.{◌≡◌, ℕ, suc, ◌+◌, List, [], ◌∷◌, ◌++◌, Bool, true, false, cond, Option, Some, None, drop, refl, sym, ap, ap₂, ◌∙◌, subst, add-one}
-use Rattle.std.specs.Prelude.{slice_get, option_map}
+use Rattle.std.specs.Prelude.{slice_get}
 use Rattle.cw_rights.specs.declared.capabilities.Caps.{Caps}
 use Rattle.cw_rights.specs.declared.capabilities.Primitive.{Primitive}
 use Rattle.cw_rights.specs.declared.capabilities.Primitive.TheVariants.{Limit, Enter, Split}
@@ -12,7 +12,7 @@ use Rattle.cw_rights.specs.Words.{Word}
 use Rattle.cw_certs.specs.declared.moves.Move.{Move}
 use Rattle.cw_certs.specs.declared.moves.Move.TheVariants.{Skip, Try, Grant, Refuse, On, Left, Right, Opened, Failed, Stop}
 use Rattle.cw_syntax.specs.Plans.{Plain, Break, Continue, Return, Open, Close, Call, Group, Label, If, While, Do, For}
-use Rattle.cw_syntax.specs.Frames.{Item, Entry, Todo, Test, After, Mark, End, Frame, Way, pass}
+use Rattle.cw_syntax.specs.Frames.{Item, Entry, Todo, Test, After, Mark, End, Frame, Way}
 use Rattle.cw_boards.specs.declared.kinds.FrontKind.{FrontKind}
 use Rattle.cw_boards.specs.declared.choices.Phase.{Phase as HeldPhase}
 use Rattle.cw_boards.specs.declared.choices.Phase.TheVariants.{Visit as HeldVisit, Asked as HeldAsked, Refused as HeldRefused, Split as HeldSplit, Over as HeldOver}
@@ -235,15 +235,6 @@ landed_is p b mode way next k h = by b.stack refl
     by [] e = absurd (none-some k (sym (ap front_kind e) ∙ h))
     by ([] ∷ frames) e = absurd (none-some k (sym (ap front_kind e) ∙ h))
     by ((i ∷ is) ∷ frames) e = landed_at p b mode way next i is frames e ∙ ap (Changed p b mode way next) (same_Some (item_kind i) k (sym (ap front_kind e) ∙ h))
-
-pub no_front : (p : Problem) (mode : Option Caps) (b : Board) (way : Option Way) → None ≡ front_kind b.stack → None ≡ stepped p mode b way
-no_front p mode b None h = refl
-no_front p mode b (Some way) h = by b.stack refl
-  where
-    by : (stack : List Frame) → b.stack ≡ stack → None ≡ stepped p mode b (Some way)
-    by [] e = sym (ap (λ s. option_map (landed p mode b way) (pass p.plan s way)) e)
-    by ([] ∷ frames) e = sym (ap (λ s. option_map (landed p mode b way) (pass p.plan s way)) e)
-    by ((i ∷ is) ∷ frames) e = absurd (none-some (item_kind i) (h ∙ ap front_kind e))
 
 -- violations
 no_letter_at : (i : Item) (is : Frame) (frames : List Frame) (caps : Caps) → None ≡ reached_letter Free (Some (item_kind i)) caps → letters ((i ∷ is) ∷ frames) caps ≡ []

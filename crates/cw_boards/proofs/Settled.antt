@@ -1,16 +1,14 @@
 -- Rewriting the front of a frame.
-use Rattle.std.proofs.Common.{◌≡◌, ◌<◌, ℕ, ◌+◌, ◌∷◌, Bool, true, false, Option, Some, None, Vec, Box, Global, refl, sym, ap, ◌∙◌, arith}
+use Rattle.std.proofs.Common.{◌≡◌, ◌<◌, ℕ, ◌+◌, ◌∷◌, Bool, Option, Some, None, Vec, Box, Global, refl, sym, ap, ◌∙◌, arith}
 use Rattle.std.specs.Prelude.{option_map, is_some}
 use Rattle.std.specs.declared.collections.VecDeque.{VecDeque}
-use Rattle.cw_syntax.specs.declared.program.Expr.{Expr}
 use Rattle.cw_syntax.specs.declared.program.Stmt.{Stmt}
 use Rattle.cw_syntax.specs.declared.program.Head.{Head, out-Head}
-use Rattle.cw_syntax.specs.declared.program.What.TheVariants.{Block, Expr as ExprWhat, While as WhileWhat, Do as DoWhat, For as ForWhat}
-use Rattle.cw_syntax.specs.Trees.{form_of, tree_of}
-use Rattle.cw_syntax.specs.Plans.{Action, Computes, Opens, Closes, Invokes, action_of, acting, Stm, Group, While, Do, Stms, end, then, Scene, numbered, numbered_all, steps_of_form}
-use Rattle.cw_syntax.specs.Frames.{Todo, Test, Mark, Frame, items_of, init_if, opened, opened_all, settle}
+use Rattle.cw_syntax.specs.declared.program.What.TheVariants.{Block, For as ForWhat}
+use Rattle.cw_syntax.specs.Plans.{Stm, Group, Stms, end, then, Scene, numbered, numbered_all}
+use Rattle.cw_syntax.specs.Frames.{Todo, Test, Mark, Frame, items_of, init_if, settle}
 use Rattle.cw_boards.specs.declared.items.Item.{Item as Held}
-use Rattle.cw_boards.specs.declared.frames.Rewritten.TheVariants.{Last, More}
+use Rattle.cw_boards.specs.declared.frames.Rewritten.TheVariants.{More}
 use Rattle.cw_resolve.specs.Scenes.{stm_in, stms_in}
 use Rattle.cw_boards.specs.Held.{frame_in}
 use Rattle.cw_boards.specs.Rewriting.{weights, frame_weight, Rewrites}
@@ -46,16 +44,6 @@ module _ (s : Scene) where
   abbrev Looped : ℕ → Bool → Bool → Stmt → ℕ → Frame → Frame
   Looped at decided stepped body j rest = Test at decided stepped (numbered (stm_in s body) j) ∷ (Mark ∷ rest)
 
-  pub a_while : (st : Stmt) (e : Expr) (b : Box Stmt Global) (j : ℕ) (rest : Frame) (d : VecDeque Held Global) → st.what ≡ WhileWhat e b → frame_in s d ≡ Looped st.from true false b.value j rest
-      → Rewrites s (At st j rest) (More d)
-  a_while st e b j rest d q f = more st (While st.from (stm_in s b.value)) j rest (Looped st.from true false b.value j rest) d (ap (λ w. steps_of_form s st.from (form_of w)) q) f refl (omega arith)
-
-  pub a_do : (st : Stmt) (b : Box Stmt Global) (e : Expr) (j : ℕ) (rest : Frame) (d : VecDeque Held Global) → st.what ≡ DoWhat b e
-      → frame_in s d ≡ Todo (numbered (stm_in s b.value) j) ∷ Looped st.from true false b.value j rest → Rewrites s (At st j rest) (More d)
-  a_do st b e j rest d q f =
-      more st (Do st.from (stm_in s b.value)) j rest (Todo (numbered (stm_in s b.value) j) ∷ Looped st.from true false b.value j rest) d (ap (λ w. steps_of_form s st.from (form_of w)) q) f refl
-      (omega arith)
-
   init_settles : (init : Option ℕ) (at : ℕ) (decided stepped : Bool) (b : Stm) (rest : Frame)
       → settle (init_if init (Test at decided stepped b ∷ (Mark ∷ rest))) ≡ init_if init (Test at decided stepped b ∷ (Mark ∷ rest))
   init_settles None at decided stepped b rest = refl
@@ -76,17 +64,3 @@ module _ (s : Scene) where
       (for_steps s st.from st.what h b q) f
       (init_settles init st.from (is_some o.test) (is_some o.step) body rest)
       (init_weighs init st.from (is_some o.test) (is_some o.step) body rest)
-
-  -- the statements that are no blocks and no loops stay
-  stays : (st : Stmt) (x : Stm) (j : ℕ) (rest : Frame) (d : VecDeque Held Global) → stm_in s st ≡ x → settle (Todo (numbered x j) ∷ rest) ≡ Todo (numbered x j) ∷ rest
-      → frame_in s d ≡ At st j rest → Rewrites s (At st j rest) (Last d)
-  stays st x j rest d e k f = f ∙ ap (λ y. Todo (numbered y j) ∷ rest) e ∙ sym k ∙ ap (λ y. settle (Todo (numbered y j) ∷ rest)) (sym e)
-
-  act_stays : (a : Action) (at j : ℕ) (rest : Frame) → settle (Todo (numbered (acting a at) j) ∷ rest) ≡ Todo (numbered (acting a at) j) ∷ rest
-  act_stays Computes at j rest = refl
-  act_stays (Opens d) at j rest = refl
-  act_stays (Closes d) at j rest = refl
-  act_stays (Invokes callee) at j rest = refl
-
-  pub expr_stays : (st : Stmt) (e : Expr) (j : ℕ) (rest : Frame) (d : VecDeque Held Global) → st.what ≡ ExprWhat e → frame_in s d ≡ At st j rest → Rewrites s (At st j rest) (Last d)
-  expr_stays st e j rest d q f = stays st (acting (action_of s (tree_of e)) st.from) j rest d (ap (λ w. steps_of_form s st.from (form_of w)) q) (act_stays (action_of s (tree_of e)) st.from j rest) f

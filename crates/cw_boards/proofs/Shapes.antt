@@ -5,27 +5,12 @@ use Rattle.cw_syntax.specs.declared.program.What.{What}
 use Rattle.cw_syntax.specs.declared.program.Head.{Head, Head'}
 use Rattle.cw_syntax.specs.declared.program.What.TheVariants.{For as ForWhat}
 use Rattle.cw_syntax.specs.Trees.{Statement, form_of, for_of, Stated}
-use Rattle.cw_syntax.specs.Plans.{Stm, Plain, Break, Continue, Return, Open, Close, Call, Group, Label, If, While, Do, For, Scene, numbered, steps_of_form}
+use Rattle.cw_syntax.specs.Plans.{Scene, numbered, steps_of_form}
 use Rattle.cw_boards.specs.declared.kinds.FrontKind.TheVariants.{Loop as LoopKind}
 use Rattle.cw_boards.specs.Kinds.{kind_of}
 use Rattle.cw_syntax.specs.Frames.{Frame, Todo, Way}
 use Rattle.std.specs.Prelude.{None}
 use Rattle.cw_boards.specs.Turns.{entered}
-
-pub numbered_kind : (s : Stm) (j : ℕ) → kind_of (numbered s j) ≡ kind_of s
-numbered_kind (Plain at) j = refl
-numbered_kind (Break at) j = refl
-numbered_kind (Continue at) j = refl
-numbered_kind (Return at) j = refl
-numbered_kind (Open at i d) j = refl
-numbered_kind (Close at i d) j = refl
-numbered_kind (Call at i callee) j = refl
-numbered_kind (Group ss) j = refl
-numbered_kind (Label at mark i l s) j = refl
-numbered_kind (If at s t) j = refl
-numbered_kind (While at s) j = refl
-numbered_kind (Do at s) j = refl
-numbered_kind (For at init decided stepped s) j = refl
 
 loops : (s : Scene) (at : ℕ) (h : Head) (body : Statement) → LoopKind ≡ kind_of (steps_of_form s at (for_of h body))
 loops s at (Head' init test step) body = refl

@@ -39,11 +39,6 @@ at_entry [] f l = absurd (omega (arith, l))
 at_entry (x ∷ xs) zero l = (x, refl, refl)
 at_entry (x ∷ xs) (suc f) l = at_entry xs f (omega (arith, l))
 
-pub entry_place : (effects : List Effect) (f : ℕ) (e : Effect) → f < length effects → e ≡ get_or effects f e → e.forbids ≡ at (map (λ e. e.forbids) effects) f
-entry_place [] f e l is = absurd (omega (arith, l))
-entry_place (x ∷ xs) zero e l is = ap (λ (y : Effect). y.forbids) is
-entry_place (x ∷ xs) (suc f) e l is = entry_place xs f e (omega (arith, l)) is
-
 -- a name's number is one of a function
 pub named_within : (checked : Checked) (name : List ℕ) (f n : ℕ) → number_in (function_names checked.source.now (file_of checked.program)) name ≡ Some f
     → n ≡ length checked.program.functions.items → f < n

@@ -61,14 +61,6 @@ each_more P [] x n l h p = each_cons P x [] (subst (λ m. P m x) (sym l) p) (λ 
 each_more P (y ∷ ys) x zero l h p = absurd (omega arith)
 each_more P (y ∷ ys) x (suc n) l h p = each_cons P y (ys ++ x ∷ []) (h 0 y refl) (each_more (λ f z. P (suc f) z) ys x n (omega arith) (λ f z e. h (suc f) z e) p)
 
-pub no_effects : (rows : List (Vec ℕ Global)) (heads bodies : List (Option ℕ)) → AreEffects rows heads bodies 0 []
-no_effects rows heads bodies = record {
-  count = refl;
-  calls = λ f y e. absurd (none-some y e);
-  reaches = λ f y e. absurd (none-some y e);
-  forbids = λ f y e. absurd (none-some y e);
-}
-
 pub effects_more : (rows : List (Vec ℕ Global)) (heads bodies : List (Option ℕ)) (n : ℕ) (effects : List Effect) (effect : Effect)
     → AreEffects rows heads bodies n effects
     → effect.calls.items ≡ next_in rows n

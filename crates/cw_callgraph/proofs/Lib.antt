@@ -7,6 +7,5 @@ pub mod Rows
 mod Least
 mod Nodes
 mod Barred
-pub mod Labelled
 mod Parted
 mod Forbidden

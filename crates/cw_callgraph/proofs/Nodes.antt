@@ -33,9 +33,6 @@ module _ (s : Scene) (file : List Known) where
       → formed s file inner at (form_of w) ≡ stated_all s file inner (statements_of v.items)
   block_places inner at w v e = ap (formed s file inner at) (block_form w v e)
 
-  pub block_known : (w : What) (v : Vec Stmt Global) → w ≡ Block v → known_in s file (form_of w) ≡ []
-  block_known w v e = ap (known_in s file) (block_form w v e)
-
   -- a `for` with this head and this body
   abbrev pub for_places : List Known → Head → Stmt → List ℕ
   for_places inner h body =

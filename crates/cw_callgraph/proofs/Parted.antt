@@ -1,18 +1,16 @@
 -- What the effects of a source's functions are found out from, and the least place that forbids splitting one.
-use Rattle.std.proofs.Common.{◌≡◌, ℕ, List, length, refl, sym, ap, ◌∙◌, subst, Option}
-use Rattle.std.specs.List.{All, Contains}
-use Rattle.std.proofs.lemmas.List.{length-map}
+use Rattle.std.proofs.Common.{◌≡◌, ℕ, List, length, refl, sym, subst, Option}
+use Rattle.std.specs.List.{Contains}
 use Rattle.cw_syntax.specs.declared.checked.Checked.{Checked}
-use Rattle.cw_syntax.specs.Trees.{definition_of, file_of}
+use Rattle.cw_syntax.specs.Trees.{file_of}
 use Rattle.cw_rights.specs.Policies.{PlainPolicy}
 use Rattle.cw_resolve.specs.Scenes.{scene_in, names_of, plan_in}
 use Rattle.cw_callgraph.specs.declared.table.Parts.{Parts}
 use Rattle.cw_callgraph.specs.Effects.{calls, Reaches}
-use Rattle.cw_callgraph.specs.Finding.{AreBelow, AreReached, lists_of, next_in}
-use Rattle.cw_callgraph.specs.Forbidding.{IsLeast, Forbids, body_places}
-use Rattle.cw_callgraph.specs.Lowest.{lowest, forbidden}
+use Rattle.cw_callgraph.specs.Finding.{AreReached, next_in}
+use Rattle.cw_callgraph.specs.Forbidding.{IsLeast, Forbids}
+use Rattle.cw_callgraph.specs.Lowest.{forbidden}
 use Rattle.cw_callgraph.specs.Parts.{ArePartsOf}
-use Rattle.cw_callgraph.specs.Walking.{head_bar}
 use Rattle.cw_callgraph.proofs.Calling.{same_calls, rows_count}
 use Rattle.cw_callgraph.proofs.Least.{forbidden_is}
 use Rattle.cw_callgraph.proofs.Reaching.{same_reach}
@@ -20,18 +18,6 @@ use Rattle.cw_callgraph.proofs.Reaching.{same_reach}
 module _ (checked : Checked) (policy : PlainPolicy) (parts : Parts) (are : ArePartsOf checked policy parts) where
   pub count : length parts.calls.rows.items ≡ length checked.program.functions.items
   count = rows_count (scene_in checked policy) checked.program.functions.items parts.calls.rows.items are.calls
-
-  pub below : All (AreBelow (length parts.calls.rows.items)) (lists_of parts.calls.rows.items)
-  below = subst (λ n. All (AreBelow n) (lists_of parts.calls.rows.items)) (sym count) are.below
-
-  pub heads_count : length parts.bars.heads.items ≡ length parts.calls.rows.items
-  heads_count = ap length are.heads ∙ length-map checked.program.functions.items head_bar ∙ sym count
-
-  pub bodies_count : length parts.bars.bodies.items ≡ length parts.calls.rows.items
-  bodies_count =
-      ap length are.bodies
-      ∙ length-map checked.program.functions.items (λ f. lowest (body_places (scene_in checked policy) (file_of checked.program) (definition_of f)))
-      ∙ sym count
 
   pub called : (f : ℕ) → next_in parts.calls.rows.items f ≡ calls (plan_in checked policy) f
   called = same_calls (scene_in checked policy) checked.program.functions.items (plan_in checked policy).main parts.calls.rows.items are.calls

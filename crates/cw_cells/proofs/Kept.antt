@@ -1,6 +1,6 @@
 -- The cells that entries show.
 use Rattle.std.proofs.Common.{◌≡◌, ℕ, zero, suc, ℤ, ◌+◌, ◌-◌, ◌<◌, ◌≤◌, Bool, if◌then◌else◌, Option, List, [], ◌∷◌, ◌++◌, length, map, take, drop, set, get_or, replicate, refl, sym, ap, ◌∙◌, arith, slice_get, None}
-use Rattle.std.proofs.lemmas.List.{length-append, length-replicate, length-map, length-take, append_assoc, replicate-append-replicate, take-replicate, set-append_left, map-set, drop_more, set_at, length-take-le, take_more, drop-replicate}
+use Rattle.std.proofs.lemmas.List.{length-append, length-replicate, length-map, append_assoc, replicate-append-replicate, take-replicate, set-append_left, map-set, drop_more, set_at, length-take-le, take_more, drop-replicate}
 use Rattle.std.specs.Prelude.{unwrap_or}
 use Rattle.std.proofs.lemmas.Option.{unwrap_or-slice_get}
 use Rattle.std.proofs.lemmas.Bool.{eq-eqb, ne_eqb}
@@ -21,12 +21,6 @@ take_of_set (suc n) (x ∷ xs) zero a = refl
 take_of_set (suc n) (x ∷ xs) (suc i) a = ap (λ t. x ∷ t) (take_of_set n xs i a)
 
 module _ (turn size : ℕ) (rest : Option ℤ) where
-  pub length-shown : (entries : List Entry) → length (shown turn size rest entries) ≡ size
-  length-shown entries =
-      let whole : length (map (held turn rest) entries ++ replicate size rest) ≡ length (map (held turn rest) entries) + size
-      = length-append (map (held turn rest) entries) (replicate size rest) ∙ ap (λ k. length (map (held turn rest) entries) + k) (length-replicate size rest) in
-      omega (arith, length-take size (map (held turn rest) entries ++ replicate size rest), whole)
-
   held_now : (cell : Option ℤ) → held turn rest (record { turn = turn; cell = cell }) ≡ cell
   held_now cell = ap (λ (b : Bool). if b then cell else rest) (eq-eqb turn turn refl)
 

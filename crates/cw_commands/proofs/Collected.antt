@@ -16,10 +16,6 @@ pub one_behind : (found : List Text) (word : Text) (rest : Option (List Text)) �
 one_behind found word None = refl
 one_behind found word (Some words) = ap Some (sym (append_assoc found (word ∷ []) words))
 
-pub none_before : (rest : Option (List Text)) → rest ≡ behind [] rest
-none_before None = refl
-none_before (Some words) = refl
-
 line_more : (places : List Text) (place : Text) → with_rule (line_app places) (word_rule place) ≡ line_app (places ++ (place ∷ []))
 line_more places place = ap (λ rules. record (line_app places) { top = record (line_app places).top { rules = rules } }) (sym (map-append word_rule places (place ∷ [])))
 

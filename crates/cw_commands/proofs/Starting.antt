@@ -8,7 +8,7 @@ use Rattle.cw_commands.specs.declared.ending.Ending.TheVariants.{Put, Refused as
 use Rattle.cw_commands.specs.declared.outcome.Outcome.{Outcome}
 use Rattle.cw_commands.specs.declared.outcome.Outcome.TheVariants.{Told, Refused}
 use Rattle.cw_commands.specs.Files.{IsUnread}
-use Rattle.cw_commands.specs.Starts.{begun_of, noted_from, Begins, BeginsLine, EndsLine, IsRefused, IsTold, Starts}
+use Rattle.cw_commands.specs.Starts.{begun_of, noted_from, Begins, EndsLine, IsRefused, Starts}
 
 module _ {O : Type 0} (taken : O → Option (List ℕ)) (faults refused : O → ℕ) where
   pub unput_one : {N : Type 0} (sink : O) (outcome : Outcome O N) → IsRefused outcome → Begins taken faults refused sink sink outcome
@@ -23,18 +23,7 @@ module _ {O : Type 0} (taken : O → Option (List ℕ)) (faults refused : O → 
   begun_is old new (Told reply writer) h = h.0
   begun_is old new (Refused cause line) h = h
 
-  pub begins : {N : Type 0} (old new : O) (outcome : Outcome O N) → Begins taken faults refused old new outcome → Begins taken faults refused (begun_of new outcome) new outcome
-  begins old new (Told reply writer) h = (refl, h.1)
-  begins old new (Refused cause line) h = refl
-
 module _ {N : Type 0} (taken : N → Option (List ℕ)) (faults refused : N → ℕ) where
-  pub unnoted_since : {O : Type 0} (old new : N) (outcome : Outcome O N) → new ≡ old → IsTold outcome → BeginsLine taken faults refused old new outcome
-  unnoted_since old new (Told reply writer) e h = e
-  unnoted_since old new (Refused cause line) e h = absurd h
-
-  pub unnoted : {O : Type 0} (note : N) (outcome : Outcome O N) → IsTold outcome → BeginsLine taken faults refused note note outcome
-  unnoted note outcome h = unnoted_since note note outcome refl h
-
   pub noted_is : (old new : N) (ending : Ending N) → EndsLine taken faults refused old new ending → noted_from new ending ≡ old
   noted_is old new (RefusedEnd cause line) h = h.0
   noted_is old new (Put reply) h = h

@@ -26,11 +26,6 @@ abbrev pub StartsLine : {O N E : Type 0} → (taken : N → Option (List ℕ)) �
 StartsLine taken faults refused old new (Ok outcome) = BeginsLine taken faults refused old new outcome
 StartsLine taken faults refused old new (Err fault) = new ≡ old
 
--- the same of a step before a stage, which is passed or has the answer that is due
-abbrev pub PassesOrStartsLine : {A O N E : Type 0} → (taken : N → Option (List ℕ)) → (faults refused : N → ℕ) → (old new : N) → Result A (Result (Outcome O N) E) → Type 0
-PassesOrStartsLine taken faults refused old new (Ok passed) = new ≡ old
-PassesOrStartsLine taken faults refused old new (Err answer) = StartsLine taken faults refused old new answer
-
 -- the same of an ending: the line of a refusal began at the old note; for another nothing was noted
 abbrev pub EndsLine : {N : Type 0} → (taken : N → Option (List ℕ)) → (faults refused : N → ℕ) → (old new : N) → Ending N → Type 0
 EndsLine taken faults refused old new (RefusedEnd cause line) = (line.begun ≡ old) × Follows taken faults refused line new

@@ -14,9 +14,6 @@ use Rattle.cw_consequences.specs.Unrefused.{varied}
 use Rattle.cw_consequences.specs.Alike.{AreAlike, refused, woven, refuted}
 
 module _ (p : PlainPolicy) (limit enter split stop : Bool) where
-  abbrev y : PlainPolicy
-  y = varied p limit enter split stop p.format
-
   spelling_same : (source : List ℕ) (seam : ℕ) (kind : MarkKind) → spelling (varied p limit enter split stop p.format) source seam kind ≡ spelling p source seam kind
   spelling_same source seam EntryMark = refl
   spelling_same source seam LabelMark = refl

@@ -133,11 +133,6 @@ odd_put old n count digit glyph odd is spelled =
     append_assoc old (glyph ∷ []) (map digit_char (lowest_digits (2 * (count / 2)) n))
     ∙ rw (spelled, is) (ap (λ (z : List ℕ). old ++ map digit_char z) (sym (odd_digits n count odd)))
 
-pub even_put : (old : List ℕ) (n count : ℕ) → count % 2 ≢ 1 → old ++ map digit_char (lowest_digits (2 * (count / 2)) n) ≡ old ++ map digit_char (lowest_digits count n)
-even_put old n count even =
-    let e : 2 * (count / 2) ≡ count = omega (arith, even) in
-    ap (λ (k : ℕ). old ++ map digit_char (lowest_digits k n)) e
-
 -- two bytes that are written leave the length
 pub as_long : (xs : List ℕ) (i j x y long : ℕ) → length xs ≡ long → length (set (set xs i x) j y) ≡ long
 as_long xs i j x y long e = length-set (set xs i x) j y ∙ length-set xs i x ∙ e

@@ -1,5 +1,5 @@
 -- One hexadecimal digit as a byte.
-use Rattle.std.proofs.Common.{◌≡◌, ◌≢◌, ℕ, ◌+◌, ◌-◌, ◌<◌, ◌≤◌, Bool, true, false, leb, ◌&&◌, ◌||◌, refl, sym, ap, ◌∙◌, arith, inl, inr}
+use Rattle.std.proofs.Common.{◌≡◌, ◌≢◌, ℕ, ◌+◌, ◌-◌, ◌<◌, ◌≤◌, Bool, true, false, leb, ◌||◌, refl, sym, ap, ◌∙◌, arith, inl, inr}
 use Rattle.std.specs.Char.{digit_value, digit_char}
 use Rattle.std.specs.Int.{is_in_range}
 use Rattle.std.proofs.Math.Bool.{or-true}
@@ -37,14 +37,6 @@ digit_value-lt b e =
     elim (glyph b e) [
       | figure lo hi ↦ let p = value_figure b lo hi in omega (arith, p, lo, hi)
       | letter lo hi ↦ let p = value_letter b lo hi in omega (arith, p, lo, hi)
-    ]
-
--- the value as the code computes it
-pub value_computed : (b : ℕ) → is_hexadecimal_digit b ≡ true → 57 < b → (97 ≤ b) × (b - 97 + 10 ≡ digit_value b)
-value_computed b e past =
-    elim (glyph b e) [
-      | figure lo hi ↦ absurd (omega (arith, hi, past))
-      | letter lo hi ↦ let p = value_letter b lo hi in (lo, omega (arith, p, lo))
     ]
 
 pub digit_char-digit_value : (b : ℕ) → is_hexadecimal_digit b ≡ true → digit_char (digit_value b) ≡ b

@@ -174,11 +174,6 @@ list_all-drop zero ds all = all
 list_all-drop (suc i) [] all = all
 list_all-drop (suc i) (d ∷ ds) all = list_all-drop i ds (both_from_and (is_hexadecimal_digit d) (list_all is_hexadecimal_digit ds) all).1
 
-pub is_digit-at : (ds : List ℕ) (i : ℕ) → list_all is_hexadecimal_digit ds ≡ true → i < length ds → is_hexadecimal_digit (get_or ds i 0) ≡ true
-is_digit-at [] i all lt = absurd (omega (arith, lt))
-is_digit-at (d ∷ ds) zero all lt = (both_from_and (is_hexadecimal_digit d) (list_all is_hexadecimal_digit ds) all).0
-is_digit-at (d ∷ ds) (suc i) all lt = is_digit-at ds i (both_from_and (is_hexadecimal_digit d) (list_all is_hexadecimal_digit ds) all).1 (omega (arith, lt))
-
 pub sum_below : (ds : List ℕ) (place : ℕ) → list_all is_hexadecimal_digit ds ≡ true → place ≤ length ds → digits_value 16 (drop (length ds - place) ds) < 2 ^ (4 * place)
 sum_below ds place all le =
     let e : length (drop (length ds - place) ds) ≡ place = length-drop (length ds - place) ds ∙ omega (arith, le) in

@@ -3,10 +3,10 @@ use Rattle.std.proofs.Common.{◌≡◌, ℕ, zero, suc, ◌+◌, ◌*◌, ◌/�
 use Rattle.std.specs.Int.{bit_at}
 use Rattle.std.proofs.lemmas.Bool.{cases_lt, eqb-true, false≢true}
 use Rattle.std.proofs.lemmas.Nat.Bits.{bit_at-zero, bit_at-suc, bit_at-lt, bit_at_above, same_from_bits}
-use Rattle.std.proofs.Math.Nat.{div-eq_of_lt, mod-eq_of_lt, add_comm}
+use Rattle.std.proofs.Math.Nat.{mod-eq_of_lt, add_comm}
 use Rattle.std.proofs.lemmas.Nat.{mod-pow-add}
 use Rattle.std.specs.Cmp.{both_ways}
-use Rattle.cw_core.specs.StateSet.{has, IsSubset, IsBelow, sum_of_powers}
+use Rattle.cw_core.specs.StateSet.{has, IsBelow, sum_of_powers}
 
 -- the empty set has no member
 pub has-zero : (s : ℕ) → has 0 s ≡ false
@@ -29,10 +29,6 @@ bit_from_has a b s e = same_bit (bit_at a s) (bit_at b s) (bit_at-lt a s) (bit_a
 -- two sets with the same members are the same number
 pub same_from_members : (a b : ℕ) → ((s : ℕ) → has a s ≡ has b s) → a ≡ b
 same_from_members a b h = same_from_bits a b (λ s. bit_from_has a b s (h s))
-
--- two sets within each other are the same number
-pub same_from_subsets : (a b : ℕ) → IsSubset a b → IsSubset b a → a ≡ b
-same_from_subsets a b p q = same_from_members a b (λ s. both_ways (has a s) (has b s) (p s) (q s))
 
 -- the members from 1 on are those of the half, moved up by one
 pub has-suc : (set s : ℕ) → has set (suc s) ≡ has (set / 2) s
@@ -58,9 +54,6 @@ IsBelow_from_lt n set lt s h =
           let none : bit_at set s ≡ 0 = bit_at_above set n s lt le in
           absurd (omega (arith, none, eqb-true (bit_at set s) 1 h))
     ]
-
-pub IsBelow-shr : (n set : ℕ) → IsBelow n set → set / 2 ^ n ≡ 0
-IsBelow-shr n set h = let lt = IsBelow-lt n set h in div-eq_of_lt lt
 
 power_of_member : (set n : ℕ) → cond (has set n) (2 ^ n) 0 ≡ set / 2 ^ n % 2 ^ 1 * 2 ^ n
 unfolding has

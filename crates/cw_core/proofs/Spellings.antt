@@ -1,5 +1,5 @@
 -- Numbers and sets that stand in a text, for whoever reads and writes them.
-use Rattle.std.proofs.Common.{◌≡◌, ℕ, ◌+◌, ◌^◌, ◌<◌, Bool, true, false, cond, List, [], ◌∷◌, ◌++◌, length, take, drop, refl, sym, ap, ◌∙◌, arith, append-nil}
+use Rattle.std.proofs.Common.{◌≡◌, ℕ, ◌+◌, ◌^◌, ◌<◌, Bool, true, List, [], ◌∷◌, ◌++◌, length, take, drop, refl, sym, ap, ◌∙◌, append-nil}
 use Rattle.std.specs.Char.{is_ascii_digit}
 use Rattle.std.specs.Fmt.{decimal}
 use Rattle.std.specs.List.{take_while, list_all}
@@ -7,8 +7,7 @@ use Rattle.std.specs.Str.Parse.{AllDigits}
 use Rattle.std.proofs.Math.Seq.{drop-append_seam}
 use Rattle.std.proofs.lemmas.Bool.{le-leb}
 use Rattle.std.proofs.lemmas.Fmt.{digits_decimal, decimal_injective}
-use Rattle.std.proofs.lemmas.List.{drop-drop, take-append-drop}
-use Rattle.std.specs.Prelude.{codes}
+use Rattle.std.proofs.lemmas.List.{drop-drop}
 use Rattle.std.proofs.lemmas.List.Sums.{take_while-cons}
 use Rattle.std.proofs.lemmas.Str.Parse.{digit_from_value}
 use Rattle.cw_core.specs.Numerals.{is_hexadecimal_digit, hexadecimal, hexadecimal_digits, IsDecimalAt, IsSetAt}
@@ -16,7 +15,7 @@ use Rattle.cw_core.specs.StateSet.{IsBelow}
 use Rattle.cw_core.proofs.Decimals.{own}
 use Rattle.std.proofs.lemmas.Bool.{and_parts as both_from_and}
 use Rattle.cw_core.proofs.Hexadecimals.{hexadecimal_digits_are_digits, same_from_digits}
-use Rattle.cw_core.proofs.Texts.{mark_and_run, set_at, length-hexadecimal, hexadecimal-parts}
+use Rattle.cw_core.proofs.Texts.{mark_and_run, set_at}
 
 -- ---- the longest run at the front
 
@@ -25,22 +24,6 @@ take_while-append p [] ys all = refl
 take_while-append p (x ∷ xs) ys all =
     let each = both_from_and (p x) (list_all p xs) all in
     rw (take_while-cons p x (xs ++ ys), each.0) (ap (λ (zs : List ℕ). x ∷ zs) (take_while-append p xs ys each.1))
-
-drop-take_while : (p : ℕ → Bool) (xs : List ℕ) → xs ≡ take_while p xs ++ drop (length (take_while p xs)) xs
-drop-take_while p [] = refl
-drop-take_while p (x ∷ xs) = rw (take_while-cons p x xs) (by_test (take_while p xs) (drop-take_while p xs) (p x))
-  where
-    by_test : (run : List ℕ) → xs ≡ run ++ drop (length run) xs → (t : Bool) → x ∷ xs ≡ cond t (x ∷ run) [] ++ drop (length (cond t (x ∷ run) [])) (x ∷ xs)
-    by_test run e true = ap (λ (zs : List ℕ). x ∷ zs) e
-    by_test run e false = refl
-
-take_while-past : (p : ℕ → Bool) (xs : List ℕ) → take_while p (drop (length (take_while p xs)) xs) ≡ []
-take_while-past p [] = refl
-take_while-past p (x ∷ xs) = rw (take_while-cons p x xs) (by_test (take_while p xs) (take_while-past p xs) (p x) refl)
-  where
-    by_test : (run : List ℕ) → take_while p (drop (length run) xs) ≡ [] → (t : Bool) → p x ≡ t → take_while p (drop (length (cond t (x ∷ run) [])) (x ∷ xs)) ≡ []
-    by_test run e true is = e
-    by_test run e false is = rw (take_while-cons p x xs, is) refl
 
 -- what a spelling with the front and the run of digits leaves
 pub run-append : (p : ℕ → Bool) (ds rest : List ℕ) → list_all p ds ≡ true → take_while p rest ≡ [] → ds ≡ take_while p (ds ++ rest)
@@ -62,18 +45,6 @@ decimal_at text at number rest small e stops = record {
   spelled = run-append is_ascii_digit (decimal number) rest (decimal_has_digits number small) stops ∙ ap (take_while is_ascii_digit) (sym e);
 }
 
--- what stands there is the decimal, and then the rest of the text
-pub drop-decimal : (text : List ℕ) (at number : ℕ) → IsDecimalAt text at number → drop at text ≡ decimal number ++ drop (at + length (decimal number)) text
-drop-decimal text at number h =
-    drop-take_while is_ascii_digit (drop at text)
-    ∙ rw (← h.spelled) (ap (λ (zs : List ℕ). decimal number ++ zs) (drop-drop (length (decimal number)) at text))
-
--- no digit follows
-pub decimal_stops : (text : List ℕ) (at number : ℕ) → IsDecimalAt text at number → take_while is_ascii_digit (drop (at + length (decimal number)) text) ≡ []
-decimal_stops text at number h =
-    ap (take_while is_ascii_digit) (sym (drop-drop (length (decimal number)) at text))
-    ∙ rw (h.spelled) (take_while-past is_ascii_digit (drop at text))
-
 -- one number stands at a place
 pub one_decimal : (text : List ℕ) (at m n : ℕ) → IsDecimalAt text at m → IsDecimalAt text at n → m ≡ n
 one_decimal text at m n p q = decimal_injective m n p.small q.small (p.spelled ∙ sym q.spelled)
@@ -88,29 +59,6 @@ unfolding hexadecimal
 set_at_text text at set rest small e stops =
     let later : drop (at + 2) text ≡ hexadecimal_digits set ++ rest = sym (drop-drop 2 at text) ∙ ap (drop 2) e in
     set_at text at set (hexadecimal_digits set) (ap (take 2) e) (run-append is_hexadecimal_digit (hexadecimal_digits set) rest (hexadecimal_digits_are_digits set) stops ∙ ap (take_while is_hexadecimal_digit) (sym later)) refl small
-
-rest_of_set : (text : List ℕ) (at set : ℕ) → drop (length (hexadecimal_digits set)) (drop (at + 2) text) ≡ drop (at + length (hexadecimal set)) text
-rest_of_set text at set =
-    let e : at + 2 + length (hexadecimal_digits set) ≡ at + length (hexadecimal set) = omega (arith, length-hexadecimal set) in
-    drop-drop (length (hexadecimal_digits set)) (at + 2) text ∙ ap (λ (k : ℕ). drop k text) e
-
-pub drop-hexadecimal : (text : List ℕ) (at set : ℕ) → IsSetAt text at set → drop at text ≡ hexadecimal set ++ drop (at + length (hexadecimal set)) text
-drop-hexadecimal text at set h =
-    let parts = mark_and_run text at set h in
-    let tail : drop 2 (drop at text) ≡ hexadecimal_digits set ++ drop (at + length (hexadecimal set)) text =
-    drop-drop 2 at text
-    ∙ drop-take_while is_hexadecimal_digit (drop (at + 2) text)
-    ∙ rw (← parts.1) (ap (λ (zs : List ℕ). hexadecimal_digits set ++ zs) (rest_of_set text at set)) in
-    sym (take-append-drop 2 (drop at text))
-    ∙ rw (parts.0, tail) (sym (spelled set (drop (at + length (hexadecimal set)) text)))
-  where
-    spelled : (n : ℕ) (rest : List ℕ) → hexadecimal n ++ rest ≡ codes "0x" ++ (hexadecimal_digits n ++ rest)
-    spelled n rest = ap (λ (zs : List ℕ). zs ++ rest) (hexadecimal-parts n)
-
-pub hexadecimal_stops : (text : List ℕ) (at set : ℕ) → IsSetAt text at set → take_while is_hexadecimal_digit (drop (at + length (hexadecimal set)) text) ≡ []
-hexadecimal_stops text at set h =
-    ap (take_while is_hexadecimal_digit) (sym (rest_of_set text at set))
-    ∙ rw (mark_and_run text at set h).1 (take_while-past is_hexadecimal_digit (drop (at + 2) text))
 
 -- one set stands at a place
 pub one_set : (text : List ℕ) (at m n : ℕ) → IsSetAt text at m → IsSetAt text at n → m ≡ n

@@ -17,10 +17,6 @@ use Rattle.cw_source.proofs.Lying.{Lie, lie_of, lie_le, split, ends, lie_at}
 use Rattle.cw_detach.specs.declared.spans.Span.{Span}
 use Rattle.cw_detach.specs.Form.{calls_one, span_of, spans, AreApart}
 
-apart_le : (from to : ℕ) (ss : List Span) → AreApart from to ss → from ≤ to
-apart_le from to [] h = h
-apart_le from to (s ∷ ss) h = let p = h.0 in let q = h.1 in let r = apart_le s.to to ss h.2 in omega arith
-
 apart_wider : (a b c d : ℕ) (ss : List Span) → c ≤ a → b ≤ d → AreApart a b ss → AreApart c d ss
 apart_wider a b c d [] p q h = omega arith
 apart_wider a b c d (s ∷ ss) p q h = ((let r = h.0 in omega arith), h.1, apart_wider s.to b s.to d ss (omega arith) q h.2)

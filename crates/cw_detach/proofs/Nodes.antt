@@ -1,5 +1,5 @@
 -- Calls and assignments, by the operator of an expression.
-use Rattle.std.proofs.Common.{◌≡◌, ◌≢◌, ℕ, zero, suc, List, [], ◌∷◌, length, cond, false, Some, None, refl, sym, ap, ◌∙◌, Box, Global}
+use Rattle.std.proofs.Common.{◌≡◌, ◌≢◌, ℕ, List, [], ◌∷◌, length, cond, false, Some, None, refl, sym, ap, ◌∙◌, Box, Global}
 use Rattle.cw_syntax.specs.declared.program.Name.{Name}
 use Rattle.cw_syntax.specs.declared.program.Op.{Op}
 use Rattle.cw_syntax.specs.declared.program.Op.TheVariants.{Call as CallOp, Assign}
@@ -29,10 +29,7 @@ module _ (source : List ℕ) (names : List (List ℕ)) where
       let o = out-Expr e in
       ap (place_if source names) (node_is e) ∙ ap (λ t. cond (calls_one source names t) (Some o.from) None) (sym (node_is e))
 
-  -- an assignment by another operator, or of another number of parts
-  pub by_operator : (n : ℕ) (ts : Trees) (a b : ℕ) → (n ≢ 0) → result_of source names (Node (Assign n) ts a b) ≡ None
-  by_operator zero ts a b h = absurd (h refl)
-  by_operator (suc n) ts a b h = refl
+  -- an assignment of another number of parts
 
   pub not_two : (es : List Expr) (a b : ℕ) → (length es ≢ 2) → result_of source names (Node (Assign 0) (trees_of es) a b) ≡ None
   not_two [] a b h = refl

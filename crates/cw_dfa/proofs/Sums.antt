@@ -12,6 +12,3 @@ or_assoc a b c = same_from_bits _ _ (λ i. let x = bit_at_or (bit_or a b) c i in
 
 pub or_zero : (a : ℕ) → bit_or a 0 ≡ a
 or_zero a = same_from_bits _ _ (λ i. let x = bit_at_or a 0 i in let y = bit_at-zero i in omega arith)
-
-pub zero_or : (a : ℕ) → bit_or 0 a ≡ a
-zero_or a = same_from_bits _ _ (λ i. let x = bit_at_or 0 a i in let y = bit_at-zero i in omega arith)

@@ -6,8 +6,8 @@ use Rattle.std.specs.List.{list_all, list_any, enumerate_from, range_with_len}
 use Rattle.std.proofs.Math.Seq.{drop-cons}
 use Rattle.std.proofs.lemmas.Bool.{ltb-true, ne_eqb}
 use Rattle.std.proofs.lemmas.Option.{none-some, same_Some, slice_get-get_or, slice_get-map}
-use Rattle.std.proofs.lemmas.List.{take_all, drop_all}
-use Rattle.std.proofs.lemmas.List.Folds.{list_any_more, list_any_at}
+use Rattle.std.proofs.lemmas.List.{take_all}
+use Rattle.std.proofs.lemmas.List.Folds.{list_any_at}
 use Rattle.cw_core.specs.declared.ids.PosId.{PosId}
 use Rattle.cw_core.specs.declared.ids.StateId.{StateId}
 use Rattle.cw_certs.specs.declared.moves.Move.{Move}
@@ -71,11 +71,6 @@ pub any_here : {A B : Type 0} (test : B → Bool) (f : A → B) (xs : List A) (i
     → list_any test (map f xs) ≡ true
 any_here test f xs i d lt h = any_mapped test f xs ∙ list_any_at (λ x. test (f x)) xs i d lt h
 
-pub any_more : {A B : Type 0} (test : B → Bool) (f : A → B) (xs : List A) (i : ℕ) (d : A) → i < length xs
-    → list_any (λ x. test (f x)) (take i xs) ≡ false → test (f (get_or xs i d)) ≡ false
-    → list_any (λ x. test (f x)) (take (i + 1) xs) ≡ false
-any_more test f xs i d lt h e = list_any_more (λ x. test (f x)) xs i d lt ∙ ap₂ (λ a b. a || b) h e
-
 -- ---- the first condition that fails
 
 -- the conditions of a row, told with its number
@@ -118,9 +113,6 @@ module _ (g : Game) (s : Strategy) (rows : List EnvRow) where
       → From 0 ≡ From i → From 0 ≡ Some (fault_in i condition)
   from_here i d condition lt e h = h ∙ stepped i d lt
       ∙ some_in i (conditions_at i (get_or rows i d)) (all_rows g s (enumerate_from (i + 1) (map row_of (drop (i + 1) rows)))) condition e
-
-  pub from_end : (i : ℕ) → length rows ≤ i → From 0 ≡ From i → From 0 ≡ None
-  from_end i le h = h ∙ ap (λ (rs : List EnvRow). first_failing (all_rows g s (enumerate_from i (map row_of rs)))) (drop_all i rows le)
 
 -- ---- a row that calls a function
 

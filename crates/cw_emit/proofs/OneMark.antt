@@ -31,7 +31,3 @@ regroup now a b rest whole mid new left front mark both all =
 
 pub last_piece : (now left rest new whole : List ℕ) → new ≡ now ++ rest → left ≡ rest → now ++ left ≡ whole → new ≡ whole
 last_piece now left rest new whole put end all = put ∙ ap (λ (z : List ℕ). now ++ z) (sym end) ∙ all
-
-pub four_pieces : (old one two three new a b c d : List ℕ) → one ≡ old ++ a → two ≡ one ++ b → three ≡ two ++ c → new ≡ three ++ d → new ≡ old ++ (a ++ ((b ++ c) ++ d))
-four_pieces old one two three new a b c d p q r s =
-    rw (s, r, q, p) (append_assoc ((old ++ a) ++ b) c d ∙ append_assoc (old ++ a) b (c ++ d) ∙ append_assoc old a (b ++ (c ++ d)) ∙ ap (λ (z : List ℕ). old ++ (a ++ z)) (sym (append_assoc b c d)))

@@ -2,7 +2,7 @@
 use Rattle.std.proofs.Common.{◌≡◌, ℕ, zero, suc, eqb, Bool, true, false, not, List, [], ◌∷◌, ◌++◌, length, take, drop, refl, sym, ap, ◌∙◌, append_assoc, arith}
 use Rattle.std.specs.Prelude.{nat_eq, ◌&&◌, codes}
 use Rattle.std.specs.List.{starts_with}
-use Rattle.std.proofs.lemmas.Bool.{and_parts, and_left, false_from_ne_true, not-true, true≢false, ne_eqb, eqb-true, eq-eqb, both_ways, and_from, not_from_false}
+use Rattle.std.proofs.lemmas.Bool.{and_parts, and_left, false_from_ne_true, not-true, true≢false, ne_eqb, eq-eqb, both_ways, and_from, not_from_false}
 use Rattle.std.proofs.lemmas.List.{take-append-drop}
 use Rattle.cw_emit.specs.Cut.{opening, closing, cut_from, part}
 use Rattle.cw_syntax.specs.PlainMarks.{HasNone}
@@ -19,10 +19,6 @@ free_from_none [] none = refl
 free_from_none (b ∷ bs) none = and_from (not (starts_with nat_eq (b ∷ bs) (codes "cw{*"))) (is_free bs) (not_from_false (starts_with nat_eq (b ∷ bs) (codes "cw{*")) (none 0)) (free_from_none bs (λ at. none (suc at)))
 
 -- passing the bytes of an opening or a closing
-passes : (inside : Bool) (a b c d e f : ℕ) (rest : List ℕ) → cut_from 6 inside (a ∷ b ∷ c ∷ d ∷ e ∷ f ∷ rest) ≡ cut_from 0 inside rest
-unfolding cut_from
-passes inside a b c d e f rest = refl
-
 pub opens : (rest : List ℕ) → cut_from 0 false (opening ++ rest) ≡ cut_from 0 true rest
 unfolding cut_from
 opens rest = refl

@@ -13,9 +13,6 @@ module _ {X : Type 0} (f : ℕ → X → Memory → Outcome Done) (xs : List X) 
   opened : (x : X) → i < length xs → x ≡ get_or xs i x → along f i (drop i xs) m ≡ (f i x m and (λ d k. along f (i + 1) (drop (i + 1) xs) k))
   opened x within is = at_drop_more (λ l. along f i l m) xs i x within ∙ ap (λ x'. along f i (x' ∷ drop (i + 1) xs) m) (sym is)
 
-  pub step_done : (x : X) (d : Done) (k : Memory) → i < length xs → x ≡ get_or xs i x → f i x m ≡ gives d k → along f i (drop i xs) m ≡ along f (i + 1) (drop (i + 1) xs) k
-  step_done x d k within is gave = opened x within is ∙ ap (λ o. o and (λ d k. along f (i + 1) (drop (i + 1) xs) k)) gave
-
   pub step_stops : (x : X) (s : Stop) (k : Memory) → i < length xs → x ≡ get_or xs i x → f i x m ≡ stops s k → along f i (drop i xs) m ≡ stops s k
   step_stops x s k within is stopped = opened x within is ∙ ap (λ o. o and (λ d k. along f (i + 1) (drop (i + 1) xs) k)) stopped
 

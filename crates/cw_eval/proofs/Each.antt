@@ -15,10 +15,6 @@ each f (x ∷ xs) m = f x m and (λ y k. each f xs k and (λ ys l. gives (y ∷ 
 abbrev pub behind : {Y : Type 0} → List Y → Outcome (List Y) → Outcome (List Y)
 behind before o = o and (λ ys k. gives (before ++ ys) k)
 
-pub behind_none : {Y : Type 0} (o : Outcome (List Y)) → behind [] o ≡ o
-behind_none (gives ys k) = refl
-behind_none (stops x k) = refl
-
 behind_one : {Y : Type 0} (before : List Y) (y : Y) (o : Outcome (List Y)) → behind before (o and (λ ys l. gives (y ∷ ys) l)) ≡ behind (before ++ y ∷ []) o
 behind_one before y (gives ys k) = ap (λ zs. gives zs k) (sym (append_assoc before (y ∷ []) ys))
 behind_one before y (stops x k) = refl

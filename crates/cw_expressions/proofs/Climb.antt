@@ -21,9 +21,6 @@ fails_on refusal.NoMemory r f h = tt
 fails_on refusal.Syntax r f h = rw h refl
 fails_on refusal.TooDeep r f h = rw h refl
 
-pub fails_as : (e : Refusal) (r s : Read) → r ≡ s → Fails e s → Fails e r
-fails_as e r s same h = rw same h
-
 -- no operator of the levels past below and up to level is next
 abbrev pub Quiet : (below level : ℕ) → List Lexeme → Type 0
 Quiet below level ts = (l : ℕ) → below < l → l ≤ level → goes_on_at l ts ≡ false

@@ -1,5 +1,5 @@
 -- The different items of a list, ascending.
-use Rattle.std.proofs.Common.{◌≡◌, ⊎_elim, ◌+◌, ◌≤◌, List, [], ◌∷◌, ◌++◌, true, take, length, sym, subst}
+use Rattle.std.proofs.Common.{◌≡◌, ⊎_elim, ◌≤◌, List, [], ◌∷◌, ◌++◌, true, take, length, sym, subst}
 use Rattle.std.specs.FinMap.{IsAntisymmetric}
 use Rattle.std.specs.List.{Contains}
 use Rattle.std.specs.BTreeSet.{BTreeSet, Updates}
@@ -21,9 +21,6 @@ one_more cmp total exact s n items k u h x = (
   λ c. ⊎_elim (λ e. subst (Contains (items ++ k ∷ [])) e (Contains-push items k)) (λ d. Contains-append_left items (k ∷ []) x ((h x).0 d)) (inserted_from cmp total exact s n k u x c),
   λ c. ⊎_elim (λ d. inserted_old cmp total exact s n k u x ((h x).1 d)) (λ e. subst (Contains n.keys) e (inserted_new cmp total exact s n k u)) (Contains-push_cases items k x c),
 )
-
-pub none_yet : {K : Type 0} (items : List K) → HasSame [] (take 0 items)
-none_yet items x = (λ c. c, λ c. c)
 
 pub exactly_same : {K : Type 0} (cmp : K → K → Ordering) (items ys keys : List K) (i : _) → length items ≤ i → ys ≡ keys → IsStrictlySortedBy cmp ys → HasSame keys (take i items)
     → Exactly cmp (Contains items) ys

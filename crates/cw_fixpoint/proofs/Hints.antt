@@ -148,9 +148,6 @@ module _ {K : Type 0} (cmp : K → K → Ordering) (total : IsTotalOrder cmp) (e
             by true t = subst (λ (y : List K). Adds keys y (k ∷ [])) (sym (old t)) (adds_none keys k (there t))
             by false f = subst (λ (y : List K). Adds keys y (k ∷ [])) (sym (new f)) (adds_new keys k)
 
-    pub adds_hinted : (keys : List K) (hints : List ℕ) (k : K) → IsHinted keys hints (index k) k → Adds keys keys (k ∷ [])
-    adds_hinted keys hints k h = adds_none keys k (named_in keys h.0 k h.2)
-
     -- what hints name and the others are all keys that were seen
     pub all_found : (keys : List K) (hints : List ℕ) (others v : List K) → IsSeen cmp index keys hints others → Exactly cmp (Contains (filter_map (named keys) hints ++ others)) v
         → Exactly cmp (Contains keys) v

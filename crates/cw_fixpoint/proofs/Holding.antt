@@ -1,5 +1,5 @@
 -- What is held for groups after one more key.
-use Rattle.std.proofs.Common.{◌≡◌, ◌⊎◌, inl, inr, List, [], ◌∷◌, ◌++◌, Bool, true, false, Some, None, refl, sym, ap, ◌∙◌, subst, ⊎_elim}
+use Rattle.std.proofs.Common.{◌≡◌, ◌⊎◌, inl, inr, List, [], ◌∷◌, ◌++◌, Bool, true, false, Some, refl, sym, ap, ◌∙◌, subst, ⊎_elim}
 use Rattle.std.specs.FinMap.{IsAntisymmetric}
 use Rattle.std.specs.Cmp.{IsTotalOrder}
 use Rattle.std.specs.List.{Contains}
@@ -37,6 +37,3 @@ module _ {K G : Type 0} (cmp : G → G → Ordering) (total : IsTotalOrder cmp) 
           ⊎_elim (λ o. inl (subst (λ y. Contains (old y) a) (sym z) o)) (λ n. inr (sym n, ap Some (sym z)))
           (Contains-push_cases (old g) k a (subst (λ y. Contains y a) e (subst (λ y. Contains (new y) a) z c)))
       back a q c false t = inl (subst (λ y. Contains y a) (f q (apart cmp total q g t)) c)
-
-  pub puts_none : (old : G → List K) (k : K) → PutsIn old old None k
-  puts_none old k = record { has_old = λ a g c. c; has_new = λ g s. cc; from = λ a g c. inl c }

@@ -50,9 +50,6 @@ adds_none cmp total exact seen s k h e = record {
   has = λ q c. subst (Contains seen) (contains_one k q c) ((h.same k).1 ((btree_set_contains_iff total exact s k).0 e));
 }
 
-pub adds_start : {K : Type 0} (seen : List K) → Adds seen seen []
-adds_start seen = record { more = []; is = sym (append-nil seen); from = λ q c. absurd (contains_none q c); has = λ q c. absurd (contains_none q c) }
-
 -- some keys after others
 pub adds_more : {K : Type 0} (old mid new keys more : List K) → Adds old mid keys → Adds mid new more → Adds old new (keys ++ more)
 adds_more old mid new keys more a b = record {

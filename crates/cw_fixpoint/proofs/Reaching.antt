@@ -27,11 +27,6 @@ of_in [] x n = absurd n
 of_in (y ∷ ys) x (inl e) = subst (Contains (y ∷ ys)) e (contains_first y ys)
 of_in (y ∷ ys) x (inr n) = Contains-append_right (y ∷ []) ys x (of_in ys x n)
 
-map_in : {A B : Type 0} (f : A → B) (xs : List A) (x : A) → In xs x → In (map f xs) (f x)
-map_in f [] x n = absurd n
-map_in f (y ∷ ys) x (inl i) = inl (ap f i)
-map_in f (y ∷ ys) x (inr n) = inr (map_in f ys x n)
-
 map_of : {A B : Type 0} (f : A → B) (xs : List A) (y : B) → In (map f xs) y → (x : A) × In xs x × (y ≡ f x)
 map_of f [] y n = absurd n
 map_of f (x ∷ xs) y (inl i) = (x, inl refl, sym i)

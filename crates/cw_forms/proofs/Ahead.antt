@@ -252,10 +252,6 @@ few_marks false true o = omega arith
 few_marks false false true = omega arith
 few_marks false false false = omega arith
 
-mark_few : (bs : List ℕ) → mark_len bs ≤ 3
-unfolding mark_len
-mark_few bs = few_marks (begins three_byte_marks bs) (begins two_byte_marks bs) (begins one_byte_marks bs)
-
 -- a mark of three bytes goes on from one of two
 longer_marks : (x y u v rest p q : Bool) → ((x && (y && true)) || ((u && (v && true)) || rest)) ≡ false → ((x && (y && p)) || ((u && (v && q)) || false)) ≡ false
 longer_marks true true u v rest p q e = absurd cc

@@ -9,7 +9,7 @@ use Rattle.cw_grammar.specs.declared.rules.Rule.{Rule}
 use Rattle.cw_grammar.specs.declared.rules.Rule.TheVariants.{Expression, Level, Unary, Postfix}
 use Rattle.cw_grammar.specs.Lexemes.{name_of, AreSeparated}
 use Rattle.cw_grammar.specs.Expressions.{loosest, Derives, node, AreStrings, IsPrimary, IsPostfix, IsUnary, IsOperand, IsLevel, IsRule, IsDerived, IsExpression}
-use Rattle.cw_forms.specs.Moved.{moved, Pairs, AreKept, SameOp, Alike}
+use Rattle.cw_forms.specs.Moved.{moved, Pairs, SameOp, Alike}
 use Rattle.cw_forms.proofs.Kept.{parts_moved, between_moved, type_name_moved, kept_as, kept_parts, Moves, separated_moves, between_moves, trees_alike}
 
 strings_moved : (d : ℕ) (ts : List Lexeme) → AreStrings ts → AreStrings (map (moved d) ts)
@@ -17,9 +17,6 @@ strings_moved d [] h = tt
 strings_moved d (t ∷ ts) h = (h.0, strings_moved d ts h.1)
 
 module _ (source form : List ℕ) (d : ℕ) where
-  abbrev K : List Lexeme → Type 0
-  K ts = AreKept source form d ts
-
   abbrev L : Tree → Tree → Type 0
   L x y = Alike source form x y
 

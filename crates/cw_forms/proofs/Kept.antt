@@ -7,7 +7,7 @@ use Rattle.cw_syntax.specs.Trees.{Tree}
 use Rattle.cw_grammar.specs.declared.words.Word.{Word}
 use Rattle.cw_grammar.specs.declared.words.Word.TheVariants as w
 use Rattle.cw_grammar.specs.declared.words.Lexeme.{Lexeme}
-use Rattle.cw_grammar.specs.Lexemes.{Is, words, IsFlag, AreAll, AreSeparated, IsBetween, IsEnded, trees}
+use Rattle.cw_grammar.specs.Lexemes.{Is, words, IsFlag, AreSeparated, IsBetween, IsEnded, trees}
 use Rattle.cw_grammar.specs.Types.{IsType, AreStars, IsTypeName, IsAmong, type_words}
 use Rattle.cw_forms.specs.Moved.{moved, Pairs, AreKept, Alike, AllAlike}
 
@@ -86,14 +86,6 @@ module _ (source form : List ℕ) (d : ℕ) where
         let p = f a x own.0 first in
         let q = separated_moves (y ∷ ys) b own.1.1 rest in
         separated_more (map (moved d) ts) (map (moved d) a) (moved d c) (map (moved d) b) x y p.0 ys q.0 (parts_moved d ts a (c ∷ b) whole) comma p.1 p.2 q.1 q.2
-
-    pub all_moves : (xs : List X) (ts : List Lexeme) → K ts → AreAll P ts xs → (ys : List X) × AreAll P (map (moved d) ts) ys × Pairs A xs ys
-    all_moves [] ts k is = ([], empty_moved d ts is, tt)
-    all_moves (x ∷ xs) ts k (a, b, whole, first, rest) =
-        let own = kept_parts ts a b whole k in
-        let p = f a x own.0 first in
-        let q = all_moves xs b own.1 rest in
-        (p.0 ∷ q.0, (map (moved d) a, map (moved d) b, parts_moved d ts a b whole, p.1, q.1), (p.2, q.2))
 
     pub between_moves : (left right : Word) (ts : List Lexeme) (x : X) → K ts → IsBetween left right P ts x → (y : X) × IsBetween left right P (map (moved d) ts) y × A x y
     between_moves left right ts x k (o, inner, c, whole, p, q, is) =

@@ -83,9 +83,6 @@ module _ (source form : List ℕ) where
       (own, rest ++ ys, ap (λ (z : List Placed). z ++ ys) whole ∙ append_assoc own rest ys, one, stand_for_both ps qs rest ys h k)
 
   module _ (names : List (List ℕ)) where
-    abbrev pub Claim : Type 1
-    Claim = ℕ → List Lexeme → Type 0
-
     -- Of these tokens, with these statements in them: they have pieces, so that of those in the form something holds.
     pub record Part (ts : List Lexeme) (ps : List Placed) (R : ℕ → List Lexeme → Type 0) : Type 0 where
       pub pieces : List Piece

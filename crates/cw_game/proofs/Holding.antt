@@ -1,11 +1,10 @@
 -- What holds for a number of moves under a promise holds for fewer, and under every promise that has its states.
 use Rattle.std.proofs.Common.{◌≡◌, ℕ, zero, suc, ◌+◌, ◌≤◌, Bool, true, false, not, ◌&&◌, ◌||◌, Option, Some, None, nat_eq, refl, sym, ap, ap₂, ◌∙◌, arith}
 use Rattle.std.specs.Prelude.{slice_get}
-use Rattle.cw_rights.specs.declared.capabilities.Primitive.{Primitive}
 use Rattle.cw_rights.specs.declared.capabilities.Primitive.TheVariants.{Split}
 use Rattle.cw_game.specs.declared.spots.Spot.{Spot}
 use Rattle.cw_game.specs.declared.spots.Spot.TheVariants.{Visit, Asked, Step, Branch, Label, Open, Close, Call, SplitCall, Exit}
-use Rattle.cw_game.specs.Games.{Game, refuses_in, Promise, holds_in, Holds, IsLost}
+use Rattle.cw_game.specs.Games.{Game, refuses_in, Promise, holds_in, Holds}
 pub use Rattle.cw_game.specs.Staying.{AreClosed}
 
 -- if the one is true so is the other
@@ -80,18 +79,3 @@ module _ (g : Game) (IsState : ℕ → Type 0) (closed : AreClosed g IsState) wh
       by : (b : Bool) → Holds g n p q e ≡ b → Holds g n p q e ≡ false
       by false t = t
       by true t = let y : true ≡ false = sym (holds_rises m n p q e e' le s w t) ∙ h in cc
-
-  -- the same whatever the number
-  pub lost_under : (p q : ℕ) (e e' : Promise) → IsState q → IsWithin e e' → IsLost g p q e' → IsLost g p q e
-  lost_under p q e e' s w l = (l.0, lost_rises l.0 l.0 p q e e' (omega arith) s w l.1)
-
--- every number is a state
-pub any_state : (g : Game) → AreClosed g (λ q. Unit {0})
-any_state g = record {
-  granted = λ p j i q a es y s. tt;
-  lettered = λ p j l n q es y s. tt;
-  opened = λ p j d n q es s. tt;
-  failed = λ p j d n q es s. tt;
-  closed = λ p j d n q es s. tt;
-  returned = λ p j f n x q es s t. tt;
-}

@@ -2,9 +2,6 @@
 use Rattle.std.proofs.Common.{ℕ, ◌≤◌, arith}
 use Rattle.cw_io.specs.Causes.{Rose}
 
-pub rose_then : (before mid now : ℕ) → Rose before mid → mid ≤ now → Rose before now
-rose_then before mid now rose later = omega (arith, rose, later)
-
 pub then_rose : (before mid now : ℕ) → before ≤ mid → Rose mid now → Rose before now
 then_rose before mid now later rose = omega (arith, later, rose)
 

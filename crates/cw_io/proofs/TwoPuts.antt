@@ -1,7 +1,6 @@
 -- Two puts, one after the other, for callers too: what was appended so far, and the next put.
-use Rattle.std.proofs.Common.{◌≡◌, ℕ, min, List, [], ◌∷◌, ◌++◌, zero, suc, length, take, Option, Some, None, Result, Ok, Err, refl, sym, ap, ◌∙◌, append_assoc, arith, ◌+◌}
+use Rattle.std.proofs.Common.{◌≡◌, ℕ, min, List, [], ◌∷◌, ◌++◌, zero, suc, length, take, Option, Some, None, Result, Ok, Err, refl, ap, ◌∙◌, append_assoc, arith, ◌+◌}
 use Rattle.std.proofs.Math.Seq.{take-append-add}
-use Rattle.std.proofs.lemmas.List.{append-nil}
 use Rattle.cw_io.specs.Pieces.{Grows, Puts}
 
 -- a front of the first of two lists
@@ -10,11 +9,6 @@ take_within [] b zero = refl
 take_within [] b (suc k) = let e : min (suc k) (length {A = ℕ} []) ≡ 0 = omega arith in rw e refl
 take_within (x ∷ a) b zero = let e : min 0 (length {A = ℕ} (x ∷ a)) ≡ 0 = omega arith in rw e refl
 take_within (x ∷ a) b (suc k) = let e : min (suc k) (suc (length a)) ≡ suc (min k (length a)) = omega arith in rw e (ap (λ (z : List ℕ). x ∷ z) (take_within a b k))
-
--- before the first put nothing was appended
-pub grows_nothing : (now : Option (List ℕ)) → Grows now now []
-grows_nothing None = tt
-grows_nothing (Some bytes) = ap (λ (z : List ℕ). Some z) (sym (append-nil bytes))
 
 -- bytes appended twice are appended in one
 pub grows_both : (old mid new : Option (List ℕ)) (a b : List ℕ) → Grows old mid a → Grows mid new b → Grows old new (a ++ b)

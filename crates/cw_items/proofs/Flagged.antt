@@ -1,5 +1,5 @@
 -- The flags of a program's points, statement by statement.
-use Rattle.std.proofs.Common.{◌≡◌, ℕ, ◌+◌, List, [], ◌∷◌, ◌++◌, map, Bool, true, false, cond, is_some, refl, ap, ap₂, ◌∙◌}
+use Rattle.std.proofs.Common.{◌≡◌, ℕ, ◌+◌, List, [], ◌∷◌, ◌++◌, map, Bool, true, false, is_some, refl, ap, ap₂, ◌∙◌}
 use Rattle.std.proofs.lemmas.List.{map-append}
 use Rattle.cw_syntax.specs.Names.{Names}
 use Rattle.cw_syntax.specs.Trees.{Statement, Stated, Form, Block, Declares, Evaluates, Empties, Labels, Chooses, Whiles, Does, Fors, Breaks, Continues, Returns}
@@ -23,9 +23,6 @@ module _ (forks : List ℕ) where
   acted (Invokes callee) at j = refl
 
   -- the head of a `for`
-  stepped_head : (stepped : Bool) (at : ℕ) (items : List Item) (bits : List Bool) → told items ≡ bits → told (after_if stepped at items) ≡ cond stepped (false ∷ bits) bits
-  stepped_head true at items bits e = ap (λ l. false ∷ l) e
-  stepped_head false at items bits e = e
 
   headed : (init : Perhaps) (decided stepped : Bool) (at : ℕ) (body : Stm) (items : List Item) (bits : List Bool) → told items ≡ bits
       → told (init_if (place_if init) (Test at decided stepped body ∷ after_if stepped at items)) ≡ head_flags (is_place forks at) (is_given init) decided stepped ++ bits

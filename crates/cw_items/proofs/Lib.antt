@@ -1,4 +1,3 @@
 pub mod Flagged
 pub mod Fronts
-pub mod Heads
 pub mod Operands

@@ -143,9 +143,6 @@ module _ (g : Game) (staged : AreStaged g) (lost : (p q e : ℕ) → Bool) (set 
   in_moves p q (Some (Visit j i a)) Stop c w l = cc
   in_moves p q _ Stop c w l = absurd (none-some c l)
 
-  Member : Key → Type 0
-  Member k = IsMember (rules g lost set) start k
-
   to_visited : (k b : Key) → Contains (visited g lost set k (slice_get g.spots k.pos)) b → Contains (after g lost set k (slice_get g.spots k.pos)) b
   to_visited k b c =
       let o = slice_get g.spots k.pos in

@@ -79,12 +79,7 @@ module _ (g : Game) (k : Key) where
       → filter_map (moved_by g k) moves_on ≡ filter_map (moved_by g k) (first_move (slice_get g.spots k.pos) ∷ cons_option (second_move (slice_get g.spots k.pos)) [])
   few_moves w = let s = slice_get g.spots k.pos in thinner s refl w moves_on ∙ ap (filter_map (moved_by g k)) (those_are s w)
 
-  -- one move, and two, as they are put
-  pub put_one : (old new : List Key) (a : Move) → a ≡ first_move (slice_get g.spots k.pos) → None ≡ second_move (slice_get g.spots k.pos) → weavers_in (slice_get g.spots k.pos) ≡ false
-      → new ≡ old ++ cons_option (moved_by g k a) [] → new ≡ old ++ filter_map (moved_by g k) moves_on
-  put_one old new a f s w e =
-      e ∙ ap (λ (l : List Key). old ++ l)
-      (ap (λ (m : Move). cons_option (moved_by g k m) []) f ∙ ap (λ (o : Option Move). filter_map (moved_by g k) (first_move (slice_get g.spots k.pos) ∷ cons_option o [])) s ∙ sym (few_moves w))
+  -- two moves, as they are put
 
   pub put_both : (old one new : List Key) (a b : Move) → a ≡ first_move (slice_get g.spots k.pos) → Some b ≡ second_move (slice_get g.spots k.pos) → weavers_in (slice_get g.spots k.pos) ≡ false
       → one ≡ old ++ cons_option (moved_by g k a) [] → new ≡ one ++ cons_option (moved_by g k b) [] → new ≡ old ++ filter_map (moved_by g k) moves_on

@@ -1,22 +1,21 @@
 -- What follows a key, by whose turn it is.
-use Rattle.std.proofs.Common.{◌≡◌, ℕ, ◌+◌, ◌<◌, List, [], ◌∷◌, ◌++◌, ◌≤◌, Bool, true, false, cond, ◌||◌, Option, Some, None, filter_map, Result, Ok, Err, nat_eq, length}
+use Rattle.std.proofs.Common.{◌≡◌, ℕ, ◌+◌, ◌<◌, List, [], ◌∷◌, ◌++◌, ◌≤◌, Bool, true, false, cond, ◌||◌, Option, Some, None, filter_map, Result, Ok, Err, length}
 use Rattle.std.proofs.Common.{append-nil, refl, sym, ap, ap₂, ◌∙◌, subst, arith}
 use Rattle.std.specs.Prelude.{slice_get, option_map, Contains, OnOk}
 use Rattle.std.specs.List.{cons_option}
-use Rattle.std.proofs.lemmas.Option.{same_Some}
 use Rattle.cw_core.specs.declared.ids.PosId.{PosId}
 use Rattle.cw_core.specs.declared.ids.StateId.{StateId}
 use Rattle.cw_rights.specs.declared.capabilities.Primitive.{Primitive}
 use Rattle.cw_certs.specs.declared.moves.Move.{Move}
 use Rattle.cw_game.specs.declared.spots.Spot.{Spot}
 use Rattle.cw_game.specs.declared.spots.Spot.TheVariants.{Visit, Asked, Step, Branch, Label, Open, Close, Call, SplitCall, Exit}
-use Rattle.cw_game.specs.Games.{Game, Config, returned, leads_in, resumed, resumed_in, bad_in}
-use Rattle.cw_game.specs.Pairs.{Called, call_in, is_call_in, is_exit_in, kept_at}
+use Rattle.cw_game.specs.Games.{Game, Config, leads_in, resumed, resumed_in, bad_in}
+use Rattle.cw_game.specs.Pairs.{call_in}
 use Rattle.cw_product.specs.declared.turn.Turn.{Turn}
 use Rattle.cw_product.specs.declared.turn.Turn.TheVariants as turn
 use Rattle.cw_product.specs.Moves.{IsPosition, IsState, pair_of, numbers, is_left_in, next_in, turn_in}
 use Rattle.cw_product.specs.Product.{Held as HeldGame, game_of}
-use Rattle.cw_solve.specs.Contexts.{context, returning}
+use Rattle.cw_solve.specs.Contexts.{context}
 use Rattle.cw_product.specs.Routed.{targets}
 use Rattle.cw_solve.specs.Solved.{Held}
 use Rattle.cw_solve.proofs.Calling.{the_call, called}
@@ -26,9 +25,9 @@ use Rattle.cw_solve.proofs.Tabling.{there}
 use Rattle.cw_solve.proofs.Turning.{turn_call}
 use Rattle.cw_lazy_table.specs.declared.key.Key.{Key}
 use Rattle.cw_solve.specs.Numbering.{IsUnder}
-use Rattle.cw_lazy_table.specs.Choices.{lost_in, promised, promised_in, set_in, CanFollow}
-use Rattle.cw_lazy_table.specs.Closing.{key, moves_on, visited, begun, answered, gone_on, rules, waits, ends, back}
-use Rattle.cw_lazy_table.specs.Following.{moved_by, skip_or_try, put_if}
+use Rattle.cw_lazy_table.specs.Choices.{lost_in, set_in, CanFollow}
+use Rattle.cw_lazy_table.specs.Closing.{key, moves_on, visited, begun, answered, gone_on, rules, ends}
+use Rattle.cw_lazy_table.specs.Following.{moved_by, put_if}
 use Rattle.cw_lazy_table.specs.Live.{IsLive}
 use Rattle.cw_lazy_table.proofs.Bridging.{member_live}
 use Rattle.cw_lazy_table.proofs.Choosing.{safe_at, right}
@@ -50,45 +49,6 @@ put_is keys (Some pair) e o h = ap (λ (o : Option (ℕ × ℕ)). keys ++ cons_o
 
 -- what stands where it is nobody's turn to call
 module _ (g : Game) where
-  no_call_in : (o : Option Spot) (t : Turn) → Some t ≡ option_map (turn_in g) o → ((f : ℕ) (split : Bool) (b : PosId) → t ≡ turn.Call f split b → ⊥) → call_in o ≡ None
-  no_call_in None t e n = refl
-  no_call_in (Some (Visit j i a)) t e n = refl
-  no_call_in (Some (Asked j i a)) t e n = refl
-  no_call_in (Some (Step m)) t e n = refl
-  no_call_in (Some (Branch l m)) t e n = refl
-  no_call_in (Some (Label j l m)) t e n = refl
-  no_call_in (Some (Open j d m)) t e n = refl
-  no_call_in (Some (Close j d m)) t e n = refl
-  no_call_in (Some (Call j f m)) t e n = absurd (n f false (record { 0 = m }) cc)
-  no_call_in (Some (SplitCall j f m)) t e n = absurd (n f true (record { 0 = m }) cc)
-  no_call_in (Some (Exit f)) t e n = refl
-
-  pub exit_in : (o : Option Spot) (main : Bool) → Some (turn.Exit main) ≡ option_map (turn_in g) o → (f : ℕ) × (o ≡ Some (Exit f))
-  exit_in (Some (Exit f)) main e = (f, refl)
-  exit_in None main e = cc
-  exit_in (Some (Visit j i a)) main e = cc
-  exit_in (Some (Asked j i a)) main e = cc
-  exit_in (Some (Step m)) main e = cc
-  exit_in (Some (Branch l m)) main e = cc
-  exit_in (Some (Label j l m)) main e = cc
-  exit_in (Some (Open j d m)) main e = cc
-  exit_in (Some (Close j d m)) main e = cc
-  exit_in (Some (Call j f m)) main e = cc
-  exit_in (Some (SplitCall j f m)) main e = cc
-
-  pub no_exit_in : (o : Option Spot) (t : Turn) → Some t ≡ option_map (turn_in g) o → ((main : Bool) → t ≡ turn.Exit main → ⊥) → is_exit_in o ≡ false
-  no_exit_in None t e n = refl
-  no_exit_in (Some (Visit j i a)) t e n = refl
-  no_exit_in (Some (Asked j i a)) t e n = refl
-  no_exit_in (Some (Step m)) t e n = refl
-  no_exit_in (Some (Branch l m)) t e n = refl
-  no_exit_in (Some (Label j l m)) t e n = refl
-  no_exit_in (Some (Open j d m)) t e n = refl
-  no_exit_in (Some (Close j d m)) t e n = refl
-  no_exit_in (Some (Call j f m)) t e n = refl
-  no_exit_in (Some (SplitCall j f m)) t e n = refl
-  no_exit_in (Some (Exit f)) t e n = absurd (n (nat_eq f g.main) (same_Some t (turn.Exit (nat_eq f g.main)) e))
-
   visit_in : (o : Option Spot) → Some turn.Weaver ≡ option_map (turn_in g) o → (j : ℕ) × (i : ℕ) × (a : Primitive) × (o ≡ Some (Visit j i a))
   visit_in (Some (Visit j i a)) e = (j, i, a, refl)
   visit_in None e = cc
@@ -113,84 +73,12 @@ module _ (g : Game) where
     pub call_is : (f : ℕ) (split : Bool) (b : PosId) → Turns (turn.Call f split b) → (j : ℕ) × (call_in spot ≡ Some (the_call j f b.0 split))
     call_is f split b e = let c = turn_call g spot f split b e in (c.0, called spot split c.0 f b.0 c.1)
 
-    pub call_none : (t : Turn) → Turns t → ((f : ℕ) (split : Bool) (b : PosId) → t ≡ turn.Call f split b → ⊥) → call_in spot ≡ None
-    call_none t e n = no_call_in spot t e n
-
-    pub set_call : (f : ℕ) (split : Bool) (b : PosId) → Turns (turn.Call f split b) → promised g k.state k.promise (returning b.0 split) ≡ set_in g k.pos k.state k.promise
-    set_call f split b e = sym (ap (promised_in g k.state k.promise) (call_is f split b e).1)
-
-    pub set_none : call_in spot ≡ None → 0 ≡ set_in g k.pos k.state k.promise
-    set_none e = sym (ap (promised_in g k.state k.promise) e)
-
     module _ (lost : (p q e : ℕ) → Bool) (set : (p q e : ℕ) → ℕ) where
-      pub waits_call : (f n : ℕ) (split : Bool) (b : PosId) → Turns (turn.Call f split b) → n ≡ set k.pos k.state k.promise → Some (g.exit f, n) ≡ (rules g lost set).waits k
-      waits_call f n split b e s = ap (λ (x : ℕ). Some (g.exit f, x)) s ∙ sym (ap (waits g lost set k) (call_is f split b e).1)
-
-      pub waits_none : call_in spot ≡ None → None ≡ (rules g lost set).waits k
-      waits_none e = sym (ap (waits g lost set k) e)
-
-      pub ends_exit : (main : Bool) → Turns (turn.Exit main) → Some (k.pos, k.promise) ≡ (rules g lost set).ends k
-      ends_exit main e = sym (ap (ends g lost set k) (exit_in spot main e).1)
-
-      pub ends_none : (t : Turn) → Turns t → ((main : Bool) → t ≡ turn.Exit main → ⊥) → None ≡ (rules g lost set).ends k
-      ends_none t e n = sym (ap (λ b. cond b (Some (k.pos, k.promise)) None) (no_exit_in spot t e n))
-
-      pub join_call : (b : Key) (f q : ℕ) (split : Bool) (at : PosId) → Turns (turn.Call f split at) → q ≡ returned g.states (kept_at split k.state) b.state → key at.0 q k.promise ≡
-          (rules g lost set).join k b
-      join_call b f q split at e s = ap (λ (x : ℕ). key at.0 x k.promise) s ∙ sym (ap (λ o. back g lost set k o b) (call_is f split at e).1)
-
-      pub join_none : (b : Key) → call_in spot ≡ None → k ≡ (rules g lost set).join k b
-      join_none b e = sym (ap (λ o. back g lost set k o b) e)
-
       -- what follows
       abbrev after_in : Option Spot → List Key
       after_in o =
           (visited g lost set k o ++ begun g lost set k (call_in o))
           ++ (answered g lost set k o ++ gone_on g lost set k (resumed_in g k.pos k.state o))
-
-      pub weaver_after : Turns turn.Weaver → skip_or_try lost k ∷ [] ≡ (rules g lost set).after k
-      weaver_after e = sym (ap after_in (visit_in spot e).3)
-
-      pub exit_after : (main : Bool) → Turns (turn.Exit main) → [] ≡ (rules g lost set).after k
-      exit_after main e = sym (ap after_in (exit_in spot main e).1)
-
-      calls_after : (j f n m : ℕ) (split : Bool) (o : Option Spot) → (is_call_in o ≡ true) × (call_in o ≡ Some (the_call j f n split)) → m ≡ set k.pos k.state k.promise
-          → key (g.entry f) k.state m ∷ [] ≡ after_in o
-      calls_after j f n m split (Some (Call a b c)) e s = ap₂ (λ (x y : ℕ). key (g.entry x) k.state y ∷ []) (ap function_of (sym e.1)) s
-        where
-          function_of : Option Called → ℕ
-          function_of None = 0
-          function_of (Some c) = c.function
-      calls_after j f n m split (Some (SplitCall a b c)) e s = ap₂ (λ (x y : ℕ). key (g.entry x) k.state y ∷ []) (ap function_of (sym e.1)) s
-        where
-          function_of : Option Called → ℕ
-          function_of None = 0
-          function_of (Some c) = c.function
-      calls_after j f n m split None e s = cc
-      calls_after j f n m split (Some (Visit a b c)) e s = cc
-      calls_after j f n m split (Some (Asked a b c)) e s = cc
-      calls_after j f n m split (Some (Step a)) e s = cc
-      calls_after j f n m split (Some (Branch a b)) e s = cc
-      calls_after j f n m split (Some (Label a b c)) e s = cc
-      calls_after j f n m split (Some (Open a b c)) e s = cc
-      calls_after j f n m split (Some (Close a b c)) e s = cc
-      calls_after j f n m split (Some (Exit a)) e s = cc
-
-      has_call : (o : Option Spot) (c : Called) → call_in o ≡ Some c → is_call_in o ≡ true
-      has_call (Some (Call a b d)) c e = refl
-      has_call (Some (SplitCall a b d)) c e = refl
-      has_call None c e = cc
-      has_call (Some (Visit a b d)) c e = cc
-      has_call (Some (Asked a b d)) c e = cc
-      has_call (Some (Step a)) c e = cc
-      has_call (Some (Branch a b)) c e = cc
-      has_call (Some (Label a b d)) c e = cc
-      has_call (Some (Open a b d)) c e = cc
-      has_call (Some (Close a b d)) c e = cc
-      has_call (Some (Exit a)) c e = cc
-
-      pub call_after : (f m : ℕ) (split : Bool) (b : PosId) → Turns (turn.Call f split b) → m ≡ set k.pos k.state k.promise → key (g.entry f) k.state m ∷ [] ≡ (rules g lost set).after k
-      call_after f m split b e s = let c = call_is f split b e in calls_after c.0 f b.0 m split spot (has_call spot (the_call c.0 f b.0 split) c.1, c.1) s
 
       abbrev moved_in : Option Spot → Move → Option Key
       moved_in o by = option_map (λ r. key r.0 r.1 k.promise) (next_in g k.pos k.state o by)

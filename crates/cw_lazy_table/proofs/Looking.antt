@@ -1,5 +1,5 @@
 -- Where it is found whether a pair is lost.
-use Rattle.std.proofs.Common.{◌≡◌, ℕ, ◌<◌, ◌&&◌, Option, length, sym, ap, ◌∙◌, subst}
+use Rattle.std.proofs.Common.{◌≡◌, ℕ, ◌<◌, ◌&&◌, Option, sym, ap, ◌∙◌, subst}
 use Rattle.std.specs.Prelude.{nat_lt}
 use Rattle.cw_core.specs.StateSet.{has as has_member}
 use Rattle.cw_core.proofs.Sets.{same_from_members}
@@ -15,9 +15,6 @@ use Rattle.cw_lazy_table.proofs.Knowing.{set_by_is}
 module _ (h : HeldGame) (s : Held) (ready : IsReady h s) where
   abbrev g : Game
   g = game_of h
-
-  abbrev functions : ℕ
-  functions = length h.graph.parts.items
 
   -- the same position in the same game
   pub under : (p e : ℕ) → IsUnder g p e → IsUnder (game_of s.game) p e

@@ -112,9 +112,6 @@ module _ (h : Held) (made : IsMade h) where
     not_main = λ p call e. made.leaves.uncalled p call e;
   }
 
-pub made_is_staged : (held : Held) → IsMade held → AreStaged (game_of held)
-made_is_staged held made = staged_of held made
-
 -- so the lazy table of a made game can begin, where its start holds
 pub can_begin : (h : Held) → IsMade h → HeightIs (game_of h) ((game_of h).entry (game_of h).main) (game_of h).states.start (all_states (game_of h)) None
     → CanBegin (game_of h) (length h.graph.parts.items)

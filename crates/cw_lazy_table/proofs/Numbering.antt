@@ -11,11 +11,11 @@ use Rattle.std.specs.declared.cmp.Ordering.TheVariants.{Less}
 use Rattle.std.proofs.lemmas.List.{map-append, length-map, get_or_default, take_more}
 use Rattle.std.proofs.lemmas.Bool.{cases_lt}
 use Rattle.std.proofs.lemmas.Map.Keys.{Less-from_sorted}
-use Rattle.std.proofs.lemmas.Option.{slice_get-get_or, slice_get_within, get_or_from_slice_get}
+use Rattle.std.proofs.lemmas.Option.{slice_get_within, get_or_from_slice_get}
 use Rattle.cw_fixpoint.specs.Closures.{Exactly}
 use Rattle.cw_fixpoint.specs.Members.{IsMember, first, IsPair, HaveMore, pair_cmp}
 use Rattle.cw_fixpoint.specs.Numbers.{number_in}
-use Rattle.cw_fixpoint.proofs.Numbers.{at_number, number_at}
+use Rattle.cw_fixpoint.proofs.Numbers.{at_number}
 use Rattle.cw_game.specs.declared.spots.Spot.{Spot}
 use Rattle.cw_game.specs.Games.{Game, Config, resumed, leads_in, weavers_in}
 use Rattle.cw_game.specs.Pairs.{Called, call_in, is_call_in, is_exit_in}
@@ -64,9 +64,6 @@ module _ (es : List ℕ) (order : IsStrictlySortedBy nat_cmp es) where
 
   pub below : (e : ℕ) → Contains es e → number_in nat_cmp es e < length es
   below e c = slice_get_within es (number e) e (at_number nat_cmp nat_cmp_total nat_cmp-IsAntisymmetric es e c)
-
-  pub its_number : (n : ℕ) → n < length es → number_in nat_cmp es (slice_index es n) ≡ n
-  its_number n l = number_at nat_cmp nat_cmp_total nat_cmp-IsAntisymmetric es n (at n) order (slice_get-get_or es n 0 l)
 
   less_at : (m n : ℕ) → m < n → n < length es → nat_cmp (at m) (at n) ≡ Less
   less_at m n l b = Less-from_sorted nat_cmp es m n 0 order l b

@@ -1,28 +1,13 @@
 -- Lists that have the same elements.
-use Rattle.std.proofs.Common.{◌≡◌, ⊎_elim, ℕ, ◌+◌, ◌<◌, ◌≤◌, List, [], ◌∷◌, ◌++◌, Some, map, take, length, get_or, sym, ap, ◌∙◌, subst}
-use Rattle.std.specs.Prelude.{slice_get}
+use Rattle.std.proofs.Common.{◌≡◌, ⊎_elim, ℕ, ◌+◌, ◌<◌, ◌≤◌, List, [], ◌∷◌, ◌++◌, map, take, length, get_or, sym, ap, ◌∙◌, subst}
 use Rattle.std.specs.List.{Contains}
 use Rattle.std.specs.declared.cmp.Ordering.{Ordering}
 use Rattle.std.proofs.lemmas.List.{take_more, take_all, map-append}
 use Rattle.std.proofs.lemmas.List.Elements.{Contains-append_left, Contains-append_right, Contains-append_cases}
-use Rattle.std.proofs.lemmas.Option.{slice_get_within, get_or_from_slice_get}
-use Rattle.cw_lemmas.proofs.Lists.{contains_one}
 use Rattle.cw_fixpoint.specs.Closures.{Exactly}
 use Rattle.cw_lazy_table.specs.Places.{AreOf, IsPut}
 
 module _ {A : Type 0} where
-  pub put_there : (xs : List A) (x : A) (i : ℕ) → slice_get xs i ≡ Some x → IsPut xs x xs
-  put_there xs x i e y = (
-    λ c. Contains-append_left xs (x ∷ []) y c,
-    λ c. ⊎_elim (λ d. d) (λ d. subst (Contains xs) (contains_one x y d) (i, slice_get_within xs i x e, get_or_from_slice_get xs i x x e)) (Contains-append_cases xs (x ∷ []) y c),
-  )
-
-  pub put_new : (old new : List A) (x : A) → new ≡ old ++ x ∷ [] → IsPut old x new
-  put_new old new x e y = (λ c. subst (λ l. Contains l y) e c, λ c. subst (λ l. Contains l y) (sym e) c)
-
-  none_of : AreOf {A = A} [] []
-  none_of y = (λ c. c, λ c. c)
-
   -- the first i, and one more
   pub put_next : {K : Type 0} (f : K → A) (xs : List K) (i : ℕ) (d : K) (old new : List A) → i < length xs → AreOf (map f (take i xs)) old → IsPut old (f (get_or xs i d)) new
       → AreOf (map f (take (i + 1) xs)) new

@@ -1,5 +1,5 @@
 -- What the lists of a lazy table say.
-use Rattle.std.proofs.Common.{◌≡◌, ℕ, ◌<◌, List, Bool, true, false, ◌&&◌, Option, Some, None, is_some, find, nat_eq, length, refl, sym, ap, ap₂, ◌∙◌, subst, eqb-true, eq-eqb}
+use Rattle.std.proofs.Common.{◌≡◌, ℕ, ◌<◌, List, Bool, true, false, ◌&&◌, Option, Some, None, is_some, nat_eq, length, refl, sym, ap, ap₂, ◌∙◌, subst, eqb-true, eq-eqb}
 use Rattle.std.specs.List.{Contains}
 use Rattle.std.proofs.lemmas.Option.{same_Some}
 use Rattle.cw_core.specs.declared.ids.StateId.{StateId}
@@ -15,7 +15,7 @@ use Rattle.std.proofs.lemmas.Bool.{and_parts, and_from as both}
 use Rattle.cw_product.specs.Moves.{pos_id}
 use Rattle.cw_lazy_table.specs.Live.{IsLive}
 use Rattle.cw_lazy_table.specs.Lazy.{state_id, Means, IsTryRow, IsLabelRow, IsOpenRow, IsCloseRow, IsIntoRow, IsBackRow, IsLazyTable}
-use Rattle.cw_lazy_table.proofs.Finding.{found, is_found, somewhere, numbered}
+use Rattle.cw_lazy_table.proofs.Finding.{found, is_found, numbered}
 use Rattle.cw_lazy_table.specs.Rowing.{mem_id}
 
 pub same_is : (a b : Bool) → same a b ≡ true → a ≡ b
@@ -43,17 +43,6 @@ pub same_means : (t : Table) (m q e x y : ℕ) → Means t.mems m q e → Means 
 same_means t m q e x y h k = let z = same_Some (state_id q, e) (state_id x, y) (sym h ∙ k) in (ap (λ r. r.0.0) z, ap (λ r. r.1) z)
 
 module _ (g : Game) (t : Table) (lazy : IsLazyTable g t) where
-  pub live_of : (p m q e : ℕ) → is_live t p m ≡ true → Means t.mems m q e → IsLive g p q e
-  live_of p m q e l h =
-      let z = somewhere (find (λ r. nat_eq r.0.0 p && nat_eq r.1.0 m) t.live) l in
-      let y = found (λ r. nat_eq r.0.0 p && nat_eq r.1.0 m) t.live z.0 z.1 in
-      let k = and_parts (nat_eq z.0.0.0 p) (nat_eq z.0.1.0 m) y.1 in
-      let ep : z.0.0.0 ≡ p = eqb-true z.0.0.0 p k.0 in
-      let em : z.0.1.0 ≡ m = eqb-true z.0.1.0 m k.1 in
-      let row = (lazy.live.1 z.0).0 y.0 in
-      let s = same_means t m row.state row.promise q e (subst (λ i. Means t.mems i row.state row.promise) em row.meant) h in
-      subst (λ i. IsLive g i q e) ep (subst (λ i. IsLive g z.0.0.0 q i) s.1 (subst (λ i. IsLive g z.0.0.0 i row.promise) s.0 row.live))
-
   pub live_to : (p m q e : ℕ) → IsLive g p q e → Means t.mems m q e → is_live t p m ≡ true
   live_to p m q e l h =
       let c = (lazy.live.1 (pos_id p, mem_id m)).1 (record { state = q; promise = e; live = l; meant = h }) in

@@ -1,5 +1,5 @@
 -- The lists of what is live are those of the lazy table.
-use Rattle.std.proofs.Common.{◌≡◌, ℕ, ◌<◌, List, map, filter_map, length, Result, Ok, Err, sym, ap₂, ◌∙◌, subst, arith}
+use Rattle.std.proofs.Common.{◌≡◌, ℕ, ◌<◌, List, map, filter_map, length, Result, Ok, Err, sym, ap₂, subst, arith}
 use Rattle.std.specs.Prelude.{IfOk}
 use Rattle.std.specs.List.{Contains}
 use Rattle.std.proofs.lemmas.List.{length-map}
@@ -121,12 +121,6 @@ module _ (h : HeldGame) (keys : List Key) (live : AreLive h keys) where
     pub start_means : (q e : ℕ) → q ≡ g.states.start → e ≡ all_states g → Means ms (mem ms q e).0 g.states.start (all_states g)
     start_means q e a b = subst (λ (n : ℕ). Means ms n g.states.start (all_states g)) (ap₂ (number ms) (sym a) (sym b))
         (meant g functions live.begins live.low ms all.are (g.entry g.main) g.states.start (all_states g) begins)
-
--- the memories as the code has them
-pub mems_of : (h : HeldGame) (keys : List Key) (live : AreLive h keys) (all given : List (StateId × ℕ)) (found ms : Memories) → given ≡ all → all ≡ map memory_of keys
-    → Exactly mem_cmp (Contains given) found → ms ≡ found → AreAllMemories (game_of h) ms
-mems_of h keys live all given found ms a b e m =
-    memories_are h keys live ms (subst (λ (l : Memories). Exactly mem_cmp (Contains (map memory_of keys)) l) (sym m) (subst (λ (l : List (StateId × ℕ)). Exactly mem_cmp (Contains l) found) (a ∙ b) e))
 
 -- the table as the code has it
 pub lazy_of : (g : Game) (states : ℕ) (start : MemId) (ms found : Memories) (live : List (PosId × MemId)) (tries : List TryRow) (ats : List AtRow) (opened : List OpenRow)

@@ -1,5 +1,5 @@
 -- What is done at a key, by whose turn it is.
-use Rattle.std.proofs.Common.{◌≡◌, ℕ, ◌+◌, ◌<◌, ◌≤◌, List, [], ◌∷◌, ◌++◌, Bool, true, false, cond, Option, Some, None, map, filter_map, length, nat_lt, refl, sym, ap, ap₂, ◌∙◌, arith}
+use Rattle.std.proofs.Common.{◌≡◌, ℕ, ◌+◌, ◌<◌, ◌≤◌, List, [], ◌∷◌, ◌++◌, true, false, cond, Option, Some, None, map, filter_map, length, nat_lt, refl, sym, ap, ap₂, ◌∙◌, arith}
 use Rattle.std.specs.Prelude.{slice_get, option_map}
 use Rattle.std.specs.List.{range_with_len, cons_option}
 use Rattle.std.proofs.lemmas.Bool.{lt-ltb, le-ltb}
@@ -17,43 +17,11 @@ use Rattle.cw_least_strategy.specs.declared.key.Key.{Key}
 use Rattle.cw_least_strategy.specs.Acts.{IsThere}
 use Rattle.cw_least_strategy.specs.Heights.{others}
 use Rattle.cw_least_strategy.specs.Kept.{IsKey}
-use Rattle.cw_least_strategy.specs.Strategies.{below, moves, best, after_return, is_lost_after, aim_at, back_at, backs_at, Out, Both, Into, goes, act_in, act}
+use Rattle.cw_least_strategy.specs.Strategies.{below, after_return, is_lost_after, aim_at, back_at, backs_at, Into, act_in, act}
 use Rattle.cw_least_strategy.proofs.Naming.{callee_lower}
 use Rattle.cw_least_strategy.proofs.Looking.{kept_more}
 
 module _ (g : Game) (k : Key) where
-  exit_in : (o : Option Spot) (main : Bool) → Some (turn.Exit main) ≡ option_map (turn_in g) o → Out ≡ act_in g k o (call_in o)
-  exit_in (Some (Exit f)) main e = refl
-  exit_in None main e = cc
-  exit_in (Some (Visit j i a)) main e = cc
-  exit_in (Some (Asked j i a)) main e = cc
-  exit_in (Some (Step m)) main e = cc
-  exit_in (Some (Branch l m)) main e = cc
-  exit_in (Some (Label j l m)) main e = cc
-  exit_in (Some (Open j d m)) main e = cc
-  exit_in (Some (Close j d m)) main e = cc
-  exit_in (Some (Call j f m)) main e = cc
-  exit_in (Some (SplitCall j f m)) main e = cc
-
-  pub exit_act : (main : Bool) → Some (turn.Exit main) ≡ option_map (turn_in g) (slice_get g.spots k.pos) → Out ≡ act g k
-  exit_act main e = exit_in (slice_get g.spots k.pos) main e
-
-  environment_in : (o : Option Spot) → Some turn.Environment ≡ option_map (turn_in g) o → goes (best g k moves) ≡ act_in g k o (call_in o)
-  environment_in None e = cc
-  environment_in (Some (Exit f)) e = cc
-  environment_in (Some (Visit j i a)) e = cc
-  environment_in (Some (Asked j i a)) e = refl
-  environment_in (Some (Step m)) e = refl
-  environment_in (Some (Branch l m)) e = refl
-  environment_in (Some (Label j l m)) e = refl
-  environment_in (Some (Open j d m)) e = refl
-  environment_in (Some (Close j d m)) e = refl
-  environment_in (Some (Call j f m)) e = cc
-  environment_in (Some (SplitCall j f m)) e = cc
-
-  pub environment_act : Some turn.Environment ≡ option_map (turn_in g) (slice_get g.spots k.pos) → goes (best g k moves) ≡ act g k
-  environment_act e = environment_in (slice_get g.spots k.pos) e
-
   visit_in_turn : (o : Option Spot) → Some turn.Weaver ≡ option_map (turn_in g) o → (j : ℕ) × (i : ℕ) × (a : _) × (o ≡ Some (Visit j i a))
   visit_in_turn (Some (Visit j i a)) e = (j, i, a, refl)
   visit_in_turn None e = cc
@@ -69,9 +37,6 @@ module _ (g : Game) (k : Key) where
 
   pub weaver_at : Some turn.Weaver ≡ option_map (turn_in g) (slice_get g.spots k.pos) → (j : ℕ) × (i : ℕ) × (a : _) × (slice_get g.spots k.pos ≡ Some (Visit j i a))
   weaver_at e = visit_in_turn (slice_get g.spots k.pos) e
-
-  pub weaver_act : Some turn.Weaver ≡ option_map (turn_in g) (slice_get g.spots k.pos) → Both (below g k (k.pos + 2) k.state k.aim) (below g k (k.pos + 1) k.state k.aim) ≡ act g k
-  weaver_act e = let v = weaver_at e in sym (ap (λ o. act_in g k o (call_in o)) v.3)
 
   pub into_act : (c : Called) (callee : Key) (backs : List (ℕ × Key)) → call_in (slice_get g.spots k.pos) ≡ Some c → callee ≡ below g k (g.entry c.function) k.state (aim_at g k c)
       → backs ≡ backs_at g k c

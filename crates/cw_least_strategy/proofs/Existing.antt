@@ -1,5 +1,5 @@
 -- A game whose start is lost has a strategy by least heights: the keys that the start's names are within a finite set, since heights fall.
-use Rattle.std.proofs.Common.{◌≡◌, ℕ, ◌+◌, ◌^◌, ◌<◌, ◌≤◌, List, [], ◌∷◌, map, length, refl, sym, ap, ◌∙◌, subst, arith}
+use Rattle.std.proofs.Common.{ℕ, ◌+◌, ◌^◌, ◌<◌, ◌≤◌, List, [], ◌∷◌, map, length, refl, ap, ◌∙◌, subst, arith}
 use Rattle.std.specs.List.{Contains, flat_map, range_with_len}
 use Rattle.std.proofs.lemmas.List.FromFn.{length-range_with_len, get_or-range_with_len}
 use Rattle.cw_lemmas.proofs.Lists.{contains_one, contains_map}
@@ -19,9 +19,6 @@ use Rattle.cw_least_strategy.proofs.Keys.{key_total, key_exact}
 use Rattle.cw_least_strategy.proofs.Naming.{named_lower, reached_keys, start_is}
 
 module _ (g : Game) (functions : ℕ) (routed : AreRouted g functions) (k : Key) (is : IsKey g functions k) where
-  abbrev IsReached : Key → Type 0
-  IsReached = Reached (named g) (k ∷ [])
-
   not_higher : (b : Key) → Reached (named g) (k ∷ []) b → b.height ≤ k.height
   not_higher b (first c i) = let e = ap (λ (z : Key). z.height) (contains_one k b i) in omega (arith, e)
   not_higher b (then a c r i) =

@@ -1,5 +1,5 @@
 -- The strategy by least heights meets the conditions.
-use Rattle.std.proofs.Common.{◌≡◌, ◌⊎◌, ℕ, zero, suc, ◌+◌, ◌-◌, ◌<◌, ◌^◌, List, [], ◌∷◌, Bool, true, false, cond, not, ◌&&◌, ◌||◌, Option, Some, None, is_some, map, filter_map}
+use Rattle.std.proofs.Common.{◌≡◌, ◌⊎◌, ℕ, suc, ◌+◌, ◌-◌, ◌<◌, ◌^◌, List, [], ◌∷◌, Bool, true, false, cond, not, ◌&&◌, ◌||◌, Option, Some, None, is_some, map, filter_map}
 use Rattle.std.proofs.Common.{find, length, nat_eq, nat_lt, refl, sym, ap, ◌∙◌, subst, arith, inl, inr}
 use Rattle.std.specs.Prelude.{slice_get, option_map}
 use Rattle.std.specs.List.{Contains, cons_option, list_all, list_any, enumerate_from, range_with_len}
@@ -71,16 +71,6 @@ to_kept {A} {B} f (z ∷ zs) x y c e = by (f z) refl (first_or_later z zs x c) (
     by (Some v) eo (inl s) rec = let w : v ≡ y = same_Some v y (sym eo ∙ ap f s ∙ e) in subst (Contains (v ∷ filter_map f zs)) w (is_first v (filter_map f zs))
     by None eo (inr d) rec = rec d
     by (Some v) eo (inr d) rec = is_later v (filter_map f zs) y (rec d)
-
-to_range : (n x : ℕ) → x < n → Contains (range_with_len 0 n) x
-to_range n x lt = let z : 0 + x ≡ x = omega arith in subst (Contains (range_with_len 0 n)) z (go n 0 x lt)
-  where
-    go : (n a x : ℕ) → x < n → Contains (range_with_len a n) (a + x)
-    go zero a x lt = absurd (omega (arith, lt))
-    go (suc n) a zero lt = let z : a ≡ a + 0 = omega arith in subst (Contains (a ∷ range_with_len (a + 1) n)) z (is_first a (range_with_len (a + 1) n))
-    go (suc n) a (suc x) lt =
-        let z : a + 1 + x ≡ a + suc x = omega arith in
-        is_later a (range_with_len (a + 1) n) (a + suc x) (subst (Contains (range_with_len (a + 1) n)) z (go n (a + 1) x (omega (arith, lt))))
 
 -- a back that is there is found
 back_there : (backs : List (ℕ × ℕ)) (x b : ℕ) → Contains backs (x, b) → is_some (back_of backs x) ≡ true

@@ -12,8 +12,7 @@ use Rattle.cw_solve.specs.Contexts.{HeightIs, AreTheNeeded}
 use Rattle.cw_solve.specs.Numbering.{IsNumberOf}
 use Rattle.cw_solve.proofs.Numbering.{function_there}
 use Rattle.cw_least_strategy.specs.declared.key.Key.{Key}
-use Rattle.cw_least_strategy.specs.Kept.{IsKey}
-use Rattle.cw_solve.specs.Solved.{Held, IsNumbered, IsHeightIn}
+use Rattle.cw_solve.specs.Solved.{Held, IsHeightIn}
 use Rattle.cw_rights.specs.declared.capabilities.Primitive.{Primitive}
 use Rattle.cw_certs.specs.declared.moves.Move.{Move}
 use Rattle.cw_game.specs.declared.spots.Spot.TheVariants.{Visit}
@@ -24,7 +23,7 @@ use Rattle.cw_solve.proofs.Falls.{back_stays}
 use Rattle.cw_solve.proofs.Still.{first_of_two, second_of_two}
 use Rattle.cw_least_strategy.specs.Strategies.{is_lost_after, aim_at}
 use Rattle.cw_least_strategy.proofs.Moving.{moved}
-use Rattle.cw_least_strategy.specs.Acts.{IsIn, IsThere, IsCall}
+use Rattle.cw_least_strategy.specs.Acts.{IsIn, IsCall}
 use Rattle.cw_least_strategy.specs.Heights.{others, height_within}
 use Rattle.cw_least_strategy.proofs.Lowest as lowest
 use Rattle.cw_least_strategy.proofs.Sets.{has_set, same_set}
@@ -37,9 +36,6 @@ others_is g set found h = same_set found (others g set) (λ i. h i ∙ sym (has_
 module _ (h : Held) where
   abbrev g : Game
   g = game_of h.game
-
-  pub numbered : (number aim p q : ℕ) → IsIn h number aim p q → IsNumbered h number p q
-  numbered number aim p q is = (is.context, is.at, is.of, is.state)
 
   -- what a height says under the context's promise
   pub height_is : (functions : ℕ) → AreRouted g functions → (number aim p q most : ℕ) → IsIn h number aim p q → (o : Option ℕ) → IsHeightIn h number p q o → HeightIs g p q (others g aim) o
@@ -76,9 +72,6 @@ module _ (h : Held) where
   -- in the same context
   pub same_in : (number aim p q r x : ℕ) (is : IsIn h number aim p q) → IsOf g is.context.function r → x < g.states.count → IsIn h number aim r x
   same_in number aim p q r x is of s = record { context = is.context; at = is.at; below = is.below; of = of; state = s; promise = is.promise }
-
-  pub key_there : (functions : ℕ) (k : Key) (is : IsKey g functions k) → IsThere g k.pos k.aim
-  key_there _ k is = (is.function, is.of, is.needed)
 
   -- a move stays in the context
   pub move_in : AreRouted g functions → (number aim p q : ℕ) (by : Move) (r : ℕ × ℕ) → IsIn h number aim p q → next_at g p q by ≡ Some r → IsIn h number aim r.0 r.1

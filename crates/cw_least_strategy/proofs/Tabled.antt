@@ -1,10 +1,9 @@
 -- The strategy that the start's keys give, and how many rows it has.
-use Rattle.std.proofs.Common.{◌≡◌, ℕ, ◌+◌, ◌<◌, ◌≤◌, List, [], ◌∷◌, true, false, map, length, Option, Some, None, refl, sym, ap, ◌∙◌, subst, arith, inl, inr}
+use Rattle.std.proofs.Common.{◌≡◌, ℕ, ◌+◌, ◌<◌, ◌≤◌, List, [], ◌∷◌, true, false, map, length, Option, Some, None, refl, sym, ap, ◌∙◌, subst, arith}
 use Rattle.std.specs.Prelude.{sum_by}
 use Rattle.std.specs.List.{Contains}
 use Rattle.std.specs.List.Sorted.{IsStrictlySortedBy}
 use Rattle.std.specs.Ordering.{eq_by_cmp, is_eq}
-use Rattle.std.specs.declared.cmp.Ordering.TheVariants.{Less}
 use Rattle.std.specs.Bool.{Decides}
 use Rattle.std.specs.Cmp.{eq_by_cmp_equiv, tied_itself}
 use Rattle.std.proofs.lemmas.Map.Keys.{IsDistinct-from_sorted}
@@ -21,14 +20,14 @@ use Rattle.cw_solve.specs.Solved.{Held, IsNumbered, IsHeightIn}
 use Rattle.cw_solve.proofs.Routing.{routed_of}
 use Rattle.cw_least_strategy.specs.declared.key.Key.{Key}
 use Rattle.cw_least_strategy.specs.Acts.{backs_of, IsLost, IsStartHeight, IsStartKey}
-use Rattle.cw_least_strategy.specs.Kept.{IsKey, IsFollowed, here}
+use Rattle.cw_least_strategy.specs.Kept.{IsKey, IsFollowed}
 use Rattle.cw_least_strategy.specs.Strategies.{key_cmp, named, row_at, start_key, rows_of, IsLeastStrategy}
 use Rattle.cw_fixpoint.proofs.Numbers.{equal_is}
-use Rattle.cw_least_strategy.proofs.Keys.{key_total, key_exact, same_key, lower_less}
+use Rattle.cw_least_strategy.proofs.Keys.{key_total, key_exact, same_key}
 use Rattle.cw_least_strategy.proofs.Counting.{exactly_same, count_is}
 use Rattle.cw_least_strategy.proofs.Lowest as lowest
 use Rattle.cw_least_strategy.proofs.Made.{start_state}
-use Rattle.cw_least_strategy.proofs.Naming.{none_in, first_or_later, named_lower, all_keys, reached_keys, start_is}
+use Rattle.cw_least_strategy.proofs.Naming.{all_keys, start_is}
 
 decides_key : (a b : Key) → Decides (eq_by_cmp key_cmp a b) (a ≡ b)
 decides_key a b = (λ e. equal_is key_cmp key_total key_exact a b e, λ e. subst (λ y. eq_by_cmp key_cmp a y ≡ true) e (ap is_eq (tied_itself key_total a)))
@@ -93,20 +92,6 @@ module _ (h : Held) (made : IsMade h.game) where
   -- it may be asked for, and all that it names
   pub start_followed : (k : Key) → IsStartKey g k → IsFollowed h k
   start_followed k s = record { routed = routed; keys = λ b l. all_keys g functions routed k b (start_key_is k s) l }
-
-  pub starts_followed : (k : Key) → IsStartKey g k → (b : Key) → Contains (k ∷ []) b → IsFollowed h b
-  starts_followed k s b i = elim (first_or_later k [] b i) [
-    | inl e ↦ subst (IsFollowed h) e (start_followed k s)
-    | inr d ↦ absurd (none_in b d)
-  ]
-
-  -- what a key names is less
-  pub descends : (k q : Key) → IsFollowed h k → Contains (named g k) q → key_cmp q k ≡ Less
-  descends k q f i = lower_less q k (named_lower g functions f.routed k (f.keys k (here k)) q i).1
-
-  -- what is reached from it are keys
-  pub reached_are : (k : Key) → IsStartKey g k → (keys : List Key) → AreFrom g k keys → (b : Key) → Contains keys b → IsKey g functions b
-  reached_are k s keys e b c = reached_keys g functions routed k b (start_key_is k s) ((e.1 b).0 c)
 
   -- the strategy
   pub least_of : (k : Key) → IsStartKey g k → (keys : List Key) → AreFrom g k keys → (s : Strategy) → s.states ≡ g.states.count

@@ -1,17 +1,14 @@
 -- What each token is, for who walks over them.
-use Rattle.std.proofs.Common.{◌≡◌, ℕ, ◌-◌, ◌^◌, ◌<◌, ◌≤◌, ◌↔◌, true, List, [], ◌∷◌, length, drop, sym, subst, arith, length-drop, length-take}
+use Rattle.std.proofs.Common.{◌≡◌, ℕ, ◌-◌, ◌<◌, ◌≤◌, true, List, [], ◌∷◌, length, drop, arith, length-drop, length-take}
 use Rattle.std.specs.List.{AllByRecursion}
 use Rattle.cw_syntax.specs.Names.{slice}
 use Rattle.cw_lex.specs.declared.tokens.TokenKind.TheVariants as kind
 use Rattle.cw_lex.specs.declared.tokens.Token.{Token}
 use Rattle.cw_lex.specs.declared.piece.Front.TheVariants as piece
-use Rattle.cw_lex.specs.Keywords.{is_keyword}
-use Rattle.cw_lex.specs.Numbers.{number_of}
 use Rattle.cw_lex.specs.Pieces.{piece_at}
 use Rattle.cw_lex.specs.Tokens.{AreTokens}
 use Rattle.cw_lex.specs.Listed.{AreInOrder, AreOfTheirKind}
 use Rattle.cw_lex.proofs.Ordered.{tokens_in_order, tokens_of_their_kind}
-use Rattle.cw_lex.proofs.Valued.{numbers, number_is_small, keywords_are}
 
 -- a token that lies in its source, is not empty, and whose bytes alone are that token
 pub record IsTokenOf (source : List ℕ) (t : Token) : Type 0 where
@@ -38,15 +35,3 @@ slice_long source t h =
     let some = h.some in
     let within = h.within in
     omega (arith, length-take (t.to - t.from) (drop t.from source), length-drop t.from source)
-
-whole : (source : List ℕ) (t : Token) → IsTokenOf source t → piece_at true (slice source t.from t.to) ≡ piece.Token t.kind (length (slice source t.from t.to))
-whole source t h = subst (λ (n : ℕ). piece_at true (slice source t.from t.to) ≡ piece.Token t.kind n) (sym (slice_long source t h)) h.alone
-
--- 64 bits hold a number's value
-pub number_fits : (source : List ℕ) (t : Token) → IsTokenOf source t → t.kind ≡ kind.Number → number_of (slice source t.from t.to) < 2 ^ 64
-number_fits source t h is = number_is_small (slice source t.from t.to)
-    (numbers (slice source t.from t.to) (subst (λ k. piece_at true (slice source t.from t.to) ≡ piece.Token k (length (slice source t.from t.to))) is (whole source t h)))
-
--- a token is a keyword where its bytes are one
-pub keyword_is : (source : List ℕ) (t : Token) → IsTokenOf source t → (t.kind ≡ kind.Keyword) ↔ (is_keyword (slice source t.from t.to) ≡ true)
-keyword_is source t h = keywords_are (slice source t.from t.to) t.kind (whole source t h)

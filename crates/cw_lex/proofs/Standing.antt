@@ -42,9 +42,6 @@ pub record Reached (source : List ℕ) (at : ℕ) (fresh : Bool) (ts : List Toke
   pub place : at ≡ sum_by size pieces
   pub tokens : ts ≡ tokens_of 0 pieces
 
-pub at_first : (source : List ℕ) → Reached source 0 true []
-at_first source = record { pieces = []; stand = (refl, refl); place = refl; tokens = refl }
-
 behind : (source : List ℕ) (at : ℕ) (fresh : Bool) (ts us : List Token) (p : Front) → Reached source at fresh ts → piece_at fresh (drop at source) ≡ p → 0 < size p
     → us ≡ ts ++ tokens_of at (p ∷ []) → Reached source (at + size p) (fresh_behind fresh p (drop at source)) us
 behind source at fresh ts us p r is some e = record {

@@ -20,10 +20,6 @@ starts_le bs [] e = omega arith
 starts_le [] (x ∷ w) e = absurd cc
 starts_le (b ∷ bs) (x ∷ w) e = let p = starts_le bs w (and_parts (eqb x b) (starts_with nat_eq bs w) e).1 in omega arith
 
-more_within : (o : Option ℕ) (k j : ℕ) → IfSome o (λ n. n ≤ k) → IfSome (more_by j o) (λ n. n ≤ k + j)
-more_within None k j h = tt
-more_within (Some n) k j h = omega arith
-
 one_more : (o : Option ℕ) (k : ℕ) → IfSome o (λ n. n ≤ k) → IfSome (more_by 1 o) (λ n. n ≤ suc k)
 one_more None k h = tt
 one_more (Some n) k h = omega arith

@@ -17,9 +17,6 @@ Took P ts x = (a : List Lexeme) × (ts ≡ a ++ x.1) × P a x.0
 abbrev pub Reads : {A : Type 0} → (D : Type 0) → Result A Refusal → A → Type 0
 Reads D r x = (r ≡ Ok x) ⊎ (D × (r ≡ Err refusal.TooDeep))
 
-pub reads_ok : {A : Type 0} (D : Type 0) (r : Result A Refusal) (x : A) → r ≡ Ok x → Reads D r x
-reads_ok D r x e = inl e
-
 pub reads_bind : {A B : Type 0} (D : Type 0) (r : Result A Refusal) (f : A → Result B Refusal) (x : A) (y : B) → Reads D r x → Reads D (f x) y → Reads D (r >>= f) y
 reads_bind D r f x y (inl e) (inl g) = inl (rw e g)
 reads_bind D r f x y (inl e) (inr g) = inr (g.0, rw e g.1)

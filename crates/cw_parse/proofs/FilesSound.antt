@@ -37,10 +37,6 @@ named_sound (p ∷ ps) e = let h = by_name p.name (all_named ps) e in (h.0, name
 abbrev pub SomePart : List Lexeme → Part → Type 0
 SomePart ts p = (0 < length ts) × IsPart nesting_limit ts p
 
-header_some : (a : List Lexeme) (p : Prototype) → HasHeader a p → 0 < length a
-header_some ts p (a, b, c, d, specs, stars, whole, hs, hb, result, hc, (o, inner, close, between, opens, closes, more)) =
-    omega (arith, ap length whole, ap length between, length-append a (b ++ (c ++ d)), length-append b (c ++ d), length-append c d)
-
 body_sound : (a : List Lexeme) (p : Prototype) (ts : List Lexeme) → HasHeader a p → IfOk (body p ts) (Took SomePart (a ++ ts))
 unfolding body
 body_sound a p ts h =

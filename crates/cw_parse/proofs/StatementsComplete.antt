@@ -223,9 +223,6 @@ module _ (limit : ℕ) (D : Type 0) (deep : nesting_limit < limit → D) where
       (reads_bind D (expect w.Semicolon (s ∷ rest)) _ (s, rest) _ (reads_expect D w.Semicolon s rest semi)
       (finish D (Evaluates e) (Evaluates e) f.0.from s.to from to rest refl (f.3 ∙ sym p) (sym ends_at ∙ sym q)))))
 
-  abbrev perhaps : Perhaps → List Lexeme → Read Perhaps
-  perhaps i rest = Ok (i, rest)
-
   start_again : (a : List Lexeme) (i : Perhaps) (rest : List Lexeme) → IsInit E a i → Reads D (start (a ++ rest)) (i, rest)
   unfolding start
   start_again a nothing rest h = let p = one_token a w.Semicolon h in rw p.1 (reads_then D (begins w.Semicolon (p.0 ∷ rest)) _ _ _ (begins_again w.Semicolon p.0 rest p.2) (inl refl))
@@ -257,11 +254,6 @@ module _ (limit : ℕ) (D : Type 0) (deep : nesting_limit < limit → D) where
   Stops InBlock rest = begins w.Else rest ≡ false
   Stops BeforeElse rest = Unit {0}
   Stops Elsewhere rest = begins w.Else rest ≡ false
-
-  stops_last : (place : Place) (rest : List Lexeme) → Stops place rest → Stops (last place) rest
-  stops_last InBlock rest h = h
-  stops_last BeforeElse rest h = h
-  stops_last Elsewhere rest h = h
 
   no_else : (place : Place) (rest : List Lexeme) → place ≢ BeforeElse → Stops place rest → begins w.Else rest ≡ false
   no_else InBlock rest never h = h

@@ -17,11 +17,6 @@ use Rattle.cw_points.specs.Drawing.{Drawn, more, with_nodes, with_node, with_sea
 use Rattle.cw_points.proofs.Drawn.{same_drawn, twice}
 use Rattle.cw_points.proofs.Lengths.{size_is, size_all_is, nodes_length, seams_length, step_length}
 
--- the same, whatever stands before it
-same_more : (p p' : ℕ → ℕ → List Node) (q q' : ℕ → ℕ → List Seam) (d : Drawn) → p (length d.nodes) (length d.seams) ≡ p' (length d.nodes) (length d.seams)
-    → q (length d.nodes) (length d.seams) ≡ q' (length d.nodes) (length d.seams) → more p q d ≡ more p' q' d
-same_more p p' q q' d e f = same_drawn (ap (λ l. d.nodes ++ l) e) (ap (λ l. d.seams ++ l) f)
-
 module _ (c : Scene) (f : ℕ) where
   abbrev nodes_at : Statement → Ways → ℕ → ℕ → List Node
   nodes_at s w n j = nodes_in f (numbered (steps_of c s) j) n w.next w.exit w.broken w.continued

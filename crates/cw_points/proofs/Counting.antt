@@ -14,9 +14,6 @@ use Rattle.cw_points.proofs.Lengths.{size_from_is}
 use Rattle.cw_syntax.proofs.Shapes.{block_form}
 use Rattle.cw_points.proofs.Shapes.{for_form, IsFor}
 
-pub capped_add : (a b : ℕ) → capped (capped a + capped b) ≡ capped (a + b)
-capped_add a b = omega arith
-
 pub one_place : (o : Option ℕ) → one_if_some o ≡ one_if (is_some o)
 one_place None = refl
 one_place (Some at) = refl

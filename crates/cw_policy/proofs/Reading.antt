@@ -17,16 +17,6 @@ or_more P Q (TooMany x) h p = h (TooMany x) p
 or_more P Q (Twice x) h p = h (Twice x) p
 or_more P Q NoMemory h p = tt
 
-pub or_some : (P : PolicyFault → Type 0) (f : PolicyFault) → P f → OrMemory P f
-or_some P Toml p = p
-or_some P (Missing x) p = p
-or_some P (Unknown x) p = p
-or_some P (Kind x) p = p
-or_some P (Regex i x) p = p
-or_some P (TooMany x) p = p
-or_some P (Twice x) p = p
-or_some P NoMemory p = tt
-
 -- the text at this place is refused
 pub refused_at : (format : ℕ) (d labels : List (List ℕ)) (xs : List Source) (i : ℕ) (x : Source) (f : PolicyFault) → i < length xs
     → OrMemory (IsRuleFault format d (text_of (get_or xs i x))) f → OrMemory (FirstRefused format d labels (map text_of (drop i xs))) f

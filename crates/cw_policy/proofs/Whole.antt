@@ -1,5 +1,5 @@
 -- The whole policy.
-use Rattle.std.proofs.Common.{◌≡◌, ◌≤◌, ◌<◌, ℕ, ◌+◌, List, [], ◌∷◌, Bool, true, false, Option, Some, None, cond, length, suc, map, refl, sym, ap, ◌∙◌, subst, inl, inr, Vec, Global, arith}
+use Rattle.std.proofs.Common.{◌≡◌, ◌≤◌, ◌<◌, ℕ, ◌+◌, List, [], ◌∷◌, Bool, true, false, Option, Some, None, cond, length, suc, map, refl, sym, ap, ◌∙◌, subst, inl, Vec, Global, arith}
 use Rattle.std.specs.Prelude.{nat_lt, sum_by}
 use Rattle.std.proofs.lemmas.List.{length-map}
 use Rattle.std.proofs.lemmas.List.Sums.{sum_by-cons}
@@ -8,18 +8,17 @@ use Rattle.std.proofs.lemmas.Bool.Decides.{nat_tests}
 use Rattle.toml.specs.Data.{Items, no_items, item, Members}
 use Rattle.cw_rights.specs.declared.policy.Descriptor.{Descriptor}
 use Rattle.cw_rights.specs.Trees.{count as literals}
-use Rattle.cw_rights.specs.Policies.{PlainRule, PlainDescriptor, PlainPolicy, descriptor_of}
-use Rattle.cw_regex.specs.Labels.{names_in}
+use Rattle.cw_rights.specs.Policies.{PlainRule, PlainDescriptor, descriptor_of}
 use Rattle.cw_regex.specs.Meaning.{names_of as names}
 use Rattle.cw_dfa.specs.Positions.{bad_of}
 use Rattle.cw_policy.specs.declared.fault.PolicyFault.{PolicyFault}
-use Rattle.cw_policy.specs.declared.keys.Key.TheVariants.{Descriptors, Limits}
+use Rattle.cw_policy.specs.declared.keys.Key.TheVariants.{Descriptors}
 use Rattle.cw_policy.specs.Form.{or_else, array_at, format_of, form_fault}
 use Rattle.cw_policy.specs.Names.{names_of, count, unknown_fault, twice_fault, count_fault, early_fault}
 use Rattle.cw_policy.specs.Parts.{descriptors_in}
 use Rattle.cw_policy.specs.Rules.{OrMemory, HaveRules, FirstRefused, rule_texts}
-use Rattle.cw_policy.specs.Answer.{descriptor_names, at_labels, positions, quantity_fault, policy_with, HasPolicy, IsLateFault, IsFaultOf}
-use Rattle.cw_policy.proofs.Reading.{or_more, or_some}
+use Rattle.cw_policy.specs.Answer.{descriptor_names, at_labels, positions, IsLateFault}
+use Rattle.cw_policy.proofs.Reading.{or_more}
 
 -- the literals of all rules
 pub literals_are : (rs : List PlainRule) → literals (bad_of rs) ≡ sum_by (λ r. literals r.bad) rs
@@ -92,38 +91,11 @@ late_refused ms d labels f e g = or_more (FirstRefused (format_of ms) d labels (
     (λ h r. inl (subst (λ (d : List (List ℕ)). FirstRefused (format_of ms) d (at_labels ms) (rule_texts ms) h) e
     (subst (λ (l : List (List ℕ)). FirstRefused (format_of ms) d l (rule_texts ms) h) g r)))
 
-pub late_quantity : (ms : Members) (rules : List PlainRule) (labels : List (List ℕ)) (f : PolicyFault) → HaveRules (format_of ms) (descriptor_names ms) (at_labels ms) (rule_texts ms) rules labels
-    → quantity_fault (count (array_at Limits ms)) rules ≡ Some f → OrMemory (IsLateFault ms) f
-late_quantity ms rules labels f h e = or_some (IsLateFault ms) f (inr (rules, labels, h, e))
-
--- the whole policy, from its parts
-pub has_policy : (ms : Members) (rules : List PlainRule) (labels : List (List ℕ)) (policy : PlainPolicy) → early_fault ms ≡ None
-    → HaveRules (format_of ms) (descriptor_names ms) (at_labels ms) (rule_texts ms) rules labels
-    → quantity_fault (count (array_at Limits ms)) rules ≡ None → policy ≡ policy_with ms labels rules → HasPolicy ms policy
-has_policy ms rules labels policy early h q e =
-    let whole : HasPolicy ms (policy_with ms labels rules) = record { early = early; is = refl; rules = h; quantities = q } in
-    subst (λ (p : PlainPolicy). HasPolicy ms p) (sym e) whole
-
 pub have_rules : (ms : Members) (d labels after : List (List ℕ)) (rules : List PlainRule) → d ≡ descriptor_names ms → labels ≡ at_labels ms
     → HaveRules (format_of ms) d labels (rule_texts ms) rules after → HaveRules (format_of ms) (descriptor_names ms) (at_labels ms) (rule_texts ms) rules after
 have_rules ms d labels after rules e g h =
     subst (λ (d : List (List ℕ)). HaveRules (format_of ms) d (at_labels ms) (rule_texts ms) rules after) e
     (subst (λ (l : List (List ℕ)). HaveRules (format_of ms) d l (rule_texts ms) rules after) g h)
-
--- as many names as keys
-pub few_names : (list keys : List (Vec ℕ Global)) → names_in list ≡ names_in keys → length keys ≤ 65535 → length list ≤ 65535
-few_names list keys e h =
-    let a : length (names_in list) ≡ length list = length-map list (λ v. v.items) in
-    let b : length (names_in keys) ≡ length keys = length-map keys (λ v. v.items) in
-    let same : length (names_in list) ≡ length (names_in keys) = ap length e in
-    omega (arith, a, b, same, h)
-
--- early and late faults
-pub early_is : (ms : Members) (f : PolicyFault) → early_fault ms ≡ Some f → OrMemory (IsFaultOf ms) f
-early_is ms f e = or_some (IsFaultOf ms) f (inl e)
-
-pub late_is : (ms : Members) (f : PolicyFault) → early_fault ms ≡ None → OrMemory (IsLateFault ms) f → OrMemory (IsFaultOf ms) f
-late_is ms f e = or_more (IsLateFault ms) (IsFaultOf ms) f (λ g h. inr (e, h))
 
 pub few_texts : (list : List (Vec ℕ Global)) → length list ≤ 65535 → length (map (λ v. v.items) list) ≤ 65535
 few_texts list h = let e = length-map list (λ (v : Vec ℕ Global). v.items) in omega (arith, e, h)

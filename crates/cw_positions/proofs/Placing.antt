@@ -67,13 +67,6 @@ module _ (pol : PlainPolicy) (parts : List Part) (ns : List Node) (its : List It
   abbrev spots : List Spot
   spots = spots_in pol parts ns
 
-  -- what is opened and closed are descriptors of the policy, and a call may be split off where its function's part says so
-  abbrev DescribedIn : ℕ → Type 0
-  DescribedIn d = d < length pol.descriptors
-
-  abbrev SplitsAs : Callee → Type 0
-  SplitsAs callee = callee.split ≡ is_split parts callee.number
-
   here : (p : ℕ) (n : Node) → slice_get ns p ≡ Some n → HasAt (spots_in pol parts ns) (base pol parts ns p) (spots_at pol parts (base pol parts ns) n)
   here p n e = stands (spots_at pol parts at) (λ m. width pol parts m.point) (width_at pol parts at) ns p n e
 

@@ -15,11 +15,6 @@ use Rattle.cw_product.specs.Moves.{IsPosition, IsState, pair_of, numbers, next_i
 use Rattle.cw_product.specs.Product.{Held, game_of}
 use Rattle.cw_product.specs.Kept.{IsFine, IsFollowed, IsWithin}
 
--- a pair that is there only if a test says so
-either : (g : Game) (b : Bool) (x y : Option (ℕ × ℕ)) → IsWithin g x → IsWithin g y → IsWithin g (cond b x y)
-either g true x y l r = l
-either g false x y l r = r
-
 module _ (h : Held) (below : StayBelow (game_of h).states) where
   abbrev g : Game
   g = game_of h

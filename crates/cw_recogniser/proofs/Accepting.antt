@@ -1,5 +1,5 @@
 -- Steps of the machine, as facts of what a stack accepts.
-use Rattle.std.proofs.Common.{◌≡◌, Bool, true, false, List, [], ◌∷◌, ◌++◌, refl, sym, ap, subst, ◌∙◌, append_assoc, Some, None}
+use Rattle.std.proofs.Common.{◌≡◌, Bool, true, false, List, [], ◌∷◌, ◌++◌, refl, ap, ◌∙◌, append_assoc, Some, None}
 use Rattle.std.specs.Prelude.{is_some}
 use Rattle.cw_grammar.specs.declared.words.Word.{Word}
 use Rattle.cw_grammar.specs.declared.words.Lexeme.{Lexeme}
@@ -56,9 +56,6 @@ skip {symbol} {below} {ts} e n h = skipped symbol below ts e n h
 pub pass : {symbol : Symbol} {word : Word} {t : Lexeme} {below : List Symbol} {ts : List Lexeme} → Is word t → may_be_empty symbol ≡ true
     → is_some (after symbol (kind_of_word word)) ≡ false → Accepts below (t ∷ ts) → Accepts (symbol ∷ below) (t ∷ ts)
 pass {symbol} {word} {t} {below} {ts} is e n h = skip {symbol = symbol} {below = below} {ts = t ∷ ts} e (ap (λ (v : Word). is_some (after symbol (kind_of_word v))) is ∙ n) h
-
-pub moved : {stack : List Symbol} {ts us : List Lexeme} → ts ≡ us → Accepts stack us → Accepts stack ts
-moved {stack} e h = subst (λ (z : List Lexeme). Accepts stack z) (sym e) h
 
 by_next : (next other : Next) (new_below below : List Symbol) (more : List Symbol) (p q : Next) (b : Bool) (go : List Symbol → Bool)
     → (is_some next ≡ true → other ≡ onto next more) → then_done (fed next false new_below p) go ≡ true

@@ -44,15 +44,6 @@ pub init_is : (kind : TerminalKind) → after s.ForInit kind ≡ either (semicol
     (either (onto (specifiers kind) (s.TwoStars ∷ s.Name ∷ s.Array ∷ s.Initialiser ∷ s.MoreItems ∷ s.Semicolon ∷ [])) (onto (expression kind) (s.Semicolon ∷ [])))
 init_is kind = refl
 
-pub either_first : (x y : Next) (more others new : List Symbol) → x ≡ Some new → either (onto x more) (onto y others) ≡ Some (new ++ more)
-either_first x y more others new e = rw e refl
-
-pub either_second : (x y : Next) (more others new : List Symbol) → x ≡ None → y ≡ Some new → either (onto x more) (onto y others) ≡ Some (new ++ others)
-either_second x y more others new e f = rw (e, f) refl
-
-pub either_none : (x y : Next) (more others : List Symbol) → x ≡ None → y ≡ None → either (onto x more) (onto y others) ≡ None
-either_none x y more others e f = rw (e, f) refl
-
 pub whole_first : (x : Next) (new : List Symbol) → x ≡ Some new → x ≡ Some (new ++ [])
 whole_first x new e = e ∙ ap Some (sym (append-nil new))
 

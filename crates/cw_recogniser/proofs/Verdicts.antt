@@ -1,5 +1,5 @@
 -- What the loop over the tokens finds, and what it says of them.
-use Rattle.std.proofs.Common.{◌≡◌, ℕ, ◌+◌, ◌<◌, ◌≤◌, Bool, true, false, List, [], ◌∷◌, ◌++◌, length, take, drop, get_or, reverse, refl, sym, ap, ◌∙◌, Option, Some, None, arith}
+use Rattle.std.proofs.Common.{◌≡◌, ℕ, ◌+◌, ◌<◌, Bool, true, false, List, [], ◌∷◌, ◌++◌, length, take, drop, get_or, reverse, refl, sym, ap, ◌∙◌, Option, Some, None, arith}
 use Rattle.std.proofs.lemmas.List.{reverse-append, take_more, take_all, take-append-drop}
 use Rattle.std.specs.Prelude.{is_some, ◌&&◌, IfOk, IfSome, IfNone, Result, Ok, Err}
 use Rattle.std.specs.List.{list_all}
@@ -105,11 +105,6 @@ module _ {E : Type 0} (ts : List Lexeme) where
   says_no_text (Ok None) v = tt
   says_no_text (Ok (Some at)) v = refused_text ts (run start ts) refl v.1
   says_no_text (Err e) v = tt
-
-  pub says_within : (r : Result (Option ℕ) E) → IfOk r (λ fault. IsVerdict ts fault) → IfOk r (λ fault. IfSome fault (λ at. at ≤ length ts))
-  says_within (Ok None) v = tt
-  says_within (Ok (Some at)) v = v.0
-  says_within (Err e) v = tt
 
   pub says_front : (r : Result (Option ℕ) E) → IfOk r (λ fault. IsVerdict ts fault) → IfOk r (λ fault. IfSome fault (λ at. IsFront (take at ts)))
   says_front (Ok None) v = tt

@@ -8,10 +8,6 @@ use Rattle.cw_regex.specs.Labels.{Gains}
 use Rattle.cw_regex.specs.Meaning.{with_name, with_names, labels_in}
 use Rattle.cw_regex.specs.Parts.{Part, word, parts}
 
--- nothing yet
-pub adds_start : (old left : List (List ℕ)) → Adds old old left left
-adds_start old left = record { added = []; split = refl; all = refl }
-
 with_names-append : (ws vs names : List (List ℕ)) → with_names names (ws ++ vs) ≡ with_names (with_names names ws) vs
 with_names-append [] vs names = refl
 with_names-append (w ∷ ws) vs names = with_names-append ws vs (with_name names w)
@@ -49,10 +45,6 @@ adds_gains text old new after a =
     let some = All-weaker (Contains a.added) (Contains (a.added ++ after)) (λ x. Contains-append_left a.added after x) a.added itself in
     let x = fresh (labels_in false (parts text)) a.added old (subst (λ l. All (Contains l) a.added) (sym a.split) some) in
     record { added = x.0; kept = a.all ∙ x.1; named = x.2 }
-
--- nothing was added
-pub gains_none : (text : List ℕ) (old : List (List ℕ)) → Gains text old old
-gains_none text old = record { added = []; kept = sym (append-nil old); named = All-nil (Contains (labels_in false (parts text))) }
 
 -- all were added
 pub gains_all : (text : List ℕ) (old new : List (List ℕ)) → new ≡ with_names old (labels_in false (parts text)) → Gains text old new

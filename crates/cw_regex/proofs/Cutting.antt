@@ -34,12 +34,6 @@ parts_word b (c ∷ w) t a e =
     let first : is_name_byte c ≡ true = and_left (is_name_byte c) (list_all is_name_byte w) more in
     parts_byte b ((c ∷ w) ++ t) (and_left (is_name_byte b) (list_all is_name_byte (c ∷ w)) a) ∙ ap₂ (grown b) first (parts_word c w t more e)
 
-pub placed_blank : (n b : ℕ) (t : List ℕ) → is_blank b ≡ true → placed n (b ∷ t) ≡ placed (n + 1) t
-placed_blank n b t e = rw e refl
-
-pub placed_mark : (n b : ℕ) (t : List ℕ) → is_blank b ≡ false → is_name_byte b ≡ false → placed n (b ∷ t) ≡ record { at = n; part = mark (mark_of b) } ∷ placed (n + 1) t
-placed_mark n b t e f = rw (e, f) refl
-
 placed_byte : (n b : ℕ) (t : List ℕ) → is_name_byte b ≡ true → placed n (b ∷ t) ≡ grown_at n b (begins_word t) (placed (n + 1) t)
 placed_byte n b t e = let f = word_no_blank b e in rw (f, e) refl
 

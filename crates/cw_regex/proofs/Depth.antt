@@ -4,11 +4,9 @@ use Rattle.cw_regex.specs.declared.text.Mark.TheVariants.{ParenClose, Bar, Star,
 use Rattle.cw_regex.specs.Parts.{Part, mark, parts}
 use Rattle.cw_regex.specs.Grammar.{Name, Subject, ambient, holds, TestForm, Expression, only, either, Term, single, then, Factor, plain, star, plus, maybe, Atom, literal, group}
 use Rattle.cw_regex.specs.Grammar.{spelled_subject, spelled_if, spelled_test, spelled_more, spelled_tests, spelled_label, spelled, spelled_term, spelled_factor, spelled_atom, depth}
-use Rattle.cw_regex.specs.Grammar.{depth_term, depth_factor, depth_atom, Spells, IsExpression}
+use Rattle.cw_regex.specs.Grammar.{depth_term, depth_factor, depth_atom, Spells}
 use Rattle.cw_regex.specs.Machine.{deepest}
-use Rattle.cw_regex.specs.Causes.{IsShallow, IsDeep, IsUnknown, IsRegexFault, fault_of}
-use Rattle.cw_regex.specs.declared.unknown.Unknown.{Unknown}
-use Rattle.cw_regex.specs.declared.unknown.Unknown.TheVariants.{Descriptor, Right}
+use Rattle.cw_regex.specs.Causes.{IsShallow, IsDeep}
 use Rattle.cw_regex.proofs.Scanned.{deepest_least}
 
 in_subject : (d : ℕ) (s : Subject) (rest : List Part) → deepest d (spelled_subject s rest) ≡ deepest d rest
@@ -76,7 +74,3 @@ shallow text n h l e s = let k = depth_is text e s in omega arith
 
 pub deep : (text : List ℕ) (n : ℕ) → deepest 0 (parts text) ≡ n → 64 < n → IsDeep text
 deep text n h l e s = let k = depth_is text e s in omega arith
-
-pub unknown_is : (format : ℕ) (names : List (List ℕ)) (text : List ℕ) (u : Unknown) → IsExpression text → IsShallow text → IsUnknown format names text u → IsRegexFault format names text (fault_of u)
-unknown_is format names text (Descriptor n) e s u = (e, s, u)
-unknown_is format names text (Right n) e s u = (e, s, u)

@@ -1,5 +1,5 @@
 -- Sequences and alternatives of what was built.
-use Rattle.std.proofs.Common.{◌≡◌, ◌≢◌, List, [], ◌∷◌, ◌++◌, Vec, Global, map, length, refl, sym, ap, ◌∙◌, arith, length-append}
+use Rattle.std.proofs.Common.{◌≡◌, ◌≢◌, List, [], ◌∷◌, Vec, Global, map, length, refl, ap, ◌∙◌}
 use Rattle.cw_rights.specs.declared.words.Regex.{Regex}
 use Rattle.cw_rights.specs.declared.words.Regex.TheVariants.{Cat, Or}
 use Rattle.cw_rights.specs.Trees.{seq, alt, tree_of, seq_of, alt_of}
@@ -29,13 +29,3 @@ alt_is (r ∷ (s ∷ rs)) n = ap (λ t. alt (tree_of r) (alt (tree_of s) t)) (ch
 
 pub or_joined : (v : Vec Regex Global) → length v.items ≢ 1 → tree_of (Or v) ≡ joined_alt (map tree_of v.items)
 or_joined v n = or_tree (Or v) v refl ∙ alt_is v.items n
-
-one_left : (rs front : List Regex) (r : Regex) → length rs ≡ 1 → rs ≡ front ++ r ∷ [] → rs ≡ r ∷ []
-one_left rs [] r l e = e
-one_left rs (f ∷ front) r l e = let n : length rs ≡ length ((f ∷ front) ++ r ∷ []) = ap length e in let m = length-append (f ∷ front) (r ∷ []) in absurd (omega arith)
-
-pub one_seq : (rs front : List Regex) (r : Regex) → length rs ≡ 1 → rs ≡ front ++ r ∷ [] → tree_of r ≡ joined_seq (map tree_of rs)
-one_seq rs front r l e = ap (λ x. joined_seq (map tree_of x)) (sym (one_left rs front r l e))
-
-pub one_alt : (rs front : List Regex) (r : Regex) → length rs ≡ 1 → rs ≡ front ++ r ∷ [] → tree_of r ≡ joined_alt (map tree_of rs)
-one_alt rs front r l e = ap (λ x. joined_alt (map tree_of x)) (sym (one_left rs front r l e))

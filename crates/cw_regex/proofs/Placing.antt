@@ -8,12 +8,12 @@ use Rattle.cw_regex.specs.declared.phase.Phase.TheVariants.{Begin, Label, Whole,
 use Rattle.cw_regex.specs.declared.scan.Scanned.{Scanned}
 use Rattle.cw_regex.specs.Parts.{mark, parts, ends_blank}
 use Rattle.cw_regex.specs.Grammar.{IsFaultAt}
-use Rattle.cw_regex.specs.Machine.{step_word, step, kept, start, ends_here, In, deepest}
+use Rattle.cw_regex.specs.Machine.{step_word, step, kept, ends_here, In, deepest}
 use Rattle.cw_regex.specs.Pieces.{IsBlankAt, IsMarkAt, IsWordAt}
 use Rattle.cw_regex.specs.Scans.{is_held, Scan, ScanAt}
 use Rattle.cw_lemmas.proofs.Truths.{and_first as and_left, and_second as and_right}
 use Rattle.cw_regex.proofs.Runs.{take_drop, take_on}
-use Rattle.cw_regex.proofs.Scanned.{scan_start, scan_blank, scan_mark, scan_word, Stuck, fault_by, front_scan, stuck_front, stuck_held, stuck_mark, stuck_word, later_word, scan_ends, stuck_end}
+use Rattle.cw_regex.proofs.Scanned.{scan_blank, scan_mark, scan_word, Stuck, fault_by, front_scan, stuck_front, stuck_held, stuck_mark, stuck_word, later_word, scan_ends, stuck_end}
 
 held_is : (alone : Bool) (q : Phase) → is_held alone q ≡ true → (alone ≡ true) × (q ≡ Right)
 held_is true Right e = (refl, refl)
@@ -144,6 +144,3 @@ module _ (alone : Bool) (text : List ℕ) (x : Scanned) (h : ScanAt alone text x
       let was = at_end l in
       subst (λ t. IsFaultAt (In alone) t (length text)) (append-nil text) (fault_by alone text [] (front_scan alone text [] x.phase x.depth x.most was)
       (stuck_end alone text x.phase x.depth x.most was e))
-
-pub at_start : (alone : Bool) (text : List ℕ) → ScanAt alone text (record { at = 0; phase = start alone; depth = 0; most = 0 })
-at_start alone text = record { far = omega arith; is = scan_start alone text }

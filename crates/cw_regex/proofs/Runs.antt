@@ -1,12 +1,11 @@
 -- Runs of bytes of words, and what stands at a place.
 use Rattle.std.proofs.Common.{◌≡◌, ℕ, zero, suc, ◌+◌, ◌-◌, ◌<◌, ◌≤◌, List, [], ◌∷◌, ◌++◌, Bool, true, false, ◌&&◌, length, take, drop, get_or, slice_index, refl, sym, ap, ap₂, ◌∙◌, subst}
-use Rattle.std.proofs.Common.{arith, add-one, drop-cons, length-drop, length-take}
+use Rattle.std.proofs.Common.{arith, length-drop, length-take}
 use Rattle.std.specs.List.{list_all}
 use Rattle.std.proofs.lemmas.List.{take_more, get_or-drop}
 use Rattle.cw_rights.specs.Valid.{is_name_byte}
-use Rattle.cw_regex.specs.declared.text.Mark.{Mark}
-use Rattle.cw_regex.specs.Parts.{is_blank, mark_of, begins_word, ends_blank}
-use Rattle.cw_regex.specs.Pieces.{IsBlankAt, IsMarkAt, IsWordAt}
+use Rattle.cw_regex.specs.Parts.{is_blank, begins_word, ends_blank}
+use Rattle.cw_regex.specs.Pieces.{IsWordAt}
 
 pub take_front : (s u : List ℕ) → take (length s) (s ++ u) ≡ s
 take_front [] u = refl
@@ -31,21 +30,6 @@ all_one_more text at end l m a b =
     let one : list_all is_name_byte (get_or text end 0 ∷ []) ≡ true = rw b refl in
     ap (λ i. list_all is_name_byte (take i (drop at text))) n ∙ ap (list_all is_name_byte) (t ∙ ap (λ x. take (end - at) (drop at text) ++ x ∷ []) g)
     ∙ all_append is_name_byte (take (end - at) (drop at text)) (get_or text end 0 ∷ []) a one
-
-pub all_first : (text : List ℕ) (at : ℕ) → at < length text → is_name_byte (slice_index text at) ≡ true → list_all is_name_byte (take (at + 1 - at) (drop at text)) ≡ true
-all_first text at l b =
-    let z : list_all is_name_byte (take (at - at) (drop at text)) ≡ true = let n : at - at ≡ 0 = omega arith in rw n refl in
-    all_one_more text at at (omega arith) l z b
-
-cut_at : (text : List ℕ) (at : ℕ) → at < length text → drop at text ≡ slice_index text at ∷ drop (at + 1) text
-cut_at text at l = drop-cons text at 0 l ∙ ap (λ i. slice_index text at ∷ drop i text) (sym (add-one at))
-
-pub blank_at : (text : List ℕ) (at : ℕ) → at < length text → is_blank (slice_index text at) ≡ true → IsBlankAt text at
-blank_at text at l e = record { byte = slice_index text at; cut = cut_at text at l; blank = e }
-
-pub mark_at : (text : List ℕ) (at : ℕ) (m : Mark) → at < length text → is_blank (slice_index text at) ≡ false → is_name_byte (slice_index text at) ≡ false →
-    m ≡ mark_of (slice_index text at) → IsMarkAt text at m
-mark_at text at m l e f g = record { byte = slice_index text at; cut = cut_at text at l; no_blank = e; no_word = f; is = g }
 
 pub take_drop : (l : List ℕ) (n : ℕ) → l ≡ take n l ++ drop n l
 take_drop l zero = refl

@@ -20,17 +20,6 @@ use Rattle.cw_regex.specs.Scans.{ends_word, Apart, Scan}
 use Rattle.cw_regex.proofs.Runs.{take_front}
 use Rattle.cw_regex.proofs.Fronts.{At, run_append, apart_begins, ends_append, starts_append, front_of, runs, accepted, rejected, stuck_part, apart_before}
 
-pub scan_start : (alone : Bool) (t : List ℕ) → Scan alone [] t (start alone) 0 0
-scan_start alone t = record {
-  runs = refl;
-  apart = refl;
-  front = refl;
-  may = λ a r. refl;
-  deep = omega arith;
-  within = omega arith;
-  few = omega arith;
-}
-
 blank_no_word : (b : ℕ) → is_blank b ≡ true → is_name_byte b ≡ false
 blank_no_word b e = by (which (is_name_byte b))
   where

@@ -1,12 +1,12 @@
 -- One item more of an expression.
 use Rattle.std.proofs.Common.{◌≡◌, ◌≢◌, ℕ, List, [], ◌∷◌, false, Option, Some, None, map, drop, refl, sym, ap, ◌∙◌}
 use Rattle.cw_regex.specs.declared.text.Mark.{Mark}
-use Rattle.cw_regex.specs.declared.text.Mark.TheVariants.{Dot, ParenOpen, ParenClose, Bar, Star, Plus, Question}
+use Rattle.cw_regex.specs.declared.text.Mark.TheVariants.{Dot}
 use Rattle.cw_regex.specs.Parts.{Part, word, mark, parts}
 use Rattle.cw_regex.specs.Grammar.{Name, TestForm, Expression, spelled, spelled_tests}
 use Rattle.cw_regex.specs.Tokens.{begins_bracket}
 use Rattle.cw_regex.specs.Meaning.{number_in, test_meaning, meaning}
-use Rattle.cw_regex.specs.Items.{Item, lit, begin, close, bar, many, some, optional, spelled_item, spelled_items, items, Levels, empty, finished, with_literal, with_mark, put, put_all}
+use Rattle.cw_regex.specs.Items.{Item, lit, begin, close, bar, many, some, optional, spelled_item, spelled_items, items, Levels, empty, finished, with_literal, put, put_all}
 use Rattle.cw_regex.proofs.Built.{items_spelled, built}
 
 pub no_bracket : (is : List Item) → begins_bracket (spelled_items is) ≡ false
@@ -65,20 +65,6 @@ dot_item some rest ps e = absurd (cc)
 dot_item optional rest ps e = absurd (cc)
 
 module _ (format : ℕ) (labels descriptors : List (List ℕ)) where
-  same_mark : (s : Levels) (m n : Mark) → n ≡ m → with_mark s m ≡ with_mark s n
-  same_mark s m n e = ap (with_mark s) (sym e)
-
-  -- any other mark is an item of its own
-  pub mark_item : (s : Levels) (m : Mark) (i : Item) (rest ps : List Part) → m ≢ Dot → mark m ∷ ps ≡ spelled_item i rest → (with_mark s m ≡ put format labels descriptors s i) × (ps ≡ rest)
-  mark_item s m (lit None ts) rest ps n e = let z : m ≡ Dot = cc in absurd (n z)
-  mark_item s m (lit (Some x) ts) rest ps n e = absurd (cc)
-  mark_item s m begin rest ps n e = let z : ParenOpen ≡ m = cc in (same_mark s m ParenOpen z, cc)
-  mark_item s m close rest ps n e = let z : ParenClose ≡ m = cc in (same_mark s m ParenClose z, cc)
-  mark_item s m bar rest ps n e = let z : Bar ≡ m = cc in (same_mark s m Bar z, cc)
-  mark_item s m many rest ps n e = let z : Star ≡ m = cc in (same_mark s m Star z, cc)
-  mark_item s m some rest ps n e = let z : Plus ≡ m = cc in (same_mark s m Plus z, cc)
-  mark_item s m optional rest ps n e = let z : Question ≡ m = cc in (same_mark s m Question z, cc)
-
   abbrev Reads : List Part → Levels → Levels → Option ℕ → Type 0
   Reads ps s t l = (ts : List TestForm) (rest : List Part) → ps ≡ spelled_tests ts rest → begins_bracket rest ≡ false →
       t ≡ with_literal s (record { label = l; tests = map (test_meaning format descriptors) ts })

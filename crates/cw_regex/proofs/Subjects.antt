@@ -27,9 +27,6 @@ pub record TestsSoFar (format : ℕ) (names : List (List ℕ)) (text : List ℕ)
       (u : TestForm) × (us : List TestForm) × (parts (drop from text) ≡ spelled_test u (spelled_more us rest)) ×
       (read ++ map (test_meaning format names) (u ∷ us) ≡ map (test_meaning format names) (t ∷ ts))
 
-pub tests_start : (format : ℕ) (names : List (List ℕ)) (text : List ℕ) (at : ℕ) → TestsSoFar format names text at at []
-tests_start format names text at = record { left = λ t ts rest h. (t, ts, h, refl) }
-
 pub settled_more : (s : Subject) (ts : List TestForm) (rest : List Part) → Settled s (spelled_more ts rest)
 settled_more ambient [] rest = refl
 settled_more ambient (t ∷ ts) rest = refl

@@ -1,5 +1,5 @@
 -- What an expression does, by its operator and its parts.
-use Rattle.std.proofs.Common.{◌≡◌, ◌≢◌, ℕ, zero, suc, List, [], ◌∷◌, None, length, get_or, refl, sym, ap, ap₂, ◌∙◌}
+use Rattle.std.proofs.Common.{◌≡◌, ◌≢◌, ℕ, List, [], ◌∷◌, None, length, refl, ap, ap₂, ◌∙◌}
 use Rattle.cw_syntax.specs.declared.program.Name.{Name}
 use Rattle.cw_syntax.specs.declared.program.Op.{Op}
 use Rattle.cw_syntax.specs.declared.program.Op.TheVariants.{Name as NameOp, Number, Call as CallOp, Assign}
@@ -37,10 +37,6 @@ module _ (s : Scene) where
   computes (CallOp f) ts a b h k = absurd (h f refl)
   computes (Assign n) ts a b h k = absurd (k n refl)
   computes _ ts a b h k = refl
-
-  pub by_operator : (n : ℕ) (ts : Trees) (a b : ℕ) → (n ≢ 0) → action_of s (Node (Assign n) ts a b) ≡ Computes
-  by_operator zero ts a b h = absurd (h refl)
-  by_operator (suc n) ts a b h = refl
 
   -- an assignment whose first part is no name, and one whose second is no call
   other_first : (op : Op) (qs : Trees) (c d : ℕ) (rest : Trees) (a b : ℕ) → (op ≢ NameOp) → action_of s (Node (Assign 0) (more (Node op qs c d) rest) a b) ≡ Computes
@@ -84,17 +80,6 @@ module _ (s : Scene) where
       ap₂ (λ t u. action_of s (Node (Assign 0) (more t (more u (more (tree_of g) (trees_of es)))) a b)) (node_is e) (node_is f)
       ∙ three_parts (out-Expr e).op (out-Expr f).op (trees_of (out-Expr e).parts.items) (trees_of (out-Expr f).parts.items) (out-Expr e).from (out-Expr e).to (out-Expr f).from (out-Expr f).to
       (tree_of g) (trees_of es) a b
-
-  -- two parts that were read one by one
-  two_trees : (es : List Expr) (x y : Expr) → length es ≡ 2 → x ≡ get_or es 0 x → y ≡ get_or es 1 y → trees_of es ≡ more (tree_of x) (more (tree_of y) none)
-  two_trees [] x y l e f = absurd (cc)
-  two_trees (u ∷ []) x y l e f = absurd (cc)
-  two_trees (u ∷ (v ∷ [])) x y l e f = ap₂ (λ a b. more (tree_of a) (more (tree_of b) none)) (sym e) (sym f)
-  two_trees (u ∷ (v ∷ (w ∷ es))) x y l e f = absurd (cc)
-
-  pub two_parts : (es : List Expr) (x y : Expr) (a b : ℕ) → length es ≡ 2 → x ≡ get_or es 0 x → y ≡ get_or es 1 y
-      → action_of s (Node (Assign 0) (trees_of es) a b) ≡ action_of s (Node (Assign 0) (more (tree_of x) (more (tree_of y) none)) a b)
-  two_parts es x y a b l e f = ap (λ t. action_of s (Node (Assign 0) t a b)) (two_trees es x y l e f)
 
 -- the action that an act stands for
 abbrev pub action_in : Act → Action

@@ -12,10 +12,6 @@ sooner_assoc (Some a) None c = refl
 sooner_assoc (Some a) (Some b) None = refl
 sooner_assoc (Some a) (Some b) (Some c) = ap Some (min_assoc a b c)
 
-pub sooner_none : (a : Option ℕ) → sooner a None ≡ a
-sooner_none None = refl
-sooner_none (Some a) = refl
-
 -- A loop that takes the lesser of what it has and what `rest` gives for the elements that are left: one element further.
 pub lesser_further : {X : Type 0} (rest : List X → Option ℕ) (xs : List X) (i : ℕ) (x : X) (old new own whole : Option ℕ) → i < length xs → x ≡ get_or xs i x
     → ((ys : List X) → rest (x ∷ ys) ≡ sooner own (rest ys)) → new ≡ sooner old own → sooner old (rest (drop i xs)) ≡ whole → sooner new (rest (drop (i + 1) xs)) ≡ whole

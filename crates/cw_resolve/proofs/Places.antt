@@ -24,13 +24,6 @@ position_map p f xs = ap₂ (λ n m. cond (nat_lt n m) (Some n) None) (or_len_ma
 abbrev pub Seeks : {X : Type 0} → (X → Bool) → List X → ℕ → Type 0
 Seeks q xs i = i + position_or_len q (drop i xs) ≡ position_or_len q xs
 
-pub seeks_more : {X : Type 0} (q : X → Bool) (xs : List X) (i : ℕ) (x : X) → i < length xs → x ≡ get_or xs i x → q x ≡ false → Seeks q xs i → Seeks q xs (i + 1)
-seeks_more q xs i x l e f s =
-    let m = at_drop_more (position_or_len q) xs i x l in
-    let z : q (get_or xs i x) ≡ false = subst (λ y. q y ≡ false) e f in
-    let d : position_or_len q (drop i xs) ≡ 1 + position_or_len q (drop (i + 1) xs) = m ∙ ap (λ b. cond (not b) (1 + position_or_len q (drop (i + 1) xs)) 0) z in
-    omega arith
-
 pub seeks_found : {X : Type 0} (q : X → Bool) (xs : List X) (i : ℕ) (x : X) → i < length xs → x ≡ get_or xs i x → q x ≡ true → Seeks q xs i → Some i ≡ position q xs
 seeks_found q xs i x l e f s =
     let m = at_drop_more (position_or_len q) xs i x l in

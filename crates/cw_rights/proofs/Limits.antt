@@ -1,5 +1,5 @@
 -- Whether a limit is allowed, in terms of single rights.
-use Rattle.std.proofs.Common.{◌≡◌, ◌≢◌, ◌⊎◌, inl, inr, ℕ, zero, suc, ◌<◌, ◌≤◌, ◌^◌, Bool, true, false, nat_eq, bit_and, refl, sym, ◌∙◌, ap, arith, eqb-true, eq-eqb, cond, subst, ◌↔◌, pow-suc}
+use Rattle.std.proofs.Common.{◌≡◌, ◌≢◌, ◌⊎◌, inl, inr, ℕ, zero, suc, ◌<◌, ◌^◌, Bool, true, false, nat_eq, bit_and, refl, sym, ◌∙◌, ap, arith, eqb-true, eq-eqb, cond, subst, ◌↔◌, pow-suc}
 use Rattle.std.specs.Int.{bit_at}
 use Rattle.std.proofs.lemmas.Nat.Bits.{bit_at_and, bit_at-lt, same_from_bits, bit_at_above}
 use Rattle.cw_rights.specs.declared.capabilities.Rights.{Rights}
@@ -110,7 +110,3 @@ yes_is caps limit r e = let x = yes_on (hold_of caps limit.descriptor) limit.kee
 
 pub not_capable_is : (caps : Caps) (limit : Limit) (r : Allowed) → r ≡ allowed caps limit → (r ≡ NotCapable) ↔ KeepsMore caps limit
 not_capable_is caps limit r e = let x = not_capable_on (hold_of caps limit.descriptor) limit.keep.0 in (λ h. x.0 (sym e ∙ h), λ h. e ∙ x.1 h)
-
--- a number of k bits has no bit from k on
-pub no_bit : (n k i : ℕ) → n < 2 ^ k → k ≤ i → nat_eq (bit_at n i) 1 ≡ false
-no_bit n k i h l = rw (bit_at_above n k i h l) refl

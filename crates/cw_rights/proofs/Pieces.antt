@@ -12,10 +12,6 @@ pub nil_or_not : (w : Word) → (w ≡ []) ⊎ NotNil w
 nil_or_not [] = inl refl
 nil_or_not (c ∷ w) = inr tt
 
-pub not_nil_left : (u v : Word) → NotNil u → NotNil (u ++ v)
-not_nil_left [] v n = absurd n
-not_nil_left (c ∷ u) v n = tt
-
 pub not_nil_right : (u v : Word) → NotNil v → NotNil (u ++ v)
 not_nil_right [] v n = n
 not_nil_right (c ∷ u) v n = tt

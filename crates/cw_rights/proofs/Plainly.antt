@@ -23,9 +23,6 @@ pub below_found : (n : ℕ) (f : ℕ → Bool) → some_below n f ≡ true → (
 below_found zero f e = absurd (cc)
 below_found (suc n) f e = ⊎_elim (λ x. let r = below_found n f x in (r.0, omega (arith, r.1), r.2)) (λ x. (n, omega arith, x)) (or_cases (some_below n f) (f n) e)
 
-pub below_more : (n : ℕ) (f : ℕ → Bool) → some_below n f ≡ false → f n ≡ false → some_below (n + 1) f ≡ false
-below_more n f e d = rw (add-one n, e) d
-
 -- cuts
 take_cut : (u v : Word) → take (length u) (u ++ v) ≡ u
 take_cut [] v = refl
@@ -95,10 +92,6 @@ letter_sound : (l : Literal) (w : Word) → is_letter l w ≡ true → Matches (
 letter_sound l [] e = absurd (cc)
 letter_sound l (c ∷ []) e = (c, refl, e)
 letter_sound l (c ∷ (d ∷ w)) e = absurd (cc)
-
-not_nil_if : (w : Word) (a b : Bool) → NotNil w → if_nil w a b ≡ b
-not_nil_if [] a b n = absurd n
-not_nil_if (c ∷ w) a b n = refl
 
 plus_of_star : (r : Tree) (w : Word) → NotNil w → Matches (star r) w → Matches (plus r) w
 plus_of_star r w n h = by h.0 h.1

@@ -1,6 +1,6 @@
 -- Where the game and the table have no move, the board has none: the table is sound.
-use Rattle.std.proofs.Common.{◌≡◌, ◌⊎◌, ℕ, ◌+◌, List, [], ◌∷◌, map, Bool, true, false, cond, not, ◌||◌, Option, Some, None, is_some, option_map, option_and_then, refl, sym, ap}
-use Rattle.std.proofs.Common.{ap₂, ◌∙◌, subst, inl, inr}
+use Rattle.std.proofs.Common.{◌≡◌, ℕ, ◌+◌, List, [], ◌∷◌, map, Bool, true, false, cond, not, ◌||◌, Option, Some, None, is_some, option_map, option_and_then, refl, sym, ap}
+use Rattle.std.proofs.Common.{ap₂, ◌∙◌, subst}
 use Rattle.std.specs.Prelude.{slice_get}
 use Rattle.std.proofs.lemmas.Option.{none-some, same_Some}
 use Rattle.cw_core.specs.declared.ids.MemId.{MemId}
@@ -52,10 +52,6 @@ inner_calls _ e = refl
 
 inner_no_exit : (s : Spot) (f : ℕ) → is_inner s ≡ true → s ≡ Exit f → ⊥
 inner_no_exit s f inner e = let k : false ≡ true = sym (ap is_inner e) ∙ inner in cc
-
-not_on : (by : Move) → (by ≡ On → ⊥) ⊎ (by ≡ On)
-not_on On = inr refl
-not_on _ = inl (λ e. cc)
 
 -- What is known of each state of a run of a sound table.
 pub record Safe (p : Problem) (t : Table) (s : State) : Type 0 where

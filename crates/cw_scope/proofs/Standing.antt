@@ -1,5 +1,5 @@
 -- The call of a whole statement, by the operator and the parts of its expression.
-use Rattle.std.proofs.Common.{◌≡◌, ◌≢◌, ℕ, zero, suc, List, [], ◌∷◌, Some, None, length, refl, sym, ap, ap₂, ◌∙◌}
+use Rattle.std.proofs.Common.{◌≡◌, ◌≢◌, ℕ, List, [], ◌∷◌, Some, None, length, refl, sym, ap, ap₂, ◌∙◌}
 use Rattle.cw_syntax.specs.declared.program.Name.{Name}
 use Rattle.cw_syntax.specs.declared.program.Op.{Op}
 use Rattle.cw_syntax.specs.declared.program.Op.TheVariants.{Name as NameOp, Call as CallOp, Assign}
@@ -22,10 +22,7 @@ none_there _ ts a b h k = refl
 pub no_statement_call : (e : Expr) → ((f : Name) → (out-Expr e).op ≢ CallOp f) → ((n : ℕ) → (out-Expr e).op ≢ Assign n) → statement_call (tree_of e) ≡ None
 no_statement_call e h k = let o = out-Expr e in ap statement_call (node_is e) ∙ none_there o.op (trees_of o.parts.items) o.from o.to h k
 
--- an assignment by another operator, one whose first part is no name, and one whose second is no call
-pub by_operator : (n : ℕ) (ts : Trees) (a b : ℕ) → (n ≢ 0) → statement_call (Node (Assign n) ts a b) ≡ None
-by_operator zero ts a b h = absurd (h refl)
-by_operator (suc n) ts a b h = refl
+-- an assignment whose first part is no name, and one whose second is no call
 
 other_first : (op : Op) (qs : Trees) (c d : ℕ) (rest : Trees) (a b : ℕ) → (op ≢ NameOp) → statement_call (Node (Assign 0) (more (Node op qs c d) rest) a b) ≡ None
 other_first NameOp qs c d rest a b h = absurd (h refl)

@@ -19,7 +19,7 @@ use Rattle.cw_scope.specs.declared.faults.ScopeFault.TheVariants.{MainCalled}
 use Rattle.cw_scope.specs.Walks.{nodes, Placed, placed, placed_within, placed_arm, placed_all, body_of, every_statement, Whole, inner, declaration_trees, wholes_in, wholes_of, every_whole, every_node}
 use Rattle.cw_scope.specs.Names.{uses, every_name, every_label}
 use Rattle.cw_scope.specs.Rules.{at_if, is_main, main_call}
-use Rattle.cw_resolve.specs.Soonest.{sooner, soonest}
+use Rattle.cw_resolve.specs.Soonest.{soonest}
 use Rattle.cw_scope.specs.Faults.{no_main, two_functions, two_labels, arity, call_form, main_called, reserved_name, jump, limit, ◌or_else◌, scope_fault}
 use Rattle.cw_positions.specs.Opens.{EachStands, EachStandsIn, EachStandsArm, EachStandsAll, EachStandsFrom}
 use Rattle.cw_positions.proofs.Fitting.{ActFits}
@@ -169,9 +169,6 @@ module _ (source : List ℕ) where
   module _ (names : Names) (file : File) where
     abbrev c : Scene
     c = scene_of names source file
-
-    abbrev main : ℕ
-    main = number_or_other (function_names source file) (codes "main")
 
     -- an action doesn't call `main`
     abbrev pub ActLeaves : Action → Type 0

@@ -37,15 +37,6 @@ module _ {A : Type 0} (f : ℕ → A) where
           let within : i < length (tabled f n) = let h = tabled_length n in omega arith in
           get_or_append_left (tabled f n) (f n ∷ []) d i within ∙ rec below
 
--- the column at a place, among columns that are these lists
-pub column_at : (columns : List (Vec ℕ Global)) (lists : List (List ℕ)) (i : ℕ) (x : Vec ℕ Global) → all_items columns ≡ lists → i < length columns
-    → x ≡ get_or columns i x → x.items ≡ get_or lists i []
-column_at columns lists i x e l at = ap (λ (column : Vec ℕ Global). column.items) at
-    ∙ sym (get_or-map (λ (column : Vec ℕ Global). column.items) columns i x [] l) ∙ ap (λ y. get_or y i []) e
-
-pub columns_length : (columns : List (Vec ℕ Global)) (lists : List (List ℕ)) → all_items columns ≡ lists → length columns ≡ length lists
-columns_length columns lists e = sym (length-map columns (λ (column : Vec ℕ Global). column.items)) ∙ ap length e
-
 -- the column is there, the place is in it, and this stands there
 abbrev pub Looked : List (List ℕ) → ℕ → ℕ → ℕ → Type 0
 Looked all i j x = (i < length all) × (j < length (get_or all i [])) × (get_or (get_or all i []) j 0 ≡ x)

@@ -79,14 +79,6 @@ pub record Keeps (whole left : List (List ℕ)) (read : List (ℕ × ℕ)) (low 
   pub fits : (more : List (ℕ × ℕ)) → AreBacks low more → AreBacks 0 (read ++ more)
   pub only : (backs : List (ℕ × ℕ)) → AreBacks 0 backs → map back_word backs ≡ whole → Left whole left read low backs
 
-pub at_first : (whole : List (List ℕ)) → Keeps whole whole [] 0
-at_first whole = record {
-  bound = omega arith;
-  spelled = refl;
-  fits = λ more fits. fits;
-  only = λ backs fits e. record { more = backs; both = refl; fits = fits; spelled = sym e };
-}
-
 -- all are read
 pub at_end : (whole left : List (List ℕ)) (read : List (ℕ × ℕ)) (low : ℕ) → Keeps whole left read low → left ≡ [] → Reads (AreBacks 0) (map back_word) whole (Some read)
 at_end whole left read low keeps done = record {

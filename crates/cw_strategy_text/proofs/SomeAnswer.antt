@@ -51,14 +51,6 @@ nothing_left : {A : Type 0} (xs : List A) → (xs ≡ []) ⊎ (xs ≢ [])
 nothing_left [] = inl refl
 nothing_left (x ∷ xs) = inr (λ e. omega (arith, ap length e))
 
-first_byte : List ℕ → ℕ
-first_byte [] = 0
-first_byte (x ∷ xs) = x
-
-other_bytes : List ℕ → List ℕ
-other_bytes [] = []
-other_bytes (x ∷ xs) = xs
-
 -- ---- words
 
 abbrev Readable : {A W : Type 0} → (A → Type 0) → (A → W) → W → Type 0

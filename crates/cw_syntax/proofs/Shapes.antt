@@ -6,7 +6,7 @@ use Rattle.cw_syntax.specs.declared.program.Expr.TheBlock.{hidden-the_row-Expr-0
 use Rattle.cw_syntax.specs.declared.program.Stmt.{Stmt}
 use Rattle.cw_syntax.specs.declared.program.What.{What, Block', Row_of-Stmt, end_of-Stmt, more_of-Stmt, items-the_row-Stmt, items_hidden-the_row-Stmt-0}
 use Rattle.cw_syntax.specs.declared.program.What.TheVariants.{Block}
-use Rattle.cw_syntax.specs.Trees.{Node, more, tree_of, row_trees, trees_of, Stated, Block as BlockForm, cons, form_of, row_statements, statement_of, statements_of}
+use Rattle.cw_syntax.specs.Trees.{Node, more, tree_of, row_trees, trees_of, Stated, Block as BlockForm, cons, form_of, row_statements, statements_of}
 
 trees_are : (n : _) (row : Row_of-Expr n) → row_trees row ≡ trees_of (items-the_row-Expr n row)
 trees_are n end_of-Expr = refl
@@ -29,7 +29,3 @@ row_in _ = (_, end_of-Stmt)
 -- the form of a block
 pub block_form : (w : What) (v : Vec Stmt Global) → w ≡ Block v → form_of w ≡ BlockForm (statements_of v.items)
 block_form w v e = let q = row_in (Block v) in ap form_of e ∙ ap BlockForm (statements_are q.0 q.1 ∙ ap statements_of (items_hidden-the_row-Stmt-0 v))
-
--- a block whose statements were read as these
-pub block_of : (s : Stmt) (v : Vec Stmt Global) → s.what ≡ Block v → statement_of s ≡ Stated (BlockForm (statements_of v.items)) s.from s.to
-block_of s v e = ap (λ f. Stated f s.from s.to) (block_form s.what v e)

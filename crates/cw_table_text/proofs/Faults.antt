@@ -177,9 +177,6 @@ start_good format t e = record { fits = rw e.rows tt; ascend = e.ascend; few = r
 pub start_text : (format : ℕ) (t : Table) (text : List ℕ) → IsEmpty t → text ≡ text_of (row_lines format (rows_of t)) ++ text
 start_text format t text e = rw e.rows refl
 
-pub start_count : (t : Table) → IsEmpty t → 0 ≡ length (rows_of t)
-start_count t e = rw e.rows refl
-
 pub next_text : (format : ℕ) (text rest after : List ℕ) (t : Table) (row : Row) → text ≡ text_of (row_lines format (rows_of t)) ++ rest → IsRowLine format t rest row after
     → text ≡ text_of (row_lines format (rows_of (with_row t row))) ++ after
 next_text format text rest after t row is r =
@@ -224,14 +221,6 @@ pub no_row : (format n : ℕ) (t : Table) (rest a after : List ℕ) → n ≡ le
     → Reads (Fits format) (row_words format) a None → IsWrongRow format t rest (Line n)
 no_row format n t rest a after number cut free differs h =
     (number, λ l g. let same = the_line rest a after l free cut g in ((λ e. differs (sym same ∙ e)), λ row fits e. h.none row fits (e ∙ same)))
-
-pub wrong_rows : (format : ℕ) (text rest : List ℕ) (old new : Table) (fault : TextFault) → text ≡ text_of (row_lines format (rows_of new)) ++ rest → IsGood format new
-    → new.states ≡ old.states → new.start ≡ old.start
-    → IsWrongRow format new rest fault → RowsRead format text old new (Err fault)
-wrong_rows format text rest old new (Line n) is good states start h = (rest, record { is = is; good = good; states = states; start = start; wrong = h })
-wrong_rows format text rest old new (Order n) is good states start h = (rest, record { is = is; good = good; states = states; start = start; wrong = h })
-wrong_rows format text rest old new (Limit n) is good states start h = (rest, record { is = is; good = good; states = states; start = start; wrong = h })
-wrong_rows format text rest old new NoMemory is good states start h = tt
 
 -- ---- a fault among the rows
 

@@ -1,5 +1,5 @@
 -- The words of a row's line, and that no two rows have one line.
-use Rattle.std.proofs.Common.{◌≡◌, ◌≢◌, ℕ, zero, suc, ◌||◌, if◌then◌else◌, length-append, ◌^◌, ◌<◌, ◌≤◌, Bool, true, false, eqb, ltb, List, [], ◌∷◌, ◌++◌, length, get_or, drop}
+use Rattle.std.proofs.Common.{◌≡◌, ◌≢◌, ℕ, ◌||◌, if◌then◌else◌, length-append, ◌^◌, ◌<◌, ◌≤◌, Bool, true, false, eqb, ltb, List, [], ◌∷◌, ◌++◌, length, get_or, drop}
 use Rattle.std.proofs.Common.{refl, sym, ap, ◌∙◌, arith, append-nil}
 use Rattle.std.specs.Prelude.{Option, None, Some, codes}
 use Rattle.std.specs.Char.{is_ascii_digit}
@@ -40,11 +40,6 @@ no_mode n small high true e = let k : n ≡ 1 = small_number n 1 small (omega ar
 
 pub no_mode_taken : (n : ℕ) (old new : List (List ℕ)) → n < 2 ^ 8 → 1 < n → old ≡ decimal n ∷ new → Takes (λ (split : Bool). Unit {0}) mode old new None
 no_mode_taken n old new small high is = record { some = tt; none = λ split rest fits e. no_mode n small high split (same_first is e); left = sym (ap (λ (words : List (List ℕ)). drop 1 words) is) }
-
-pub mode_taken : (n : ℕ) (old new : List (List ℕ)) → n ≤ 1 → old ≡ decimal n ∷ new → Takes (λ (split : Bool). Unit {0}) mode old new (Some (eqb n 1))
-mode_taken zero old new low is = record { some = (tt, is); none = tt; left = tt }
-mode_taken (suc zero) old new low is = record { some = (tt, is); none = tt; left = tt }
-mode_taken (suc (suc n)) old new low is = absurd (omega (arith, low))
 
 fourth : List ℕ → ℕ
 fourth name = get_or name 3 0

@@ -214,14 +214,6 @@ row_sought format l = by_memory (memory_kind format l) (live_kind format l) (try
 
 -- ---- lines
 
-other_bytes : List ℕ → List ℕ
-other_bytes [] = []
-other_bytes (x ∷ xs) = xs
-
-first_byte : List ℕ → ℕ
-first_byte [] = 0
-first_byte (x ∷ xs) = x
-
 -- ---- rows
 
 record Found (format : ℕ) (text : List ℕ) (old : Table) : Type 0 where

@@ -1,5 +1,5 @@
 -- What is read so far, one word more and one line more.
-use Rattle.std.proofs.Common.{◌≡◌, ℕ, ◌+◌, ◌<◌, List, [], ◌∷◌, ◌++◌, length, take, drop, get_or, Bool, refl, sym, ap, ap₂, ◌∙◌, subst, arith, add-one}
+use Rattle.std.proofs.Common.{◌≡◌, ℕ, ◌+◌, ◌<◌, List, [], ◌∷◌, ◌++◌, length, take, drop, get_or, Bool, sym, ap, ap₂, ◌∙◌, subst, arith, add-one}
 use Rattle.std.specs.List.{flat_map}
 use Rattle.std.proofs.lemmas.List.{take_more, take_all, take-append-drop, map-append, append_assoc, append-nil, length-take-le}
 use Rattle.std.proofs.Math.Seq.{drop-cons}
@@ -12,17 +12,11 @@ use Rattle.cw_text.specs.TapeLines.{Adds, HasOther, IsLineFault}
 use Rattle.cw_text.specs.declared.fault.TextFault.{TextFault}
 use Rattle.cw_text.specs.declared.fault.TextFault.TheVariants as fault
 
-pub no_names : (play : Bool) → AreNames play [] []
-no_names play = record { may = All-nil (IsIn play); named = refl }
-
 both_names : (play : Bool) (a b : List (List ℕ)) (x y : List Move) → AreNames play a x → AreNames play b y → AreNames play (a ++ b) (x ++ y)
 both_names play a b x y p q = record {
   may = All-append (IsIn play) x y p.may q.may;
   named = ap₂ (λ (m n : List (List ℕ)). m ++ n) p.named q.named ∙ sym (map-append move_name x y);
 }
-
-pub adds_none : (play : Bool) (moves : List Move) → Adds play [] moves moves
-adds_none play moves = record { added = []; added_are = no_names play; behind = sym (append-nil moves) }
 
 one_name : (play : Bool) (word : List ℕ) (by : Move) → IsIn play by → move_name by ≡ word → AreNames play (word ∷ []) (by ∷ [])
 one_name play word by may e = record { may = All-cons (IsIn play) by [] may (All-nil (IsIn play)); named = ap (λ (w : List ℕ). w ∷ []) (sym e) }

@@ -1,10 +1,10 @@
 -- A run with one step more at its end.
-use Rattle.std.proofs.Common.{◌≡◌, List, [], ◌∷◌, ◌++◌, map, refl, sym, ap, ◌∙◌, append_assoc, append-nil}
+use Rattle.std.proofs.Common.{◌≡◌, List, [], ◌∷◌, ◌++◌, refl, sym, ap, ◌∙◌, append_assoc, append-nil}
 use Rattle.cw_certs.specs.Tables.{Table}
 use Rattle.cw_model.specs.Boards.{Problem, Board, turn_of}
 use Rattle.cw_model.specs.Runs.{State, WovenStep}
 use Rattle.cw_trace.specs.Traces.{Names, Taken, step_lines, lines_from, board_after}
-use Rattle.cw_trace.specs.Steps.{Step, Follows, state_after, word_by, words_of, taken_of}
+use Rattle.cw_trace.specs.Steps.{Step, Follows, state_after, word_by, words_of}
 
 pub lines_grown : (names : Names) (p : Problem) (b : Board) (before : List Taken) (last : Taken)
     → lines_from names p b (before ++ last ∷ []) ≡ lines_from names p b before ++ step_lines names p (board_after b before) last.by last.next
@@ -32,12 +32,3 @@ words_grown s [] last = append-nil (word_by (turn_of s.board.phase) last.by)
 words_grown s (one ∷ before) last =
     ap (λ l. word_by (turn_of s.board.phase) one.by ++ l) (words_grown one.next before last)
     ∙ sym (append_assoc (word_by (turn_of s.board.phase) one.by) (words_of one.next before) (word_by (turn_of (state_after one.next before).board.phase) last.by))
-
--- the boards of a run are those of its steps
-pub board_of_run : (s : State) (steps : List Step) → board_after s.board (map taken_of steps) ≡ (state_after s steps).board
-board_of_run s [] = refl
-board_of_run s (one ∷ later) = board_of_run one.next later
-
-pub taken_grown : (before : List Step) (last : Step) → map taken_of (before ++ last ∷ []) ≡ map taken_of before ++ taken_of last ∷ []
-taken_grown [] last = refl
-taken_grown (one ∷ before) last = ap (λ l. taken_of one ∷ l) (taken_grown before last)

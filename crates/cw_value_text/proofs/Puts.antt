@@ -1,5 +1,5 @@
 -- Lines as they are put.
-use Rattle.std.proofs.Common.{◌≡◌, ℕ, ◌+◌, ◌<◌, ◌≤◌, List, [], ◌∷◌, ◌++◌, length, map, take, get_or, refl, sym, ap, ◌∙◌, arith, append_assoc, append-nil}
+use Rattle.std.proofs.Common.{◌≡◌, ℕ, ◌+◌, ◌<◌, ◌≤◌, List, [], ◌∷◌, ◌++◌, length, map, take, get_or, refl, sym, ap, ◌∙◌, append_assoc, append-nil}
 use Rattle.std.specs.Prelude.{codes}
 use Rattle.std.specs.Fmt.{signed_decimal}
 use Rattle.std.specs.List.{flat_map}
@@ -47,7 +47,3 @@ pub args_put : (source : List ℕ) (args : List Arg) (first : Arg) (others : Lis
 args_put source args first others t0 t1 t2 is h1 h2 =
     h2 ∙ ap (λ t. t ++ flat_map (behind source) others) h1 ∙ append_assoc t0 (arg_text source first) (flat_map (behind source) others)
     ∙ ap (λ t. t0 ++ t) (sym (args_first source first others) ∙ ap (args_text source) (sym is))
-
-pub no_args : (source : List ℕ) (args : List Arg) (t0 : List ℕ) → length args ≡ 0 → t0 ≡ t0 ++ args_text source args
-no_args source [] t0 e = sym (append-nil t0)
-no_args source (a ∷ args) t0 e = absurd (omega (arith, e))

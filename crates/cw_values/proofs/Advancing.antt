@@ -90,9 +90,7 @@ module _ (policy : PlainPolicy) (run : Run) (is_run : IsRunOf policy run) (old :
     there : (o : Option Stand) × CallLeads (all_parts policy s) here.returns number front.what.next o
     there = call_there policy s here waiting (machine_of old) g h front at number taker (row_is (row.Calls at number taker) er)
 
-    -- a call has a successor, and its callee is there
-    pub has_back : first node.next ≡ None → ⊥
-    has_back e = absurd (none-some there.1.back (sym e ∙ (ap (λ (n : Node). first n.next) (sym (node_is node en)) ∙ there.1.behind)))
+    -- the callee of a call is there
 
     pub has_callee : slice_get run.graph.now.parts.items number ≡ None → ⊥
     has_callee e = absurd (none-some there.1.part (sym e ∙ (ap (λ (ps : List Part). slice_get ps number) is_run.graph.parts ∙ there.1.callee)))

@@ -234,9 +234,6 @@ module _ (Means : Meaning) (Ex : ℕ → List Ret → Type 0) (g : Game) (t : Ta
     abbrev Advances : Option (List ℕ) → Board → Type 0
     Advances o b = (ms : List ℕ) × (o ≡ Some ms) × Kept b ms
 
-    top_some : (f : ℕ → Option ℕ) (m k : ℕ) (ms : List ℕ) → f m ≡ Some k → top_by f (m ∷ ms) ≡ Some (k ∷ ms)
-    top_some f m k ms e = ap (option_map (λ new. new ∷ ms)) e
-
     -- a step within the top frame
     goes_on : (fn e : ℕ) (rets : List Ret) (raw : Frame) (frames next : List Frame) (kept : List (Option Caps)) (caps : Caps) (word : Word) (m : ℕ) (ms : List ℕ) (p q : ℕ)
         → Some (settle raw ∷ frames) ≡ Some next → At g.spots g.policy (g.exit fn) raw p → Means q word caps → (is_live t p m ≡ true) × IsMeant m q e → Ex e rets

@@ -1,10 +1,9 @@
 -- The conditions of the live rows, from a row on.
-use Rattle.std.proofs.Common.{◌≡◌, ℕ, zero, suc, ◌+◌, ◌<◌, ◌≤◌, List, [], ◌∷◌, map, length, drop, get_or, true, false, cond, Option, Some, None, option_map, refl, sym, ap, ap₂, ◌∙◌, subst, arith, add-one}
+use Rattle.std.proofs.Common.{◌≡◌, ℕ, zero, suc, ◌+◌, ◌<◌, List, [], ◌∷◌, map, length, drop, get_or, true, false, cond, Option, Some, None, option_map, refl, sym, ap, ap₂, ◌∙◌, subst, arith, add-one}
 use Rattle.std.specs.Option.{option_or}
 use Rattle.std.specs.Prelude.{slice_get}
 use Rattle.std.specs.List.{All, enumerate_from, list_all}
 use Rattle.std.proofs.Math.Seq.{drop-cons}
-use Rattle.std.proofs.lemmas.List.{drop_all}
 use Rattle.std.proofs.lemmas.Bool.{ltb-true}
 use Rattle.cw_core.specs.declared.ids.PosId.{PosId}
 use Rattle.cw_core.specs.declared.ids.MemId.{MemId}
@@ -43,9 +42,6 @@ module _ (g : Game) (t : Table) where
   passed rows i d o same l e f =
       step i d (subst (λ xs. i < length xs) same l)
       ∙ ap (λ x. option_or (option_map (fault_at InLive i) x) (fails_from (i + 1))) (ap (λ xs. fails_at (get_or xs i d)) (sym same) ∙ sym e ∙ f)
-
-  pub none_left : (i : ℕ) → length t.live ≤ i → fails_from i ≡ None
-  none_left i l = ap (λ rows. first_failing (live_rows g t (enumerate_from i rows))) (drop_all i t.live l)
 
   pub all_positions : list_all (is_live_row g t) t.live ≡ true → All (λ r. r.0.0 < length g.spots) t.live
   all_positions h = among t.live h

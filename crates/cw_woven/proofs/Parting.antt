@@ -1,6 +1,6 @@
 -- One part more.
-use Rattle.std.proofs.Common.{◌≡◌, ◌≢◌, ℕ, ◌+◌, ◌<◌, ◌≤◌, List, [], ◌∷◌, ◌++◌, Option, None, Some, length, map, refl, sym, ap, subst, ◌∙◌, arith, inl, inr, Bor, length-append}
-use Rattle.std.specs.Prelude.{codes, IfSome, IfNone, option_map}
+use Rattle.std.proofs.Common.{◌≡◌, ◌≢◌, ℕ, ◌+◌, ◌<◌, List, [], ◌∷◌, ◌++◌, Option, None, Some, length, map, refl, sym, ap, subst, ◌∙◌, arith, inl, inr, Bor, length-append}
+use Rattle.std.specs.Prelude.{IfSome, IfNone, option_map}
 use Rattle.std.proofs.lemmas.List.{append_cancel_left}
 use Rattle.std.specs.List.{AllByRecursion}
 use Rattle.cw_emit.specs.Cut.{opening, closing}
@@ -9,7 +9,7 @@ use Rattle.cw_woven.specs.declared.parts.Piece.{Piece as Held}
 use Rattle.cw_woven.specs.Held.{piece_of, IsPrologue}
 use Rattle.cw_woven.specs.Parts.{Piece, IsCutAt, AreParts}
 use Rattle.cw_woven.specs.Woven.{IsSpelling}
-use Rattle.cw_woven.specs.Reading.{the_prologue, BeginsParted, IsMark, IsNoMark}
+use Rattle.cw_woven.specs.Reading.{the_prologue, BeginsParted, IsMark}
 use Rattle.cw_woven.proofs.Finding.{closes_behind_lf, none_behind_lf}
 
 parts_on : (text : List ℕ) (ps : List Piece) (left : List ℕ) (p : Piece) (opened after : List ℕ) → AreParts text ps left → IsCutAt opening left p.gap opened → IsCutAt closing opened p.inner after → AreParts text (ps ++ p ∷ []) after
@@ -36,9 +36,6 @@ begins_on text lines ps qs left p opened after b e o c s =
 cut_length : (word text front rest : List ℕ) → IsCutAt word text front rest → length text ≡ length front + (length word + length rest)
 cut_length word text front rest c = ap length c.cut ∙ length-append front (word ++ rest) ∙ ap (λ (z : ℕ). length front + z) (length-append word rest)
 
-pub opened_within : (text gap opened : List ℕ) → IsCutAt opening text gap opened → length opened + 7 ≤ length text
-opened_within text gap opened c = let e = cut_length opening text gap opened c in omega (arith, e)
-
 pub after_within : (text gap opened inner after : List ℕ) → IsCutAt opening text gap opened → IsCutAt closing opened inner after → length after < length text
 after_within text gap opened inner after o c = let e = cut_length opening text gap opened o in let f = cut_length closing opened inner after c in omega (arith, e, f)
 
@@ -47,24 +44,12 @@ after_within text gap opened inner after o c = let e = cut_length opening text g
 pub prologue_parts : (text opened lines after : List ℕ) → text ≡ opening ++ (10 ∷ opened) → IsCutAt closing opened lines after → AreParts text (the_prologue lines ∷ []) after
 prologue_parts text opened lines after e c = (10 ∷ opened, after, record { cut = e; first = λ at lt. absurd (omega (arith, lt)) }, closes_behind_lf opened lines after c, refl)
 
-pub prologue_short : (text lines after : List ℕ) → AreParts text (the_prologue lines ∷ []) after → length after ≤ length text
-prologue_short text lines after a = let w = after_within text [] a.0 (codes "\n" ++ lines) a.1 a.2 a.3 in let e : length a.1 ≡ length after = ap length a.4 in omega (arith, w, e)
-
-pub no_beginning : (text : List ℕ) → ((rest : List ℕ) → text ≢ opening ++ (10 ∷ rest)) → IsMark text 0
-no_beginning text none = inl (refl, λ b. none b.0 b.1)
-
 pub no_closing : (text opened : List ℕ) → text ≡ opening ++ (10 ∷ opened) → HasNone closing opened → IsMark text 0
 no_closing text opened e none = inr (inl (refl, opened, e, none_behind_lf opened none))
 
 pub prologue_answer : (text opened : List ℕ) (r : Option (Bor (List ℕ) × Bor (List ℕ))) → text ≡ opening ++ (10 ∷ opened) → IfSome r (λ p. IsCutAt closing opened p.0.now p.1.now) → IfNone r (HasNone closing opened) → IsPrologue text (option_map (λ p. (p.0.now, p.1.now)) r)
 prologue_answer text opened None e some none = no_closing text opened e none
 prologue_answer text opened (Some p) e some none = prologue_parts text opened p.0.now p.1.now e some
-
-pub is_mark : (text lines : List ℕ) (marks : List Piece) (left gap opened : List ℕ) (at : ℕ) → BeginsParted text lines marks left → IsCutAt opening left gap opened → IsNoMark opened → at + (length opened + 7) ≡ length text → IsMark text at
-is_mark text lines marks left gap opened at b o none e = inr (inr (lines, marks, left, gap, opened, b, o, none, whole))
-  where
-    whole : at + length (opening ++ opened) ≡ length text
-    whole = let f : length (opening ++ opened) ≡ 7 + length opened = length-append opening opened in omega (arith, e, f)
 
 -- ---- a front and a back
 

@@ -25,7 +25,7 @@ use Rattle.cw_run.proofs.Runs.{safe_of}
 use Rattle.cw_run.proofs.Looping.{safe}
 use Rattle.cw_value.specs.Machines.{Source}
 use Rattle.cw_value.specs.Runs.{IsFree}
-use Rattle.cw_woven_values.specs.Standing.{IsWoven, IsCalm, IsAsked, Comes}
+use Rattle.cw_woven_values.specs.Standing.{IsWoven, IsAsked, Comes}
 use Rattle.cw_woven_values.proofs.Found.{g, p, names, held, is_game, caps_held}
 
 -- the visit that a spot is, in a phase
@@ -45,18 +45,6 @@ visit_seen _ _ _ j i a e sees_close = cc
 visit_seen _ _ _ j i a e sees_call = cc
 visit_seen _ _ _ j i a e sees_split = cc
 visit_seen _ _ _ j i a e sees_end = cc
-
-pub calm_seen : (frame : Frame) (phase : Phase) (spot : Spot) → weavers_in (Some spot) ≡ false → Sees frame phase spot → IsCalm phase → IsFree phase
-calm_seen frame _ _ e (sees_visit s) c = cc
-calm_seen frame _ _ e (sees_asked s) c = absurd c
-calm_seen _ _ _ e (sees_step s) c = tt
-calm_seen _ _ _ e (sees_branch s) c = tt
-calm_seen _ _ _ e sees_label c = tt
-calm_seen _ _ _ e sees_open c = tt
-calm_seen _ _ _ e sees_close c = tt
-calm_seen _ _ _ e sees_call c = tt
-calm_seen _ _ _ e sees_split c = tt
-calm_seen _ _ _ e sees_end c = tt
 
 pub free_seen : (frame : Frame) (phase : Phase) (spot : Spot) → Sees frame phase spot → IsFree phase → weavers_in (Some spot) ≡ false
 free_seen frame _ _ (sees_visit s) f = absurd f

@@ -7,11 +7,9 @@ use Rattle.cw_certs.specs.declared.moves.Move.TheVariants.{Skip, Try, Stop as St
 use Rattle.cw_certs.specs.Tables.{Table, try_at}
 use Rattle.cw_model.specs.Boards.{Phase, Visit, Asked, Refused as RefusedPhase, Free, FreeSplit, Over, moved}
 use Rattle.cw_model.specs.Runs.{State, WovenStep, stays_where, stays_unless}
-use Rattle.cw_game.specs.declared.spots.Spot.{Spot}
 use Rattle.cw_game.specs.declared.spots.Spot.TheVariants.{Visit as VisitSpot}
 use Rattle.cw_product.specs.Product.{Held}
 use Rattle.cw_run.specs.Walks.{Here, Wait, at_pos}
-use Rattle.cw_run.proofs.Waits.{not_visit}
 use Rattle.cw_run.proofs.Runs.{visited}
 use Rattle.cw_value.specs.declared.values.Stop.TheVariants.{Refused}
 use Rattle.cw_value.specs.Machines.{Source, Machine}
@@ -20,10 +18,10 @@ use Rattle.cw_agree.proofs.Paired.{Paired, Stays, weave_stays, stays_paired, wea
 use Rattle.cw_agree.proofs.Invariants.{Inv, invariant}
 use Rattle.cw_woven_values.specs.declared.visiting.Visited.{Visited}
 use Rattle.cw_woven_values.specs.declared.visiting.Visited.TheVariants as visit
-use Rattle.cw_woven_values.specs.Standing.{IsWoven, IsCalm, IsAsked, to_come, problem, policy, EndsAlike, Weaves}
+use Rattle.cw_woven_values.specs.Standing.{IsWoven, IsAsked, to_come, problem, policy, EndsAlike, Weaves}
 use Rattle.cw_woven_values.specs.Visiting.{Goes, Visits}
 use Rattle.cw_woven_values.proofs.Found.{g, p, names, held, is_game, caps_held, Moved, moved_by}
-use Rattle.cw_woven_values.proofs.Seeing.{visit_seen, calm_seen, seen, sees_at, comes_on}
+use Rattle.cw_woven_values.proofs.Seeing.{visit_seen, seen, sees_at, comes_on}
 use Rattle.cw_woven_values.proofs.Passing.{skipped, tried}
 
 -- what is asked isn't the program's step
@@ -132,13 +130,6 @@ module _ (h : Held) (s : Source) (t : Table) (w : IsWoven h s t) (plain : Going)
             ends = weaver_ends i a Try move.next v.0 v.1 (λ e. absurd (cc)) move.step;
           },
         )
-
-    -- where no visit stands the program's step is due
-    pub free_here : (spot : Spot) → slice_get (g h s t w).spots here.pos ≡ Some spot → ((j i : ℕ) (a : Primitive) → spot ≡ VisitSpot j i a → ⊥) → IsCalm run.woven.board.phase
-        → IsFree run.woven.board.phase
-    free_here spot es other calm =
-        let k = seen h s t w run.woven here waits on.sits in
-        calm_seen k.frame run.woven.board.phase spot (not_visit spot other) (sees_at h s t w run.woven here k spot es) calm
 
     -- what an answer leaves is what the visit leaves
     pub then_asked : (to : Here) (now : Going) → Asking to now → (left2 : List Move) (made2 : ℕ) (v : Visited) → Visits h s t w plain waits left2 made2 now v
