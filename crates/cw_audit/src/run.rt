@@ -120,7 +120,7 @@ fn audited(alloc: Global, game: &Game) -> Result<AuditTable, AuditFault>
     ensures verdict { IfOk result (λ t. (p : Problem) → IsGameOf p (game_of game.now) → IsVerdict p t.distance) }
     ensures fault { IfErr result (λ fault. IsFaultOf (game_of game.now) fault) }
 {
-    game.is_closed();
+    game.fact_is_closed();
     let search = searched(alloc, game)?;
     finish(alloc, game, &search)
 }

@@ -104,7 +104,7 @@ pub fn check_audit(game: &Game, table: &AuditTable) -> Result<(), BadGroup>
     ensures fault { IfErr result (λ bad. audit_fault (game_of game.now) (length game.now.graph.parts.items) (audit_of table.now) ≡ Some (fault_of bad)) }
     ensures holds { IfOk result (λ _. Bounds (game_of game.now) (audit_of table.now)) }
 {
-    game.is_closed();
+    game.fact_is_closed();
     if table.states != game.states() {
         return Err(BadGroup {
             group: 0,

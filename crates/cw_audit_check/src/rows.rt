@@ -195,7 +195,7 @@ pub(crate) fn row_fault(game: &Game, table: &AuditTable, group: &Group, row: Row
     ensures { let g = game_of game.now in
         result ≡ first_failing (row_conditions g (audit_of table.now) (group_of group.now) (row_of row) (slice_get g.spots row.0.0)) }
 {
-    game.is_closed();
+    game.fact_is_closed();
     if game.bad(row.0, row.1) {
         return Some(3);
     }

@@ -126,7 +126,7 @@ fn step(game: &Game, walk: &mut Walk, by: Move) -> Result<bool, NoMemory>
     ensures went { IfOk result (λ yes. Went (game_of game.now) (config_of walk.old) by (config_of walk.new) yes) }
     ensures walk { OnOk result (IsWalk (game_of game.now) walk.new) }
 {
-    game.is_closed();
+    game.fact_is_closed();
     if !is_step(by) {
         return Ok(false);
     }

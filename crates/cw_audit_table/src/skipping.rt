@@ -26,7 +26,7 @@ pub fn skipped(game: &Game, pos: PosId) -> PosId
     ensures is { result.0 ≡ skipped (game_of game.now) pos.0 }
     ensures within { IsPosition (game_of game.now) result.0 }
 {
-    game.is_closed();
+    game.fact_is_closed();
     let mut at = pos;
     while let Spot::Visit(_, _, _) = game.spot(at) {
         at = PosId(at.0 + 2);

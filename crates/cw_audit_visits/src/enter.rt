@@ -111,7 +111,7 @@ pub fn begin(alloc: Global, game: &Game) -> Result<Search, NoMemory>
     requires fair { IsFairGame game.now }
     ensures kept { IfOk result (λ s. IsKept (game_of game.now) (functions_of game.now) s) }
 {
-    game.is_closed();
+    game.fact_is_closed();
     let mut search = Search {
         store: Store::make(alloc),
         frontier: Frontier::make(alloc),

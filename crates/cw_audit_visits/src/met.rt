@@ -48,7 +48,7 @@ pub(crate) fn call_at(game: &Game, place: Place) -> Option<(u16, PosId)>
     ensures some { IfSome result (λ (callee, back). IsCallOf game.now place callee back.0) }
     ensures none { IfNone result (IsNoCall game.now place) }
 {
-    game.is_closed();
+    game.fact_is_closed();
     match game.turn(place.pos) {
         Turn::Call { callee, back, .. } => Some((callee, back)),
         Turn::Weaver | Turn::Environment | Turn::Exit { .. } => None,

@@ -55,7 +55,7 @@ fn audited<O: Sink>(alloc: Global, game: &Game, out: &mut O) -> Result<Text<O>, 
         → Answers whole source (IsAuditedBy (game_of game.now) (length game.now.graph.parts.items)) result }
     ensures puts { StartsText O.taken O.faults O.refused out.old out.new result }
 {
-    game.is_closed();
+    game.fact_is_closed();
     match audit(alloc, game) {
         Ok(table) => Ok(told(&table, out)),
         Err(AuditFault::TooManyRows) => Err(Stop::Over(Quantity::Rows)),

@@ -63,7 +63,7 @@ fn judged<O: Sink>(
         → Answers whole source (IsReauditedBy (game_of game.now) (length game.now.graph.parts.items) (audit_of audit.now)) result }
     ensures puts { StartsText O.taken O.faults O.refused out.old out.new result }
 {
-    game.is_closed();
+    game.fact_is_closed();
     match first_fault(alloc, game, audit)? {
         None => Ok(tell(Reply::Yes, b"yes\n", out)),
         Some(bad) => Ok(tell_group(&bad, out)),

@@ -349,9 +349,9 @@ fn sets_are_sets(rt: HostRuntime) {
     assert!(rt; rest.contains(StateId(63)) && !rest.contains(StateId(64)));
     let again = rest.complement_in(1024);
     assert!(rt; again == set);
-    set.members_are_below_1024();
-    set.number_is_sum();
-    set.same_members(&again);
+    set.fact_members_are_below_1024();
+    set.fact_number_is_sum();
+    set.fact_same_members(&again);
 }
 
 /// Asserts the name of each of these quantities.

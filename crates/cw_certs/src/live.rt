@@ -22,7 +22,7 @@ impl Keyed for (PosId, MemId) {
 pub fn is_live(cert: &WeaverCert, pos: PosId, mem: MemId) -> bool
     ensures { result ≡ is_some (find (λ r. nat_eq r.0.0 pos.0 && nat_eq r.1.0 mem.0) cert.now.live) }
 {
-    cert.lists_ascend();
+    cert.fact_lists_ascend();
     row_at(cert.live(), &(pos, mem)).is_some()
 }
 
@@ -30,7 +30,7 @@ pub fn is_live(cert: &WeaverCert, pos: PosId, mem: MemId) -> bool
 pub fn live_at(cert: &WeaverCert, pos: PosId) -> &[(PosId, MemId)]
     ensures { result.now ≡ filter (λ r. nat_eq r.0.0 pos.0) cert.now.live }
 {
-    cert.lists_ascend();
+    cert.fact_lists_ascend();
     between(cert.live(), pos)
 }
 

@@ -61,7 +61,7 @@ impl Keyed for BackRow {
 pub fn try_at(cert: &WeaverCert, seam: SeamId, stage: u8, mem: MemId) -> Option<TryRow>
     ensures { result ≡ try_at cert.now seam.0 stage mem.0 }
 {
-    cert.lists_ascend();
+    cert.fact_lists_ascend();
     row_at(cert.tries(), &(seam, stage, mem))
 }
 
@@ -69,7 +69,7 @@ pub fn try_at(cert: &WeaverCert, seam: SeamId, stage: u8, mem: MemId) -> Option<
 pub fn after_label(cert: &WeaverCert, seam: SeamId, mem: MemId) -> Option<AtRow>
     ensures { result ≡ after_at cert.now.ats seam.0 mem.0 }
 {
-    cert.lists_ascend();
+    cert.fact_lists_ascend();
     row_at(cert.ats(), &(seam, mem))
 }
 
@@ -77,7 +77,7 @@ pub fn after_label(cert: &WeaverCert, seam: SeamId, mem: MemId) -> Option<AtRow>
 pub fn open_at(cert: &WeaverCert, seam: SeamId, mem: MemId) -> Option<OpenRow>
     ensures { result ≡ open_at cert.now seam.0 mem.0 }
 {
-    cert.lists_ascend();
+    cert.fact_lists_ascend();
     row_at(cert.opened(), &(seam, mem))
 }
 
@@ -85,7 +85,7 @@ pub fn open_at(cert: &WeaverCert, seam: SeamId, mem: MemId) -> Option<OpenRow>
 pub fn after_close(cert: &WeaverCert, seam: SeamId, mem: MemId) -> Option<AtRow>
     ensures { result ≡ after_at cert.now.closed seam.0 mem.0 }
 {
-    cert.lists_ascend();
+    cert.fact_lists_ascend();
     row_at(cert.closed(), &(seam, mem))
 }
 
@@ -93,7 +93,7 @@ pub fn after_close(cert: &WeaverCert, seam: SeamId, mem: MemId) -> Option<AtRow>
 pub fn into_at(cert: &WeaverCert, seam: SeamId, split: bool, mem: MemId) -> Option<IntoRow>
     ensures { result ≡ into_at cert.now seam.0 split mem.0 }
 {
-    cert.lists_ascend();
+    cert.fact_lists_ascend();
     row_at(cert.into_rows(), &(seam, split, mem))
 }
 
@@ -107,6 +107,6 @@ pub fn back_at(
 ) -> Option<BackRow>
     ensures { result ≡ back_at cert.now seam.0 split mem.0 exit.0 }
 {
-    cert.lists_ascend();
+    cert.fact_lists_ascend();
     row_at(cert.back_rows(), &(seam, split, mem, exit))
 }

@@ -166,7 +166,7 @@ impl WeaverCert {
     }
 
     /// Each list ascends strictly by its key, whichever way the table was made.
-    pub fn lists_ascend(&self)
+    pub fn fact_lists_ascend(&self)
         ensures ascend { Ascends self.now }
     {
         let _ = &self.states;

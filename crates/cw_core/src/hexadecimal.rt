@@ -103,7 +103,7 @@ fn set_of(digits: &[u8]) -> Option<StateSet>
         return None;
     }
     let set = sum_of(digits);
-    set.members_are_below_1024();
+    set.fact_members_are_below_1024();
     Some(set)
 }
 

@@ -22,7 +22,7 @@ pub fn set_is_read_back(set: &StateSet, before: &[u8], after: &[u8])
     requires stops { take_while is_hexadecimal_digit after.now ≡ [] }
     ensures stands { IsSetAt (before.now ++ (hexadecimal set.now ++ after.now)) (length before.now) set.now }
 {
-    set.members_are_below_1024();
+    set.fact_members_are_below_1024();
 }
 
 /// A set that was put as format 2 spells it stands in the text to be read, whatever is before it, where no
@@ -31,7 +31,7 @@ pub fn spelling_is_read_back(set: &StateSet, before: &[u8], after: &[u8])
     requires stops { take_while is_spelling_byte after.now ≡ [] }
     ensures stands { IsSpellingAt (before.now ++ (set_spelling set.now ++ after.now)) (length before.now) set.now }
 {
-    set.members_are_below_1024();
+    set.fact_members_are_below_1024();
 }
 
 /// One set at most is spelled at a place.
@@ -50,5 +50,5 @@ pub fn runs_are_maximal(set: &StateSet)
     ensures ascend { Ascend 0 (runs_of (members set.now)) }
     ensures members { (s : ℕ) → IsTrue (has set.now s) ↔ IsIn s (runs_of (members set.now)) }
 {
-    set.members_are_below_1024();
+    set.fact_members_are_below_1024();
 }

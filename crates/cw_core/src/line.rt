@@ -82,7 +82,7 @@ impl Line {
         requires room { length self.old + 258 ≤ 4096 }
         ensures text { self.new ≡ self.old ++ hexadecimal set.now }
     {
-        set.members_are_below_1024();
+        set.fact_members_are_below_1024();
         self.put_fitting_mask(set);
     }
 

@@ -32,7 +32,7 @@ impl Line {
     {
         let mut runs = Line::new();
         runs.put_runs(set);
-        set.members_are_below_1024();
+        set.fact_members_are_below_1024();
         if is_shorter(set, runs.bytes()) {
             self.put_text(runs.bytes());
         } else {
@@ -45,7 +45,7 @@ impl Line {
         requires empty { self.old ≡ [] }
         ensures text { self.new ≡ ranges set.now }
     {
-        set.members_are_below_1024();
+        set.fact_members_are_below_1024();
         let bound = set.bit_count() as u16;
         let mut at: u16 = 0;
         'numbers: while at < bound {
@@ -109,7 +109,7 @@ fn greatest_of_run(set: &StateSet, least: u16) -> u16
     ensures members { (s : ℕ) → least ≤ s → s ≤ result → has set.now s ≡ true }
     ensures end { has set.now (result + 1) ≡ false }
 {
-    set.members_are_below_1024();
+    set.fact_members_are_below_1024();
     let mut greatest = least;
     'more: while greatest < 1023 && set.contains(StateId(greatest + 1)) {
         greatest += 1;

@@ -26,7 +26,7 @@ pub fn read_ranges(text: &[u8], at: usize) -> Option<(StateSet, usize)>
 {
     let spelling = leading_spelling(text_from(text, at));
     let set = set_of(spelling)?;
-    set.members_are_below_1024();
+    set.fact_members_are_below_1024();
     if !is_spelled(&set, spelling) {
         return None;
     }

@@ -222,21 +222,21 @@ impl StateSet {
     }
 
     /// A law: the members are below 1,024.
-    pub fn members_are_below_1024(&self)
+    pub fn fact_members_are_below_1024(&self)
         ensures below { IsBelow 1024 self.now }
     {
         let _ = &self.words;
     }
 
     /// A law: the number that a contract sees is the sum of 2 to the power s over the members s.
-    pub fn number_is_sum(&self)
+    pub fn fact_number_is_sum(&self)
         ensures sum { self.now ≡ sum_of_powers 1024 self.now }
     {
-        self.members_are_below_1024();
+        self.fact_members_are_below_1024();
     }
 
     /// A law: sets with the same members are the same number, and the other way round.
-    pub fn same_members(&self, other: &StateSet)
+    pub fn fact_same_members(&self, other: &StateSet)
         ensures same { ((s : ℕ) → has self.now s ≡ has other.now s) ↔ (self.now ≡ other.now) }
     {}
 }

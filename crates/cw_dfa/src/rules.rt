@@ -138,7 +138,7 @@ pub fn violated(rules: &Rules, set: u64) -> Option<u8>
 
 /// What is violated after the letters of a word, from the start, is the least rule that it breaks.
 #[tactic(auto, using(crate::proofs::Whole::judged))]
-pub fn words_are_judged(rules: &Rules)
+pub fn fact_words_are_judged(rules: &Rules)
     ensures { (w : Word) →
         IsVerdict (rules_of rules.now) w (verdict (rules_of rules.now) 0 1 (walk (rules_of rules.now) 1 w)) }
 {}

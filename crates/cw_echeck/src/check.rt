@@ -135,7 +135,7 @@ fn call_fault(
     requires exits { AreExits (game_of game.now).states.count backs.now }
     ensures { result ≡ calls_in (game_of game.now) (strategy_of cert.now) (row_of row.now) callee (backs_of backs.now) }
 {
-    game.is_closed();
+    game.fact_is_closed();
     let Turn::Call {
         callee: function,
         split,

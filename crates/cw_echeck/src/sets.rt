@@ -16,7 +16,7 @@ const MEMBERS: u16 = PRODUCT_STATES_IN_FORMAT_2 as u16;
 pub(crate) fn has_state(set: &StateSet, state: StateId) -> bool
     ensures { result ≡ has set.now state.0 }
 {
-    set.members_are_below_1024();
+    set.fact_members_are_below_1024();
     state.0 < MEMBERS && set.contains(state)
 }
 
@@ -24,7 +24,7 @@ pub(crate) fn has_state(set: &StateSet, state: StateId) -> bool
 pub(crate) fn is_below(set: &StateSet, count: u16) -> bool
     ensures { result ≡ nat_lt set.now (2 ^ count) }
 {
-    set.members_are_below_1024();
+    set.fact_members_are_below_1024();
     let all = StateSet::empty().complement_in(count.min(MEMBERS));
     set.is_subset(&all)
 }
@@ -46,7 +46,7 @@ fn exits_of(backs: &[(StateId, u32)]) -> StateSet
 pub(crate) fn are_covered(aim: &StateSet, backs: &[(StateId, u32)], count: u16) -> bool
     ensures { result ≡ list_all (λ x. not (has aim.now x) || is_some (back_of (backs_of backs.now) x)) (range_with_len 0 count) }
 {
-    aim.members_are_below_1024();
+    aim.fact_members_are_below_1024();
     let count = count.min(MEMBERS);
     let left_out = exits_of(backs).complement_in(count);
     left_out.is_subset(&aim.complement_in(count))

@@ -645,7 +645,7 @@ pub fn read_expression<'t>(
 }
 
 /// Tokens have at most one expression that is next, whatever its nesting.
-pub fn one_expression()
+pub fn fact_one_expression()
     ensures one { (m n : ℕ) (ts : List Lexeme) (e f : Tree) (a b : List Lexeme)
         → IsNext m ts e a → IsEnd a → IsNext n ts f b → IsEnd b → (e ≡ f) × (a ≡ b) }
 {}

@@ -132,7 +132,7 @@ impl<S: Sink> Writer<S> {
             self.put_mask_apart(set, out);
             return;
         }
-        set.members_are_below_1024();
+        set.fact_members_are_below_1024();
         let from = self.line.bytes().len();
         self.line.put_mask(set);
         self.said.more(&self.line.bytes()[from..]);
@@ -179,7 +179,7 @@ impl<S: Sink> Writer<S> {
             self.put_ranges_apart(set, out);
             return;
         }
-        set.members_are_below_1024();
+        set.fact_members_are_below_1024();
         let from = self.line.bytes().len();
         self.line.put_ranges(set);
         self.said.more(&self.line.bytes()[from..]);

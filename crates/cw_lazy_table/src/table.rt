@@ -271,8 +271,8 @@ pub fn weaver_table(alloc: Global, game: &Game, solved: &Solved) -> Result<Weave
     ensures many { IfErr result (λ fault. fault ≡ TableFault.TooManyRows → (t : Table) → IsLazyTable (game_of game.now) t → 65536 < table_rows t) }
     ensures there { IfErr result (λ fault. fault ≡ TableFault.TooManyRows → (t : Table) × IsLazyTable (game_of game.now) t × (65536 < table_rows t)) }
 {
-    solved.contexts_are_needed();
-    solved.heights_are_low();
+    solved.fact_contexts_are_needed();
+    solved.fact_heights_are_low();
     match table_within(alloc, game, solved) {
         Err(_) => Err(TableFault::NoMemory),
         Ok(None) => Err(TableFault::TooManyRows),

@@ -19,7 +19,7 @@ pub(crate) fn aims_of(alloc: Global, solved: &Solved) -> Result<Vec<StateSet>, A
     requires routed { AreRouted (game_of solved.now.game) (length solved.now.game.graph.parts.items) }
     ensures { IfOk result (λ v. AreAims solved.now v.items) }
 {
-    solved.contexts_are_needed();
+    solved.fact_contexts_are_needed();
     let mut all = Vec::new(alloc);
     for number in 0..solved.contexts() {
         let aim = others(solved.game(), &solved.context(number).promise);

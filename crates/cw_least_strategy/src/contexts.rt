@@ -32,7 +32,7 @@ fn entry_of(solved: &Solved, number: u32) -> Entry
     requires routed { AreRouted (game_of solved.now.game) (length solved.now.game.graph.parts.items) }
     requires number { number < length solved.now.contexts }
 {
-    solved.contexts_are_needed();
+    solved.fact_contexts_are_needed();
     let context = solved.context(number);
     Entry {
         aim: others(solved.game(), &context.promise),
@@ -116,7 +116,7 @@ impl Entries {
         ensures { IsIn solved.now result aim.now pos.0 state.0 }
     {
         let _ = state;
-        solved.contexts_are_needed();
+        solved.fact_contexts_are_needed();
         let promise = others(solved.game(), aim);
         let number = self.number_near(pos, near);
         if solved.has_position(number, pos, &promise) {

@@ -30,7 +30,7 @@ fn start_height(solved: &Solved) -> u32
     requires lost { IsLost (game_of solved.now.game) }
     ensures { IsStartHeight (game_of solved.now.game) result }
 {
-    solved.contexts_are_needed();
+    solved.fact_contexts_are_needed();
     let (pos, state) = solved.game().start();
     match solved.height(0, pos, state) {
         None => 0,

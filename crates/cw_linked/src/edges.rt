@@ -340,7 +340,7 @@ fn add_return(game: &Game, returns: &mut Chains<PosId>, pos: PosId) -> Result<()
     requires before { AreReturnsTo (game_of game.now) returns.old pos.0 }
     ensures { OnOk result (AreReturnsTo (game_of game.now) returns.new (pos.0 + 1)) }
 {
-    game.is_closed();
+    game.fact_is_closed();
     match game.turn(pos) {
         Turn::Call { back, .. } => {
             returns.push_front(back.0, pos)?;
@@ -421,7 +421,7 @@ fn run(game: &Game, function: u16) -> Divisor
     requires there { function < length game.now.graph.parts.items }
     ensures { result ≡ positions (game_of game.now) function }
 {
-    game.is_closed();
+    game.fact_is_closed();
     Divisor::of(positions(game, function))
 }
 

@@ -112,7 +112,7 @@ impl<'g> Game<'g> {
     }
 
     // What stands at the positions, the functions and the seams are in range, and states lead to states.
-    fn is_sound(&self)
+    fn fact_is_sound(&self)
         ensures { IsSound self.now }
     {
         let _ = &self.graph;
@@ -124,14 +124,14 @@ impl<'g> Game<'g> {
         ensures spot { Some result ≡ slice_get (game_of self.now).spots pos.0 }
         ensures fine { IsFine self.now pos.0 result }
     {
-        self.is_sound();
+        self.fact_is_sound();
         self.spot(pos)
     }
 
     /// What holds of every game: each position leads to positions and calls functions that there are, `main` is one of them; each function begins and ends
     /// at positions, and those from the one to the other lead to one another, an exit at the last alone; from states each call leads to states; the rights
     /// states, the policy states and their pairs are within their limits, and so are the pairs of a position and a state.
-    pub fn is_closed(&self)
+    pub fn fact_is_closed(&self)
         ensures leads { (p : ℕ) (s : SpotOf) → slice_get (game_of self.now).spots p ≡ Some s
             → LeadsWithin (length (game_of self.now).spots) (length self.now.graph.parts.items) p s }
         ensures main { self.now.graph.main < length self.now.graph.parts.items }
@@ -140,7 +140,7 @@ impl<'g> Game<'g> {
         ensures few { AreFew (lists_of self.now.states) }
         ensures pairs { length (game_of self.now).spots * (game_of self.now).states.count ≤ limit_of PositionsTimesStates }
     {
-        self.is_sound();
+        self.fact_is_sound();
     }
 
     /// How many states there are.
@@ -178,7 +178,7 @@ impl<'g> Game<'g> {
         ensures is { result.0 ≡ base_of self.now.graph (policy_of self.now.states.policy) point.0 }
         ensures within { IsPosition (game_of self.now) result.0 }
     {
-        self.is_sound();
+        self.fact_is_sound();
         self.positions.first(point)
     }
 
@@ -188,7 +188,7 @@ impl<'g> Game<'g> {
         ensures is { slice_get self.now.graph.parts.items function ≡ Some result }
         ensures within { IsPart self.now.graph result }
     {
-        self.is_sound();
+        self.fact_is_sound();
         self.graph.parts[function as usize]
     }
 
@@ -216,7 +216,7 @@ impl<'g> Game<'g> {
         ensures state { result.1.0 ≡ (game_of self.now).states.start }
         ensures within { IsPosition (game_of self.now) result.0.0 × IsState (game_of self.now) result.1.0 }
     {
-        self.is_sound();
+        self.fact_is_sound();
         (self.entry(self.main()), self.states.start())
     }
 
@@ -224,7 +224,7 @@ impl<'g> Game<'g> {
     pub fn has_seam(&self, seam: SeamId) -> bool
         ensures { result ≡ is_seam (game_of self.now) seam }
     {
-        self.is_sound();
+        self.fact_is_sound();
         (seam.0 as usize) < self.graph.seams.len()
     }
 
@@ -232,7 +232,7 @@ impl<'g> Game<'g> {
     pub fn has_stage(&self, seam: SeamId, stage: u8) -> bool
         ensures { result ≡ is_stage (game_of self.now) seam stage }
     {
-        self.is_sound();
+        self.fact_is_sound();
         (stage as usize) < stages_of(self.graph, self.policy(), seam)
     }
 
@@ -419,7 +419,7 @@ impl<'g> Game<'g> {
         ensures is { numbers result ≡ next_at (game_of self.now) pos.0 state.0 by }
         ensures within { IfSome result (λ r. IsPosition (game_of self.now) r.0.0 × IsState (game_of self.now) r.1.0) }
     {
-        self.is_sound();
+        self.fact_is_sound();
         self.led(self.fine_spot(pos), pos, state, by)
     }
 
@@ -431,7 +431,7 @@ impl<'g> Game<'g> {
         ensures is { numbers result ≡ resumed (game_of self.now) pos.0 state.0 }
         ensures within { IfSome result (λ r. IsPosition (game_of self.now) r.0.0 × IsState (game_of self.now) r.1.0) }
     {
-        self.is_sound();
+        self.fact_is_sound();
         match self.fine_spot(pos) {
             Spot::Asked(_, _, prim) if self.can_stop(state, prim) => Some((
                 PosId(pos.0 + 1),
@@ -487,7 +487,7 @@ impl<'g> Game<'g> {
         requires { IsPosition (game_of self.now) pos.0 }
         ensures { IsPointOf self.now pos.0 result.0 }
     {
-        self.is_sound();
+        self.fact_is_sound();
         PointId((begun(&self.positions.bases, pos.0) - 1) as u32)
     }
 
@@ -542,7 +542,7 @@ impl<'g> Game<'g> {
         ensures is { result.0 ≡ returned (game_of self.now).states (kept_at split call.0) exit.0 }
         ensures within { IsState (game_of self.now) result.0 }
     {
-        self.is_sound();
+        self.fact_is_sound();
         if split {
             self.states.with_rights(exit, call)
         } else {

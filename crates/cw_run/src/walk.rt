@@ -162,13 +162,13 @@ fn called(game: &Game, table: &WeaverCert, here: Here, call: CallAt, by: Move) -
 }
 
 /// The function that is called at a position is there, and so is the position to which it returns.
-fn call_is_within(game: &Game, pos: PosId, spot: Spot, call: CallAt)
+fn fact_call_is_within(game: &Game, pos: PosId, spot: Spot, call: CallAt)
     requires spot { Some spot ≡ slice_get (game_of game.now).spots pos.0 }
     requires call { Some (called_of call) ≡ call_in (Some spot) }
     ensures function { call.function < length game.now.graph.parts.items }
     ensures back { IsPosition (game_of game.now) call.back.0 }
 {
-    game.is_closed();
+    game.fact_is_closed();
     let _ = (pos, spot, call);
 }
 
@@ -332,7 +332,7 @@ fn stepped(game: &Game, here: Here, next: u32, by: Move) -> Option<Next>
     ensures is { (table : Table) → option_map next_is result ≡ next_of (game_of game.now) table (here_of here) [] (Spot.Step next) by }
     ensures range { IfSome result (λ next. IsNextIn (game_of game.now) (next_is next)) }
 {
-    game.is_closed();
+    game.fact_is_closed();
     to_if(behind_step(here, next, by))
 }
 
@@ -344,7 +344,7 @@ fn branched(game: &Game, here: Here, left: u32, right: u32, by: Move) -> Option<
     ensures is { (table : Table) → option_map next_is result ≡ next_of (game_of game.now) table (here_of here) [] (Spot.Branch left right) by }
     ensures range { IfSome result (λ next. IsNextIn (game_of game.now) (next_is next)) }
 {
-    game.is_closed();
+    game.fact_is_closed();
     to_if(behind_branch(here, left, right, by))
 }
 
@@ -369,7 +369,7 @@ pub fn lead(
         Spot::Branch(left, right) => branched(game, here, left, right, by),
         Spot::Call(_, _, _) | Spot::SplitCall(_, _, _) => {
             let called_here = call_at(game, here.pos, spot)?;
-            call_is_within(game, here.pos, spot, called_here);
+            fact_call_is_within(game, here.pos, spot, called_here);
             called(game, table, here, called_here, by)
         }
         Spot::Exit(_) => ended(game, table, here, call, by),
@@ -386,7 +386,7 @@ pub(crate) fn rest(game: &Game, table: &WeaverCert, pos: PosId, mem: MemId) -> P
     ensures range { IsPosition (game_of game.now) result.0 }
 {
     let _ = game.positions();
-    game.is_closed();
+    game.fact_is_closed();
     match game.spot(pos) {
         Spot::Visit(seam, stage, _) => {
             if try_at(table, SeamId(seam), stage, mem).is_some() {

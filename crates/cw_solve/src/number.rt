@@ -22,7 +22,7 @@ impl<'g> Solved<'g> {
     pub fn has_position(&self, number: u32, pos: PosId, promise: &StateSet) -> bool
         ensures { result ≡ has_position (game_of self.now.game) pos.0 promise.now (slice_get self.now.contexts number) }
     {
-        self.is_kept();
+        self.fact_is_kept();
         if number >= self.contexts() {
             return false;
         }
@@ -54,7 +54,7 @@ impl<'g> Solved<'g> {
         requires under { IsUnder (game_of self.now.game) pos.0 promise.now }
         ensures { IsNumberOf (game_of self.now.game) self.now.contexts result promise.now pos.0 }
     {
-        self.is_kept();
+        self.fact_is_kept();
         for number in 0..self.contexts() {
             if self.has_position(number, pos, promise) {
                 return number;
@@ -68,7 +68,7 @@ impl<'g> Solved<'g> {
         requires under { IsUnder (game_of self.now.game) pos.0 promise.now }
         ensures { IsNumberOf (game_of self.now.game) self.now.contexts result promise.now pos.0 }
     {
-        self.is_kept();
+        self.fact_is_kept();
         let near = self.number_near(self.function_near(pos), promise);
         if self.has_position(near, pos, promise) {
             near

@@ -9,7 +9,7 @@ ghost use Rattle.cw_solve.specs.Solved.{IsCause};
 use crate::contexts::Context;
 use crate::fault::SolveFault;
 use crate::places::Places;
-use crate::table::{Table, fit, height_in, numbered, slot};
+use crate::table::{Table, fact_fit, height_in, numbered, slot};
 use crate::tries::solve_table;
 use cw_core::{PosId, StateId, StateSet};
 use cw_product::Game;
@@ -80,7 +80,7 @@ impl<'g> Solved<'g> {
     }
 
     /// What the value keeps.
-    pub(crate) fn is_kept(&self)
+    pub(crate) fn fact_is_kept(&self)
         ensures routed { AreRouted (game_of self.now.game) (length self.now.game.graph.parts.items) }
         ensures needed { AreTheNeeded (game_of self.now.game) self.now.contexts }
         ensures few { cells_of (game_of self.now.game) self.now.contexts ≤ 4194304 }
@@ -89,15 +89,15 @@ impl<'g> Solved<'g> {
     }
 
     /// A law: the contexts are all that the game needs, each once, and `main` with all states is the first.
-    pub fn contexts_are_needed(&self)
+    pub fn fact_contexts_are_needed(&self)
         ensures { AreTheNeeded (game_of self.now.game) self.now.contexts }
     {
-        self.is_kept();
+        self.fact_is_kept();
     }
 
     /// A law: under each promise that the game needs, each pair of a position of its function and a state has a height, or holds for every number of
     /// moves.
-    pub fn is_known(&self)
+    pub fn fact_is_known(&self)
         ensures known { (f p q e : ℕ)
             → IsNeeded (game_of self.now.game) (context f e)
             → IsOf (game_of self.now.game) f p
@@ -178,9 +178,9 @@ impl<'g> Solved<'g> {
 
     /// A law: each pair of a position of a function and a state has its height, or none, under each promise that the
     /// game needs, and heights are below 2^32.
-    pub fn heights_are_low(&self)
+    pub fn fact_heights_are_low(&self)
         ensures { HeightsAreLow (game_of self.now.game) }
     {
-        fit(&self.table.heights);
+        fact_fit(&self.table.heights);
     }
 }

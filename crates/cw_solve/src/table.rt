@@ -161,7 +161,7 @@ pub(crate) fn height_in(written: u32) -> Option<u32>
 }
 
 /// Numbers of 32 bits are below 2^32.
-pub(crate) fn fit(heights: &[u32])
+pub(crate) fn fact_fit(heights: &[u32])
     ensures { (k : ℕ) → slice_index heights.now k < 4294967296 }
 {
     let _ = heights;

@@ -3,7 +3,7 @@
 ghost use Rattle.std.specs.Prelude.{◌≤◌, length};
 
 use crate::trees::{Part, written};
-use cw_expressions::expressions::{one_expression, read_expression};
+use cw_expressions::expressions::{fact_one_expression, read_expression};
 use cw_grammar::spelling::lexemes;
 use cw_grammar::words::Lexeme;
 use cw_lex::{Token, TokenKind, laws_of_sources, laws_of_texts, laws_of_tokens, lex};
@@ -247,6 +247,6 @@ fn laws_are_told() {
     laws_of_sources();
     laws_of_tokens();
     laws_of_texts();
-    one_expression();
+    fact_one_expression();
     laws_of_programs();
 }

@@ -39,7 +39,7 @@ fn start_height(game: &Game, solved: &Solved) -> Option<u32>
     requires solved { solved.now.game ≡ game.now }
     ensures { HeightIs (game_of game.now) ((game_of game.now).entry (game_of game.now).main) (game_of game.now).states.start (all_states (game_of game.now)) result }
 {
-    solved.contexts_are_needed();
+    solved.fact_contexts_are_needed();
     let (pos, state) = game.start();
     solved.height(0, pos, state)
 }
@@ -75,7 +75,7 @@ fn woven<O: Sink>(
                 &mut writer,
                 out,
             );
-            solved.contexts_are_needed();
+            solved.fact_contexts_are_needed();
             Ok(Verdict {
                 text: Text {
                     reply: Reply::Yes,
@@ -112,7 +112,7 @@ fn refuted<O: Sink>(
         Ok(strategy) => {
             let mut writer = Writer::begin(out);
             put_strategy(&strategy, game.policy().format, &mut writer, out);
-            solved.contexts_are_needed();
+            solved.fact_contexts_are_needed();
             Ok(Verdict {
                 text: Text {
                     reply: Reply::No,

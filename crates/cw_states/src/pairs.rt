@@ -174,12 +174,12 @@ impl<'p> Pairs<'p> {
         requires state { state.0 < count (lists_of self.now) }
         ensures { result.0 ≡ pair (lists_of self.now) row (state.0 % length self.now.rights) }
     {
-        self.is_few();
+        self.fact_is_few();
         self.at(row, self.column(state) as u8)
     }
 
     /// The lists are within the limits.
-    pub(crate) fn is_few(&self)
+    pub(crate) fn fact_is_few(&self)
         ensures { AreFew (lists_of self.now) }
     {
         let _ = &self.policy;
@@ -223,7 +223,7 @@ impl<'p> Pairs<'p> {
 
     /// The numbers of the policy are those of holds.
     #[tactic(auto, using(crate::proofs::Narrow::narrow))]
-    pub(crate) fn is_narrow(&self)
+    pub(crate) fn fact_is_narrow(&self)
         ensures { IsNarrow (policy_of self.now.policy) }
     {
         let _ = &self.policy;
@@ -272,7 +272,7 @@ impl<'p> Pairs<'p> {
         requires primitive { Contains (primitives (policy_of self.now.policy) true) prim }
         ensures { result ≡ (states_of (lists_of self.now)).may_grant state.0 prim }
     {
-        self.is_narrow();
+        self.fact_is_narrow();
         may_grant(self.caps(state), prim)
     }
 
@@ -398,7 +398,7 @@ impl<'p> Pairs<'p> {
         requires call { call.0 < count (lists_of self.now) }
         ensures { result.0 ≡ (states_of (lists_of self.now)).with_rights exit.0 call.0 }
     {
-        self.is_few();
+        self.fact_is_few();
         self.at(self.row(exit), self.column(call) as u8)
     }
 }

@@ -57,7 +57,7 @@ impl<'p> States<'p> {
         ensures cause { IfErr result (λ fault. IsCause (policy_of policy.now) uses fault) }
     {
         let pairs = Pairs::make(alloc, policy, uses)?;
-        pairs.is_narrow();
+        pairs.fact_is_narrow();
         let tables = tables_of(alloc, policy, &pairs)?;
         Ok(States { pairs, tables })
     }
@@ -205,7 +205,7 @@ impl<'p> States<'p> {
         requires label { label ≤ length self.now.policy.labels.items }
         ensures { result ≡ (states_of (lists_of self.now)).bad state.0 label }
     {
-        self.pairs.is_few();
+        self.pairs.fact_is_few();
         self.entry(state, label) == 255
     }
 

@@ -132,7 +132,7 @@ pub fn memory_after(cert: &WeaverCert, mem: MemId, spot: Spot, by: Move) -> Opti
 pub fn is_promised(promise: &StateSet, state: StateId) -> bool
     ensures { result ≡ has promise.now state.0 }
 {
-    promise.members_are_below_1024();
+    promise.fact_members_are_below_1024();
     state.0 < MEMBERS && promise.contains(state)
 }
 
@@ -140,7 +140,7 @@ pub fn is_promised(promise: &StateSet, state: StateId) -> bool
 pub fn has_states_alone(set: &StateSet, states: u16) -> bool
     ensures { result ≡ nat_lt set.now (2 ^ states) }
 {
-    set.members_are_below_1024();
+    set.fact_members_are_below_1024();
     states >= MEMBERS || *set <= StateSet::empty().complement_in(states)
 }
 
@@ -148,6 +148,6 @@ pub fn has_states_alone(set: &StateSet, states: u16) -> bool
 pub fn has_all_states(set: &StateSet, states: u16) -> bool
     ensures { result ≡ nat_eq set.now (2 ^ states - 1) }
 {
-    set.members_are_below_1024();
+    set.fact_members_are_below_1024();
     states <= MEMBERS && *set == StateSet::empty().complement_in(states)
 }

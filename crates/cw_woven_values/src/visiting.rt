@@ -89,7 +89,7 @@ fn visit(game: &Game, table: &WeaverCert, here: Here, tries: &mut Tries) -> Visi
     ensures range { IsVisited (game_of game.now) result }
 {
     let _ = game.positions();
-    game.is_closed();
+    game.fact_is_closed();
     let Spot::Visit(seam, stage, _) = game.spot(here.pos) else {
         return Visited::None;
     };

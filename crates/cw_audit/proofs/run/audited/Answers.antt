@@ -9,19 +9,19 @@ use Rattle.cw_audit.proofs.run.audited.Goals as goal
 pub searched-requires : goal.searched-requires
 searched-requires c =
     record {
-      fair = is_fair (game_of c.args.game.now) (functions_of c.args.game.now) c.is_closed.ensures.leads c.is_closed.ensures.main c.is_closed.ensures.routes c.is_closed.ensures.states
+      fair = is_fair (game_of c.args.game.now) (functions_of c.args.game.now) c.fact_is_closed.ensures.leads c.fact_is_closed.ensures.main c.fact_is_closed.ensures.routes c.fact_is_closed.ensures.states
           c.requires.program.0 c.requires.program.1;
     }
 
 pub finish-requires-clause-fair : goal.finish-requires-clause-fair
 finish-requires-clause-fair c =
-    is_fair (game_of c.args.game.now) (functions_of c.args.game.now) c.is_closed.ensures.leads c.is_closed.ensures.main c.is_closed.ensures.routes c.is_closed.ensures.states
+    is_fair (game_of c.args.game.now) (functions_of c.args.game.now) c.fact_is_closed.ensures.leads c.fact_is_closed.ensures.main c.fact_is_closed.ensures.routes c.fact_is_closed.ensures.states
     c.requires.program.0 c.requires.program.1
 
 pub returns-clause-verdict : goal.returns-clause-verdict
 returns-clause-verdict c =
     let g = game_of c.args.game.now in
-    let fair = is_fair g (functions_of c.args.game.now) c.is_closed.ensures.leads c.is_closed.ensures.main c.is_closed.ensures.routes c.is_closed.ensures.states
+    let fair = is_fair g (functions_of c.args.game.now) c.fact_is_closed.ensures.leads c.fact_is_closed.ensures.main c.fact_is_closed.ensures.routes c.fact_is_closed.ensures.states
     c.requires.program.0 c.requires.program.1 in
     when_ok c.finish.result (λ t e p game. verdict_of g (functions_of c.args.game.now) (audit_of t) (at_ok _ c.finish.result t e c.finish.ensures.table)
     (λ f p k below low high e. fair.alone f p k below (low, high) e) p game)

@@ -51,5 +51,5 @@ returns-clause-good c = good (goal.at.returns-clause-good c).After-has_main c.if
 
 pub returns-clause-holds : goal.returns-clause-holds
 returns-clause-holds c =
-    bounds (game_of c.args.game.now) (length c.args.game.now.graph.parts.items) (audit_of c.args.table.now) c.is_closed.ensures.routes
+    bounds (game_of c.args.game.now) (length c.args.game.now.graph.parts.items) (audit_of c.args.table.now) c.fact_is_closed.ensures.routes
     (good (goal.at.returns-clause-holds c).After-has_main c.if-not-has_main.false)

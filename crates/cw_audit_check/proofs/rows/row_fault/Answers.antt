@@ -11,7 +11,7 @@ leads : (c : In-Call) → (c.in-Call.callee < length c.args.game.now.graph.parts
 leads c =
     let g = game_of c.args.game.now in
     call_leads g (length g.spots) (length c.args.game.now.graph.parts.items) c.args.row.0.0 (slice_get g.spots c.args.row.0.0) c.in-Call.callee c.in-Call.split c.in-Call.back
-    c.in-Call.ensures (placed g c.args.group.now.function (row_of c.args.row) c.requires.place).free (λ s e. c.is_closed.ensures.leads c.args.row.0.0 s e)
+    c.in-Call.ensures (placed g c.args.group.now.function (row_of c.args.row) c.requires.place).free (λ s e. c.fact_is_closed.ensures.leads c.args.row.0.0 s e)
 
 pub calls_on-requires-clause-callee : goal.calls_on-requires-clause-callee
 calls_on-requires-clause-callee c = (leads c).0

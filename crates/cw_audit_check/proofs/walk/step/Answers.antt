@@ -9,11 +9,11 @@ enter-requires-clause-callee c =
     let g = game_of c.args.game.now in
     let p = c.args.walk.now.pos.0 in
     (call_within g (length g.spots) (length c.args.game.now.graph.parts.items) p (slice_get g.spots p) c.in-Call.callee c.in-Call.split c.in-Call.back c.in-Call.ensures
-    (λ s e. c.is_closed.ensures.leads p s e)).0
+    (λ s e. c.fact_is_closed.ensures.leads p s e)).0
 
 pub enter-requires-clause-back : goal.enter-requires-clause-back
 enter-requires-clause-back c =
     let g = game_of c.args.game.now in
     let p = c.args.walk.now.pos.0 in
     (call_within g (length g.spots) (length c.args.game.now.graph.parts.items) p (slice_get g.spots p) c.in-Call.callee c.in-Call.split c.in-Call.back c.in-Call.ensures
-    (λ s e. c.is_closed.ensures.leads p s e)).1
+    (λ s e. c.fact_is_closed.ensures.leads p s e)).1

@@ -17,7 +17,7 @@ loop-at-preserved c =
     let e : slice_get g.spots p ≡ Some (Visit c.in-Visit.field-0 c.in-Visit.field-1 c.in-Visit.field-2) = sym c.spot.ensures ∙ ap (λ s. Some s) c.in-Visit.is in
     record {
       same = skip_on g p (ap weavers_in e) ∙ c.loop-at.invariant.same;
-      within = c.is_closed.ensures.leads p (Visit c.in-Visit.field-0 c.in-Visit.field-1 c.in-Visit.field-2) e;
+      within = c.fact_is_closed.ensures.leads p (Visit c.in-Visit.field-0 c.in-Visit.field-1 c.in-Visit.field-2) e;
     }
 
 not_visit : (o : Option Spot) (s : Spot) → Some s ≡ o → ((j i : ℕ) (a : Primitive) → s ≡ Visit j i a → ⊥) → weavers_in o ≡ false

@@ -12,7 +12,7 @@ pub returns-in-Call-clause-some : goal.returns-in-Call-clause-some
 returns-in-Call-clause-some c =
     let h = c.args.game.now in
     let leads = call_leads (game_of h) (length (game_of h).spots) (length h.graph.parts.items) c.args.place.pos.0 (spot_at h c.args.place) c.in-Call.callee c.in-Call.split c.in-Call.back
-    c.in-Call.ensures c.requires.placed.free (λ s e. c.is_closed.ensures.leads c.args.place.pos.0 s e) in
+    c.in-Call.ensures c.requires.placed.free (λ s e. c.fact_is_closed.ensures.leads c.args.place.pos.0 s e) in
     record {
       callee = leads.0;
       back = leads.1;

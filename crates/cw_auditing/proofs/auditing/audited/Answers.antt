@@ -17,6 +17,6 @@ returns-in-Ok-clause-due g c = λ whole source.
     inr (inr (
       table,
       is,
-      λ p of. true_of p game many table of (end_alone game many c.is_closed.ensures.routes) is.good is.shown,
+      λ p of. true_of p game many table of (end_alone game many c.fact_is_closed.ensures.routes) is.good is.shown,
       c.told.ensures.due,
     ))

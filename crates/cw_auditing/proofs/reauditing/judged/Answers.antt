@@ -14,4 +14,4 @@ returns-in-None-clause-due g c = λ whole source.
     let many = length c.args.game.now.graph.parts.items in
     let audit = audit_of c.args.audit.now in
     let both = subst (λ (o : Option BadGroup). IfNone o (IsGoodAudit game many audit × IsShown game audit)) c.in-None.is c.in_ok-first_fault.ensures.none in
-    inl (both.0, both.1, c.tell.ensures.due, λ p is. shown_exact p game many audit is (end_alone game many c.is_closed.ensures.routes) both.0 both.1)
+    inl (both.0, both.1, c.tell.ensures.due, λ p is. shown_exact p game many audit is (end_alone game many c.fact_is_closed.ensures.routes) both.0 both.1)

@@ -17,5 +17,5 @@ pub returns-clause-some : goal.returns-clause-some
 returns-clause-some c =
     let some = positive c.args.digits.now (sym c.if-is_empty.ensures) in (
       ap hexadecimal_digits c.sum_of-set.ensures.sum ∙ hexadecimal_digits-digits_value c.args.digits.now c.requires.digits some (λ zero. elim c.else-digits-eq48.either [ inl p ↦ omega (arith, p.1, some) | inr differs ↦ absurd (differs zero) ]),
-      c.members_are_below_1024.ensures.below,
+      c.fact_members_are_below_1024.ensures.below,
     )

@@ -6,7 +6,7 @@ pub returns : goal.returns
 returns c = record {
   ascend = rw (whole_runs c.args.set.now) at (runs_ascend c.args.set.now 0 1024);
   members = λ s. (
-    (λ member. rw (whole_runs c.args.set.now) at (runs_have c.args.set.now 0 1024 s member (omega arith) (let p = c.members_are_below_1024.ensures.below s member in omega (arith, p)))),
+    (λ member. rw (whole_runs c.args.set.now) at (runs_have c.args.set.now 0 1024 s member (omega arith) (let p = c.fact_members_are_below_1024.ensures.below s member in omega (arith, p)))),
     (λ there. (runs_have_only c.args.set.now 0 1024 s (rw (whole_runs c.args.set.now) there)).0),
   );
 }

@@ -2,4 +2,4 @@ use Rattle.cw_core.proofs.Spellings.{set_within}
 use Rattle.cw_core.proofs.laws.set_is_read_back.Goals as goal
 
 pub returns : goal.returns
-returns c = record { stands = set_within c.args.before.now c.args.after.now c.args.set.now c.members_are_below_1024.ensures.below c.requires.stops }
+returns c = record { stands = set_within c.args.before.now c.args.after.now c.args.set.now c.fact_members_are_below_1024.ensures.below c.requires.stops }

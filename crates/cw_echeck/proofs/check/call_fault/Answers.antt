@@ -13,7 +13,7 @@ entry-requires c =
     let p = c.args.row.now.pos.0 in
     callee_there g (length g.spots) (length c.args.game.now.graph.parts.items) p c.in-Call.function c.in-Call.split c.in-Call.back
     (slice_get g.spots p)
-    c.in-Call.ensures (λ s e. c.is_closed.ensures.leads p s e)
+    c.in-Call.ensures (λ s e. c.fact_is_closed.ensures.leads p s e)
 
 pub returns-then-entered-entry : goal.returns-then-entered-entry
 returns-then-entered-entry c =

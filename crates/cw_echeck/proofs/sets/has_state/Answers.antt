@@ -9,4 +9,4 @@ returns-then-state-lt-MEMBERS c = c.contains.ensures.member ∙ has_is c.args.se
 pub returns-else-state-lt-MEMBERS : goal.returns-else-state-lt-MEMBERS
 returns-else-state-lt-MEMBERS c =
     le-ltb c.args.state.0 1024 c.if-state-lt-MEMBERS.false
-    ∙ sym (has_above c.args.set.now c.args.state.0 c.members_are_below_1024.ensures.below c.if-state-lt-MEMBERS.false)
+    ∙ sym (has_above c.args.set.now c.args.state.0 c.fact_members_are_below_1024.ensures.below c.if-state-lt-MEMBERS.false)

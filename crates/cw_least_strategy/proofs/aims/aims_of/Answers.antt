@@ -24,4 +24,4 @@ returns c =
     let all : c.deref.result.now ≡ map (aim_in s) s.contexts =
     c.deref.ensures.value ∙ c.loop-number.invariant ∙ ap (map (aim_in s)) (take_all c.loop-number.number s.contexts (omega (arith, e, n))) in
     if_ok (λ (v : Vec ℕ Global). Exactly nat_cmp (Contains c.deref.result.now) v.items) (λ (v : Vec ℕ Global). AreAims s v.items) c.ordered.result c.ordered.ensures
-    (λ v x. are_aims s c.contexts_are_needed.ensures (omega (arith, n, fits)) v.items (subst (λ (l : List ℕ). Exactly nat_cmp (Contains l) v.items) all x))
+    (λ v x. are_aims s c.fact_contexts_are_needed.ensures (omega (arith, n, fits)) v.items (subst (λ (l : List ℕ). Exactly nat_cmp (Contains l) v.items) all x))

@@ -6,4 +6,4 @@ pub exit-requires : goal.exit-requires
 exit-requires c =
     let h = c.args.solved.now in
     rw c.game-2.ensures
-    (function_there h (length h.game.graph.parts.items) c.requires.routed c.contexts_are_needed.ensures c.args.number c.context-context.result.now c.context-context.ensures).below
+    (function_there h (length h.game.graph.parts.items) c.requires.routed c.fact_contexts_are_needed.ensures c.args.number c.context-context.result.now c.context-context.ensures).below

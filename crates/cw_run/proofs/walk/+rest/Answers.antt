@@ -8,7 +8,7 @@ use Rattle.cw_run.proofs.walk.+rest.Goals as goal
 pub rest-requires : goal.rest-requires
 rest-requires t c =
     let w : c.args.pos.0 + 2 < length (game_of c.args.game.now).spots =
-    c.is_closed.ensures.leads c.args.pos.0 _ (sym c.spot.ensures ∙ ap Some c.in-Visit.is) in
+    c.fact_is_closed.ensures.leads c.args.pos.0 _ (sym c.spot.ensures ∙ ap Some c.in-Visit.is) in
     (omega (arith, w, c.decreases), w)
 
 pub returns-then-is_some-clause-rests : goal.returns-then-is_some-clause-rests
@@ -19,7 +19,7 @@ returns-then-is_some-clause-rests t c =
 pub returns-then-is_some-clause-range : goal.returns-then-is_some-clause-range
 returns-then-is_some-clause-range t c =
     let w : c.args.pos.0 + 2 < length (game_of c.args.game.now).spots =
-    c.is_closed.ensures.leads c.args.pos.0 _ (sym c.spot.ensures ∙ ap Some c.in-Visit.is) in
+    c.fact_is_closed.ensures.leads c.args.pos.0 _ (sym c.spot.ensures ∙ ap Some c.in-Visit.is) in
     omega (arith, w)
 
 pub returns-else-is_some-clause-rests : goal.returns-else-is_some-clause-rests

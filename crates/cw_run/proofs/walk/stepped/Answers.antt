@@ -11,5 +11,5 @@ returns c =
     let here = here_of c.args.here in
     record {
       is = λ table. c.to_if.ensures.is ∙ (ap to_if c.behind_step.ensures.is ∙ step_is g table here c.args.next c.args.by c.requires.spot);
-      range = c.to_if.ensures.range g (c.behind_step.ensures.range g c.requires.here (c.is_closed.ensures.leads here.pos (Step c.args.next) (sym c.requires.spot)));
+      range = c.to_if.ensures.range g (c.behind_step.ensures.range g c.requires.here (c.fact_is_closed.ensures.leads here.pos (Step c.args.next) (sym c.requires.spot)));
     }

@@ -22,7 +22,7 @@ returns-in-Ok-clause-due g c =
     let made : IsMadeStrategy (game_of game) strategy = record { is_least = c.in-Ok.ensures.least; ascend = c.in-Ok.ensures.ascend; few = c.in-Ok.ensures.few; good = c.in-Ok.ensures.good } in
     let kept : AreKept game c.args.solved.now c.make.result (rows_of strategy) = record {
       same = c.requires.solved;
-      needed = c.contexts_are_needed.ensures;
+      needed = c.fact_contexts_are_needed.ensures;
       points = c.make.ensures.points;
       positions = c.make.ensures.positions;
       states = c.make.ensures.states;

@@ -10,4 +10,4 @@ pub returns-else-states-le-MEMBERS : goal.returns-else-states-le-MEMBERS
 returns-else-states-le-MEMBERS c =
     let more : 1024 < c.args.states = c.if-states-le-MEMBERS.false in
     let answer : nat_le c.args.states 1024 ≡ false = grind (arith, nat_tests) in
-    answer ∙ sym (is_not_all c.args.set.now c.args.states c.members_are_below_1024.ensures.below more)
+    answer ∙ sym (is_not_all c.args.set.now c.args.states c.fact_members_are_below_1024.ensures.below more)

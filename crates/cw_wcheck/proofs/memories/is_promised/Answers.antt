@@ -10,4 +10,4 @@ pub returns-else-state-lt-MEMBERS : goal.returns-else-state-lt-MEMBERS
 returns-else-state-lt-MEMBERS c =
     let more : 1024 ≤ c.args.state.0 = c.if-state-lt-MEMBERS.false in
     let answer : nat_lt c.args.state.0 1024 ≡ false = grind (arith, nat_tests) in
-    answer ∙ sym (is_no_member c.args.promise.now c.args.state.0 c.members_are_below_1024.ensures.below more)
+    answer ∙ sym (is_no_member c.args.promise.now c.args.state.0 c.fact_members_are_below_1024.ensures.below more)

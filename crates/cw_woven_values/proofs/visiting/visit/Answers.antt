@@ -24,13 +24,13 @@ pub returns-then-is_none-clause-range : goal.returns-then-is_none-clause-range
 returns-then-is_none-clause-range c =
     let g = game_of c.args.game.now in
     let es = sym c.spot.ensures ∙ ap Some c.in-Visit.is in
-    subst (λ (z : Here). IsHere g z) (sym c.ahead.ensures) (c.is_closed.ensures.leads c.args.here.pos.0 (Visit c.in-Visit.seam c.in-Visit.stage c.in-Visit.field-2) es, c.requires.here.1)
+    subst (λ (z : Here). IsHere g z) (sym c.ahead.ensures) (c.fact_is_closed.ensures.leads c.args.here.pos.0 (Visit c.in-Visit.seam c.in-Visit.stage c.in-Visit.field-2) es, c.requires.here.1)
 
 pub ask-requires : goal.ask-requires
 ask-requires c =
     let g = game_of c.args.game.now in
     let es = sym c.spot.ensures ∙ ap Some c.in-Visit.is in
-    let lt : c.args.here.pos.0 + 2 < length g.spots = c.is_closed.ensures.leads c.args.here.pos.0 (Visit c.in-Visit.seam c.in-Visit.stage c.in-Visit.field-2) es in
+    let lt : c.args.here.pos.0 + 2 < length g.spots = c.fact_is_closed.ensures.leads c.args.here.pos.0 (Visit c.in-Visit.seam c.in-Visit.stage c.in-Visit.field-2) es in
     let near : c.args.here.pos.0 + 1 < length g.spots = omega (arith, lt) in
     record { here = subst (λ (z : Here). IsHere g z) (sym c.ahead-2.ensures) (near, c.requires.here.1) }
 

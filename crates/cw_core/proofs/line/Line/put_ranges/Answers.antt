@@ -6,7 +6,7 @@ use Rattle.cw_core.proofs.line.Line.put_ranges.Goals as goal
 pub put_text-requires : goal.put_text-requires
 put_text-requires c =
     let short = runs_length (not (eqb c.args.set.now 0)) (length c.bytes.result.now) (length (hexadecimal c.args.set.now)) c.if-is_shorter.ensures.shorter in
-    let mask = mask_length c.args.set.now c.members_are_below_1024.ensures.below in
+    let mask = mask_length c.args.set.now c.fact_members_are_below_1024.ensures.below in
     let e = ap length (c.bytes-then-is_shorter.ensures.bytes ∙ sym c.bytes.ensures.bytes) in
     record { room = omega (arith, short, mask, e, c.requires.room) }
 

@@ -8,7 +8,7 @@ use Rattle.cw_core.proofs.line.Line.put_runs.Goals as goal
 
 pub numbers-init : goal.numbers-init
 numbers-init c = rw c.requires.empty (record {
-  text = continued-start (runs_from c.args.set.now 0 1025) ∙ ranges_whole c.args.set.now c.members_are_below_1024.ensures.below;
+  text = continued-start (runs_from c.args.set.now 0 1025) ∙ ranges_whole c.args.set.now c.fact_members_are_below_1024.ensures.below;
   room = omega arith;
   small = omega arith;
 })

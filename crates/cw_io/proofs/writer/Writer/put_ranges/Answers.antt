@@ -11,7 +11,7 @@ returns-clause-follows g c =
     let piece = last_piece inside.line spelling c.put_ranges.new.self c.bytes.result.now c.bytes-from.result.now c.put_ranges.ensures.text c.bytes.ensures.bytes c.bytes-from.ensures.bytes in
     let test = rw (sym c.self.view_is) at c.if-not-has_room_for.ensures in
     rw (c.more.ensures.text, piece, c.put_ranges.ensures.text) (record {
-      short = short_with inside.line spelling 258 (spelling_length c.args.set.now c.members_are_below_1024.ensures.below) (test.room refl);
+      short = short_with inside.line spelling 258 (spelling_length c.args.set.now c.fact_members_are_below_1024.ensures.below) (test.room refl);
       took = took_on (g.S.Sink.taken inside.begun.value) (g.S.Sink.taken c.args.out.now) inside.said.text inside.line spelling inside.fault (test.none refl) before.took;
       failed = before.failed;
       no_memory = before.no_memory;

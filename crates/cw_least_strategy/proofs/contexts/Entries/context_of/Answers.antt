@@ -16,7 +16,7 @@ pub returns-then-has_position : goal.returns-then-has_position
 returns-then-has_position c =
     let h = c.args.solved.now in
     let promise_is = c.others-promise.ensures ∙ ap (λ (x : Held). others (game_of x) c.args.aim.now) c.game.ensures in
-    found_in h c.requires.routed c.contexts_are_needed.ensures c.number_near-number.result c.args.aim.now c.args.pos.0 c.args.state.0 c.requires.state
+    found_in h c.requires.routed c.fact_contexts_are_needed.ensures c.number_near-number.result c.args.aim.now c.args.pos.0 c.args.state.0 c.requires.state
     (subst (λ (e : ℕ). IsNumberOf (game_of h.game) h.contexts c.number_near-number.result e c.args.pos.0) promise_is
     (numbered h c.number_near-number.result c.others-promise.result c.args.pos.0 (sym c.has_position.ensures ∙ c.if-has_position.true)))
 
@@ -24,7 +24,7 @@ pub returns-then-has_position-2 : goal.returns-then-has_position-2
 returns-then-has_position-2 c =
     let h = c.args.solved.now in
     let promise_is = c.others-promise.ensures ∙ ap (λ (x : Held). others (game_of x) c.args.aim.now) c.game.ensures in
-    found_in h c.requires.routed c.contexts_are_needed.ensures c.number_at-number.result c.args.aim.now c.args.pos.0 c.args.state.0 c.requires.state
+    found_in h c.requires.routed c.fact_contexts_are_needed.ensures c.number_at-number.result c.args.aim.now c.args.pos.0 c.args.state.0 c.requires.state
     (subst (λ (e : ℕ). IsNumberOf (game_of h.game) h.contexts c.number_at-number.result e c.args.pos.0) promise_is
     (numbered h c.number_at-number.result c.others-promise.result c.args.pos.0 (sym c.has_position-2.ensures ∙ c.if-has_position-2.true)))
 
@@ -32,5 +32,5 @@ pub returns-else-has_position-2 : goal.returns-else-has_position-2
 returns-else-has_position-2 c =
     let h = c.args.solved.now in
     let promise_is = c.others-promise.ensures ∙ ap (λ (x : Held). others (game_of x) c.args.aim.now) c.game.ensures in
-    found_in h c.requires.routed c.contexts_are_needed.ensures c.number_of.result c.args.aim.now c.args.pos.0 c.args.state.0 c.requires.state
+    found_in h c.requires.routed c.fact_contexts_are_needed.ensures c.number_of.result c.args.aim.now c.args.pos.0 c.args.state.0 c.requires.state
     (subst (λ (e : ℕ). IsNumberOf (game_of h.game) h.contexts c.number_of.result e c.args.pos.0) promise_is c.number_of.ensures)

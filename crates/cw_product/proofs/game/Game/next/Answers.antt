@@ -8,5 +8,5 @@ pub returns-clause-within : goal.returns-clause-within
 returns-clause-within c =
     seen (game_of c.args.self.now) c.led.result
     (subst (IsWithin (game_of c.args.self.now)) (sym c.led.ensures)
-    (next_within c.args.self.now c.is_sound.ensures.below c.args.pos.0 c.args.state.0 c.fine_spot.result c.args.by c.fine_spot.ensures.fine
+    (next_within c.args.self.now c.fact_is_sound.ensures.below c.args.pos.0 c.args.state.0 c.fine_spot.result c.args.by c.fine_spot.ensures.fine
     c.requires.state))

@@ -20,7 +20,7 @@ overflow_cast-result c =
     few_begun _ c.args.self.now c.self.view_is c.deref.result.now
     (c.deref.ensures.value ∙ c.self.invariant.same_bases) c.args.pos.0 c.begun.result c.requires
     c.begun.ensures.bound c.begun.ensures.point in
-    omega (arith, few, c.is_sound.ensures.narrow)
+    omega (arith, few, c.fact_is_sound.ensures.narrow)
 
 pub returns : goal.returns
 returns c =

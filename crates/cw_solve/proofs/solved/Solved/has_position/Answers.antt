@@ -13,13 +13,13 @@ returns-then-number-contexts c =
 pub entry-first-requires : goal.entry-first-requires
 entry-first-requires c =
     rw c.game-game.ensures
-    (function_there c.args.self.now (length c.args.self.now.game.graph.parts.items) c.is_kept.ensures.routed c.is_kept.ensures.needed c.args.number c.context-context.result.now
+    (function_there c.args.self.now (length c.args.self.now.game.graph.parts.items) c.fact_is_kept.ensures.routed c.fact_is_kept.ensures.needed c.args.number c.context-context.result.now
     c.context-context.ensures).below
 
 pub exit-last-requires : goal.exit-last-requires
 exit-last-requires c =
     rw c.game-game.ensures
-    (function_there c.args.self.now (length c.args.self.now.game.graph.parts.items) c.is_kept.ensures.routed c.is_kept.ensures.needed c.args.number c.context-context.result.now
+    (function_there c.args.self.now (length c.args.self.now.game.graph.parts.items) c.fact_is_kept.ensures.routed c.fact_is_kept.ensures.needed c.args.number c.context-context.result.now
     c.context-context.ensures).below
 
 pub returns-then-eq : goal.returns-then-eq

@@ -7,5 +7,5 @@ returns-then-has_position c = found_in c.args.self.now c.loop-number.number c.ar
 
 pub unreachable-requires : goal.unreachable-requires
 unreachable-requires c =
-    some_has c.args.self.now c.args.promise.now c.args.pos.0 c.is_kept.ensures.needed c.requires.under c.loop-number.number
+    some_has c.args.self.now c.args.promise.now c.args.pos.0 c.fact_is_kept.ensures.needed c.requires.under c.loop-number.number
     (omega (arith, c.loop-number-test.false, c.contexts-number-end.ensures)) c.loop-number.invariant
