@@ -58,14 +58,11 @@ fn rights_at(format: u8, value: Option<&Value>) -> Rights
 fn digit_of(name: &str) -> Option<u8>
     ensures { result ≡ spec.digit_of name.now }
 {
-    if name == "0" {
-        Some(0)
-    } else if name == "1" {
-        Some(1)
-    } else if name == "2" {
-        Some(2)
-    } else {
-        None
+    match name {
+        "0" => Some(0),
+        "1" => Some(1),
+        "2" => Some(2),
+        _ => None,
     }
 }
 

@@ -69,22 +69,15 @@ pub fn accept<'r>(
 fn list_name(table: u8) -> &'static [u8]
     ensures { result.now ≡ list_name table }
 {
-    if table == 1 {
-        b"mems"
-    } else if table == 2 {
-        b"live"
-    } else if table == 3 {
-        b"tries"
-    } else if table == 4 {
-        b"ats"
-    } else if table == 5 {
-        b"opened"
-    } else if table == 6 {
-        b"closed"
-    } else if table == 7 {
-        b"into"
-    } else {
-        b"back"
+    match table {
+        1 => b"mems",
+        2 => b"live",
+        3 => b"tries",
+        4 => b"ats",
+        5 => b"opened",
+        6 => b"closed",
+        7 => b"into",
+        _ => b"back",
     }
 }
 
