@@ -18,9 +18,10 @@ use Rattle.cw_value.specs.Runs.{going_start, most_steps, source_of, RunsFrom}
 use Rattle.cw_agree.specs.Agreements.{Agrees}
 use Rattle.cw_agree.specs.Laws.{RunsAgree, SomeRunAgrees}
 use Rattle.cw_agree.proofs.Progress.{some_run}
-use Rattle.cw_agree.proofs.Paired.{Paired, agree, begin_fits, begin_plain, begin_split, begin_unrefused}
+use Rattle.cw_agree.proofs.Paired.{Paired, agree, begin_fits, begin_plain, begin_split}
 use Rattle.cw_agree.proofs.Fenced.{plan, new_called}
 use Rattle.cw_agree.proofs.Invariants.{Aligned, Inv, invariant}
+use Rattle.cw_model.proofs.Moving.{begin_on}
 
 module _ (policy : PlainPolicy) (s : Source) (fits : Fits s.bytes s.file policy) where
   abbrev p : Problem
@@ -46,7 +47,7 @@ module _ (policy : PlainPolicy) (s : Source) (fits : Fits s.bytes s.file policy)
         plain_fits = begin_fits policy stack;
         woven_fits = begin_fits policy stack;
         split = λ k. sym (begin_split policy stack) ∙ k;
-        stop = λ k. absurd (both_ways (is_refused (begin policy stack)) (begin_unrefused policy stack) k);
+        stop = λ k. absurd (both_ways (is_refused (begin policy stack)) (begin_on policy stack) k);
         inv = inv_start m;
       }
 

@@ -22,6 +22,7 @@ use Rattle.cw_value.specs.Runs.{Going, move_of, answer, counted, told, is_split,
 use Rattle.cw_agree.specs.Agreements.{Agrees}
 use Rattle.cw_agree.proofs.Grows.{run_grows}
 use Rattle.cw_agree.proofs.Plain.{plain, plain_step, TopSaved, step_plain}
+use Rattle.cw_model.proofs.Moving.{onward_on, begin_on}
 
 -- a phase in which the stack is empty exactly where all is over
 abbrev pub Fits : List Frame → Phase → Type 0
@@ -65,14 +66,6 @@ later_split Split later h = refl
 onward_split : (stage : ℕ) (later : List Primitive) → may_split (onward stage later) ≡ has_split later
 onward_split stage [] = refl
 onward_split stage (a ∷ later) = refl
-
-pub onward_unrefused : (stage : ℕ) (later : List Primitive) → is_refused (onward stage later) ≡ false
-onward_unrefused stage [] = refl
-onward_unrefused stage (a ∷ later) = refl
-
-pub begin_unrefused : (policy : PlainPolicy) (stack : List Frame) → is_refused (begin policy stack) ≡ false
-begin_unrefused policy [] = refl
-begin_unrefused policy (frame ∷ frames) = onward_unrefused 0 (primitives_in policy frame)
 
 pub begin_split : (policy : PlainPolicy) (stack : List Frame) → may_split (begin policy stack) ≡ has_split (front_primitives policy stack)
 begin_split policy [] = refl
@@ -187,7 +180,7 @@ module _ (source : Source) (p : Problem) where
   stays_onward b next phase stage a later e q f =
       stays_by b next phase (onward (suc stage) later) e f (λ frame frames. onward_fits frame frames (suc stage) later)
       (λ h. sym q ∙ later_split a later (sym (onward_split (suc stage) later) ∙ h))
-      (λ h. absurd (both_ways (is_refused (onward (suc stage) later)) (onward_unrefused (suc stage) later) h))
+      (λ h. absurd (both_ways (is_refused (onward (suc stage) later)) (onward_on (suc stage) later) h))
 
   pub weave_stays : (b next : Board) (phase : Phase) (m : Move) → b.phase ≡ phase → IsWeaving phase → m ≢ StopMove → moved p b phase m ≡ Some next → Stays b next
   weave_stays b next (Visit i a l) Skip q h ns e = stays_onward b next (Visit i a l) i a l q refl (sym (same_Some (passed_by b i l) next e))
@@ -222,13 +215,13 @@ module _ (source : Source) (p : Problem) where
     stack = ap (λ (x : Board). x.stack) (sym e);
     fits = λ frame frames. subst (λ (x : Phase). Fits (frame ∷ frames) x) (ap (λ (x : Board). x.phase) e) (onward_fits frame frames (suc i) l);
     split = λ h. ap may_split q ∙ (sym (onward_split (suc i) l) ∙ ap (λ (x : Board). may_split x.phase) e ∙ h);
-    stop = λ h. absurd (both_ways (is_refused (onward (suc i) l)) (onward_unrefused (suc i) l) (ap (λ (x : Board). is_refused x.phase) e ∙ h));
+    stop = λ h. absurd (both_ways (is_refused (onward (suc i) l)) (onward_on (suc i) l) (ap (λ (x : Board). is_refused x.phase) e ∙ h));
   }
   grant_stays b next i (Limit m) l q e = record {
     stack = ap (λ (x : Board). x.stack) (sym e);
     fits = λ frame frames. subst (λ (x : Phase). Fits (frame ∷ frames) x) (ap (λ (x : Board). x.phase) e) (onward_fits frame frames (suc i) l);
     split = λ h. ap may_split q ∙ (sym (onward_split (suc i) l) ∙ ap (λ (x : Board). may_split x.phase) e ∙ h);
-    stop = λ h. absurd (both_ways (is_refused (onward (suc i) l)) (onward_unrefused (suc i) l) (ap (λ (x : Board). is_refused x.phase) e ∙ h));
+    stop = λ h. absurd (both_ways (is_refused (onward (suc i) l)) (onward_on (suc i) l) (ap (λ (x : Board). is_refused x.phase) e ∙ h));
   }
 
   may_stop : (b : Board) (a : Primitive) → can_stop p.policy b.caps a ≡ true → p.policy.stop ≡ true
@@ -421,7 +414,7 @@ module _ (source : Source) (p : Problem) where
           plain_fits = subst (λ (z : List Frame). Fits z nx.board.phase) (sym lx.is_stack) (subst (Fits lx.stack) (sym lx.is_phase) (begin_fits p.policy lx.stack));
           woven_fits = subst (λ (z : List Frame). Fits z nt.board.phase) (sym lt.is_stack) (subst (Fits lt.stack) (sym lt.is_phase) (begin_fits p.policy lt.stack));
           split = λ k. ap (λ (z : List Frame). has_split (front_primitives p.policy z)) lt.is_stack ∙ (sym (begin_split p.policy lt.stack) ∙ (sym (ap may_split lt.is_phase) ∙ k));
-          stop = λ k. absurd (both_ways (is_refused (begin p.policy lt.stack)) (begin_unrefused p.policy lt.stack) (sym (ap is_refused lt.is_phase) ∙ k));
+          stop = λ k. absurd (both_ways (is_refused (begin p.policy lt.stack)) (begin_on p.policy lt.stack) (sym (ap is_refused lt.is_phase) ∙ k));
           inv = subst (λ (z : List Frame). Inv z m) (sym lt.is_stack) (inv lt.stack lt.passes);
         }
 

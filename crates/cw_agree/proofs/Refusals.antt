@@ -31,7 +31,8 @@ use Rattle.cw_agree.specs.Agreements.{weaves as comes_weaving, asks as comes_ask
 use Rattle.cw_agree.specs.Laws.{RefusalsAreTaken}
 use Rattle.cw_agree.proofs.Keeps.{Ends as EndsBy, Any, value_quiet, does_keeps}
 use Rattle.cw_agree.proofs.Grows.{Grows, AnyTarget, growing, any_quiet, any_deed}
-use Rattle.cw_agree.proofs.Paired.{leads_moved, lands, stop_refused, onward_unrefused, begin_unrefused}
+use Rattle.cw_agree.proofs.Paired.{leads_moved, lands, stop_refused}
+use Rattle.cw_model.proofs.Moving.{onward_on, begin_on}
 
 -- ---- a step of the program halts at an expression
 
@@ -117,12 +118,12 @@ module _ (source : Source) (p : Problem) where
   refused_by : (c : Bool) (b next : Board) (i : ℕ) (a : Primitive) (l : List Primitive) → record b { phase = cond c (RefusedPhase i a l) (onward (suc i) l) } ≡ next
       → is_refused next.phase ≡ true → c ≡ true
   refused_by true b next i a l e h = refl
-  refused_by false b next i a l e h = absurd (both_ways (is_refused (onward (suc i) l)) (onward_unrefused (suc i) l) (ap (λ (x : Board). is_refused x.phase) e ∙ h))
+  refused_by false b next i a l e h = absurd (both_ways (is_refused (onward (suc i) l)) (onward_on (suc i) l) (ap (λ (x : Board). is_refused x.phase) e ∙ h))
 
   grant_unrefused : (b next : Board) (i : ℕ) (a : Primitive) (l : List Primitive) → granted b i a l ≡ next → is_refused next.phase ≡ true → ⊥
   grant_unrefused b next i Split l e h = both_ways (is_refused next.phase) (ap (λ (x : Board). is_refused x.phase) (sym e)) h
-  grant_unrefused b next i Enter l e h = both_ways (is_refused next.phase) (ap (λ (x : Board). is_refused x.phase) (sym e) ∙ onward_unrefused (suc i) l) h
-  grant_unrefused b next i (Limit m) l e h = both_ways (is_refused next.phase) (ap (λ (x : Board). is_refused x.phase) (sym e) ∙ onward_unrefused (suc i) l) h
+  grant_unrefused b next i Enter l e h = both_ways (is_refused next.phase) (ap (λ (x : Board). is_refused x.phase) (sym e) ∙ onward_on (suc i) l) h
+  grant_unrefused b next i (Limit m) l e h = both_ways (is_refused next.phase) (ap (λ (x : Board). is_refused x.phase) (sym e) ∙ onward_on (suc i) l) h
 
   -- an answer after which the weaver can stop
   answer_refused : (b next : Board) (i : ℕ) (a : Primitive) (l : List Primitive) (m : Move) → answered p b i a l m ≡ Some next → is_refused next.phase ≡ true
@@ -139,9 +140,9 @@ module _ (source : Source) (p : Problem) where
   answer_refused b next i a l StopMove e h = absurd (none-some next e)
 
   weave_unrefused : (b next : Board) (phase : Phase) (m : Move) → IsWeaving phase → m ≢ StopMove → moved p b phase m ≡ Some next → is_refused next.phase ≡ false
-  weave_unrefused b next (Visit i a l) Skip w ns e = ap (λ (x : Board). is_refused x.phase) (sym (same_Some (passed_by b i l) next e)) ∙ onward_unrefused (suc i) l
+  weave_unrefused b next (Visit i a l) Skip w ns e = ap (λ (x : Board). is_refused x.phase) (sym (same_Some (passed_by b i l) next e)) ∙ onward_on (suc i) l
   weave_unrefused b next (Visit i a l) Try w ns e = ap (λ (x : Board). is_refused x.phase) (sym (same_Some (record b { phase = Asked i a l }) next e))
-  weave_unrefused b next (RefusedPhase i a l) Skip w ns e = ap (λ (x : Board). is_refused x.phase) (sym (same_Some (passed_by b i l) next e)) ∙ onward_unrefused (suc i) l
+  weave_unrefused b next (RefusedPhase i a l) Skip w ns e = ap (λ (x : Board). is_refused x.phase) (sym (same_Some (passed_by b i l) next e)) ∙ onward_on (suc i) l
   weave_unrefused b next (Visit i a l) Grant w ns e = absurd (none-some next e)
   weave_unrefused b next (Visit i a l) Refuse w ns e = absurd (none-some next e)
   weave_unrefused b next (Visit i a l) OnMove w ns e = absurd (none-some next e)
@@ -241,7 +242,7 @@ module _ (source : Source) (p : Problem) where
         let l = lands source p t.woven.board next.board t.woven.board.phase way fr (leads_moved source p weaver t.woven (move_of way) next mv) in
         run_refused k (record t { woven = next; machine = m }) v seam (
           comes_stepping t way m next h.0 fr st mv,
-          λ r. absurd (both_ways (is_refused (begin p.policy l.stack)) (begin_unrefused p.policy l.stack) (sym (ap is_refused l.is_phase) ∙ r)),
+          λ r. absurd (both_ways (is_refused (begin p.policy l.stack)) (begin_on p.policy l.stack) (sym (ap is_refused l.is_phase) ∙ r)),
         ) e rest
     run_refused n t v seam h e (halted k _ why m fr st) =
         absurd (subst IsPlaced e (subst Placed st (step_placed source (is_split t.woven.board.phase) t.woven.board.stack t.machine)))
@@ -326,8 +327,8 @@ module _ (s : Source) (p : Problem) (weaver : Option Table) (tries : List Move) 
   start_unrefused : (m : Memory) → is_refused (going_start s p weaver tries m).woven.board.phase ≡ true → ⊥
   start_unrefused m = by_weaver weaver where
     by_weaver : (w : Option Table) → is_refused (going_start s p w tries m).woven.board.phase ≡ true → ⊥
-    by_weaver None r = both_ways (is_refused (begin p.policy (start_stack p.plan))) (begin_unrefused p.policy (start_stack p.plan)) r
-    by_weaver (Some t) r = both_ways (is_refused (begin p.policy (start_stack p.plan))) (begin_unrefused p.policy (start_stack p.plan)) r
+    by_weaver None r = both_ways (is_refused (begin p.policy (start_stack p.plan))) (begin_on p.policy (start_stack p.plan)) r
+    by_weaver (Some t) r = both_ways (is_refused (begin p.policy (start_stack p.plan))) (begin_on p.policy (start_stack p.plan)) r
 
   from_refused : (o : Outcome Done) (v : Values) (seam : SeamId) → StopsPlaced o → v.stop ≡ Refused seam → RunsFrom s p weaver tries o v
       → (m : Memory) × (o ≡ gives done m) × IsRefused s p weaver (going_start s p weaver tries m) v

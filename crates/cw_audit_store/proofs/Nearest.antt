@@ -1,5 +1,5 @@
 -- What waits, by what a heap says of it.
-use Rattle.std.proofs.Common.{◌≡◌, ℕ, List, [], ◌∷◌, false, Option, Some, None, IfNone, map}
+use Rattle.std.proofs.Common.{◌≡◌, ℕ, List, [], ◌∷◌, false, map}
 use Rattle.std.specs.BinaryHeap.{IsUpperBound}
 use Rattle.std.specs.Ordering.{is_lt}
 use Rattle.std.specs.declared.cmp.Reverse.{Reverse}
@@ -10,8 +10,3 @@ use Rattle.cw_audit_store.specs.Nearest.{next_cmp, nearest_cmp, keyed, IsFirst}
 pub first_of : (x : Reverse (ℕ × ℕ)) (ys : List (Reverse (ℕ × ℕ))) → IsUpperBound nearest_cmp x ys → IsFirst (keyed x) (map keyed ys)
 first_of x [] h = All-nil (λ (other : ℕ × ℕ). is_lt (next_cmp other (keyed x)) ≡ false)
 first_of x (y ∷ ys) h = All-cons (λ (other : ℕ × ℕ). is_lt (next_cmp other (keyed x)) ≡ false) (keyed y) (map keyed ys) h.0 (first_of x ys h.1)
-
--- what follows where there is no answer
-pub where_none : {A P Q : Type 0} (o : Option A) → IfNone o P → (P → Q) → IfNone o Q
-where_none (Some x) p f = tt
-where_none None p f = f p

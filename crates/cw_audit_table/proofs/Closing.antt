@@ -1,6 +1,6 @@
 -- The rows of a table that meets the conditions are closed.
 use Rattle.std.proofs.Common.{◌≡◌, ℕ, zero, suc, ◌+◌, ◌<◌, ◌≤◌, List, [], ◌∷◌, ◌++◌, map, length, Bool, true, false, cond, not, ◌&&◌, ◌||◌, Option, Some}
-use Rattle.std.proofs.Common.{None, is_some, option_map}
+use Rattle.std.proofs.Common.{None, is_some}
 use Rattle.std.proofs.Common.{find, nat_eq, nat_lt, refl, sym, ap, ◌∙◌, subst, arith, eqb-true, eq-eqb}
 use Rattle.std.specs.Prelude.{slice_get, nat_le}
 use Rattle.std.specs.List.{list_all, enumerate_from}
@@ -12,8 +12,7 @@ use Rattle.cw_certs.specs.declared.moves.Move.TheVariants.{On, Left, Right, Open
 use Rattle.cw_game.specs.declared.spots.Spot.TheVariants.{Call}
 use Rattle.cw_game.specs.Games.{Game, Config, leads_in, bad_in}
 use Rattle.cw_game.specs.Conditions.{first_failing, is_position, is_state}
-use Rattle.cw_game.proofs.Failing.{first_mapped}
-use Rattle.cw_game.proofs.Goods.{taken, none_first}
+use Rattle.cw_game.proofs.Goods.{taken, none_first, unmapped}
 use Rattle.cw_game.proofs.Truths.{or_parts}
 use Rattle.std.proofs.lemmas.Bool.{and_parts}
 use Rattle.std.proofs.lemmas.Bool.{and_from as both}
@@ -35,14 +34,6 @@ found_at test (y ∷ xs) x e = by (test y) refl e (found_at test xs x)
         → (test x ≡ true) × ((i : ℕ) × (slice_get (y ∷ xs) i ≡ Some x))
     by true t e k = let s = same_Some y x e in (ap test (sym s) ∙ t, (0, e))
     by false t e k = let z = k e in (z.0, (suc z.1.0, z.1.1))
-
--- none of these fails where none of those does, told otherwise
-unmapped : {A B : Type 0} (f : A → B) (cs : List (A × Bool)) → first_failing (map (λ c. (f c.0, c.1)) cs) ≡ None → first_failing cs ≡ None
-unmapped f cs h = by (first_failing cs) refl
-  where
-    by : (o : Option _) → first_failing cs ≡ o → first_failing cs ≡ None
-    by None e = e
-    by (Some a) e = absurd (none-some (f a) (sym h ∙ first_mapped f cs ∙ ap (option_map f) e))
 
 -- what holds of a row, and of a group with its rows, by the conditions
 pub record RowHolds (g : Game) (t : Audit) (grp : PlainGroup) (r : PlainRow) : Type 0 where

@@ -78,7 +78,7 @@ rows_fit old new r e h k = subst (All FitsLine) (sym (rows_push old new r e)) (A
 abbrev pub groups_lines : List Group → List TextLine
 groups_lines groups = flat_map group_lines (map group_of groups)
 
-flat_two : (xs ys : List PlainGroup) → flat_map group_lines (xs ++ ys) ≡ flat_map group_lines xs ++ flat_map group_lines ys
+pub flat_two : (xs ys : List PlainGroup) → flat_map group_lines (xs ++ ys) ≡ flat_map group_lines xs ++ flat_map group_lines ys
 flat_two [] ys = refl
 flat_two (x ∷ xs) ys = ap (λ t. group_lines x ++ t) (flat_two xs ys) ∙ sym (append_assoc (group_lines x) (flat_map group_lines xs) (flat_map group_lines ys))
 

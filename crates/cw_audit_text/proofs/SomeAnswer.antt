@@ -1,5 +1,5 @@
 -- Each text is that of an audit or has a fault: what decides it, line by line.
-use Rattle.std.proofs.Common.{◌≡◌, ◌≢◌, ℕ, zero, suc, ◌+◌, ◌^◌, ◌<◌, ◌⊎◌, Bool, true, false, List, [], ◌∷◌, ◌++◌, length, map, Option, Some, None}
+use Rattle.std.proofs.Common.{◌≡◌, ℕ, zero, suc, ◌+◌, ◌^◌, ◌<◌, ◌⊎◌, Bool, true, false, List, [], ◌∷◌, ◌++◌, length, map, Option, Some, None}
 use Rattle.std.proofs.Common.{refl, sym, ap, ◌∙◌, subst, arith, append-nil, append_assoc, inl, inr}
 use Rattle.std.specs.Prelude.{Result, Ok, Err, bytes_eq}
 use Rattle.std.specs.List.{flat_map, All}
@@ -22,7 +22,7 @@ use Rattle.cw_audit_text.specs.TextLines.{line_text, whole_line, FitsLine}
 use Rattle.cw_audit_text.specs.AuditText.{head_line, verdict_line, row_line, group_lines, body_of, whole_lines, audit_text, HasNoMoves}
 use Rattle.cw_audit_text.specs.Faults.{StartsWith, Begins, MayFollow, IsAnswer, no_head, no_states, no_verdict, no_line, no_end, verdict_of}
 use Rattle.cw_audit_text.proofs.Lines.{one_start, starts_nowhere, starts_otherwise}
-use Rattle.cw_audit_text.proofs.Behind.{begun, is_end, line_more, no_lines, shorter}
+use Rattle.cw_audit_text.proofs.Behind.{begun, is_end, line_more, no_lines, shorter, flat_two}
 
 -- ---- what can be decided
 
@@ -185,10 +185,6 @@ longer g r = record { function = g.function; entered = g.entered; reach = g.reac
 abbrev with_row : PlainGroup → List PlainGroup → PlainRow → List PlainGroup
 with_row g [] r = longer g r ∷ []
 with_row g (h ∷ groups) r = g ∷ with_row h groups r
-
-flat_two : (xs ys : List PlainGroup) → flat_map group_lines (xs ++ ys) ≡ flat_map group_lines xs ++ flat_map group_lines ys
-flat_two [] ys = refl
-flat_two (x ∷ xs) ys = ap (λ t. group_lines x ++ t) (flat_two xs ys) ∙ sym (append_assoc (group_lines x) (flat_map group_lines xs) (flat_map group_lines ys))
 
 row_more : (g : PlainGroup) (groups : List PlainGroup) (r : PlainRow) → flat_map group_lines (with_row g groups r) ≡ flat_map group_lines (g ∷ groups) ++ row_line r ∷ []
 row_more g [] r =

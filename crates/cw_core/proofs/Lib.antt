@@ -5,7 +5,7 @@ mod Glyphs
 mod Hexadecimals
 mod Nibbles
 mod Readings
-mod RunTexts
+pub mod RunTexts
 mod Runs
 pub mod SetTexts
 pub mod Sets

@@ -3,7 +3,7 @@ mod Nodes
 mod Depths
 mod Placing
 pub mod Rules
-mod Kept
+pub mod Kept
 mod Apart
 mod Absent
 pub mod Plain

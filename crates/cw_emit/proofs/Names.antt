@@ -1,7 +1,7 @@
 -- No name of a descriptor of a valid policy has a slash.
-use Rattle.std.proofs.Common.{◌≡◌, ℕ, zero, suc, ◌+◌, ◌<◌, inl, inr, true, false, ltb, eqb, List, [], ◌∷◌, drop, refl, sym, ◌∙◌, subst, arith}
-use Rattle.std.specs.Prelude.{slice_get, nat_eq, codes}
-use Rattle.std.specs.List.{All, list_all, starts_with}
+use Rattle.std.proofs.Common.{◌≡◌, ℕ, zero, suc, ◌+◌, ◌<◌, inl, inr, true, false, ltb, eqb, List, [], ◌∷◌, refl, sym, ◌∙◌, subst, arith}
+use Rattle.std.specs.Prelude.{slice_get, codes}
+use Rattle.std.specs.List.{All, list_all}
 use Rattle.std.proofs.lemmas.Bool.{and_parts, false_from_ne_true, true≢false, eqb-true, eq-eqb}
 use Rattle.std.proofs.lemmas.List.Elements.{All-nil, All-head, All-tail}
 use Rattle.cw_rights.specs.Policies.{PlainDescriptor, PlainPolicy}
@@ -12,6 +12,7 @@ use Rattle.cw_text.specs.LimitsText.{name_if}
 use Rattle.cw_syntax.specs.PlainMarks.{HasNone}
 use Rattle.cw_emit.specs.Woven.{ArePlainNames}
 use Rattle.cw_table_text.proofs.PlainLimits.{start_passes}
+use Rattle.cw_lemmas.proofs.Texts.{nothing_begins}
 
 digit_free : (name : List ℕ) (n : ℕ) → n < 3 → name ≡ (48 + n) ∷ [] → IsFree 47 name
 digit_free name zero lt e = subst (IsFree 47) (sym e) (free_from_test (λ b. ltb 47 b) 47 (48 ∷ []) refl refl)
@@ -33,10 +34,6 @@ named_free : (ds : List PlainDescriptor) (k : ℕ) → All IsValidDescriptor ds 
 named_free [] k all = All-nil (λ (x : ℕ). eqb x 47 ≡ false)
 named_free (d ∷ ds) zero all = name_free d.name (All-head IsValidDescriptor d ds all).name
 named_free (d ∷ ds) (suc k) all = named_free ds k (All-tail IsValidDescriptor d ds all)
-
-nothing_begins : (at : ℕ) → starts_with nat_eq (drop at []) (codes "/") ≡ false
-nothing_begins zero = refl
-nothing_begins (suc at) = refl
 
 pub none_from_free : (bytes : List ℕ) → IsFree 47 bytes → HasNone (codes "/") bytes
 none_from_free [] free at = nothing_begins at

@@ -1,7 +1,7 @@
 -- Arguments, one after the other.
-use Rattle.std.proofs.Common.{◌≡◌, ℕ, ◌+◌, List, [], ◌∷◌, map, length, refl, ap, arith}
+use Rattle.std.proofs.Common.{◌≡◌, ℕ, ◌+◌, List, [], ◌∷◌, map, refl, ap}
 use Rattle.cw_syntax.specs.declared.program.Expr.{Expr}
-use Rattle.cw_syntax.specs.Trees.{declared_of, tree_of, trees_of, count}
+use Rattle.cw_syntax.specs.Trees.{declared_of, tree_of, trees_of}
 use Rattle.cw_value.specs.Expressions.{Scope, Memory, Outcome, gives, stops, ◌and◌, Place, arguments, value}
 use Rattle.cw_syntax.specs.declared.program.Item.{Item}
 use Rattle.cw_value.specs.Declarations.{declares_all, filled}
@@ -19,10 +19,6 @@ arguments_each s [] m = refl
 arguments_each s (e ∷ es) m =
     same_and (argument s (tree_of e) m) (λ a k. arguments s (trees_of es) k and (λ rest l. gives (a ∷ rest) l)) (λ a k. each (λ e. argument s (tree_of e)) es k and (λ rest l. gives (a ∷ rest) l))
     (λ a k. ap (λ o. o and (λ rest l. gives (a ∷ rest) l)) (arguments_each s es k))
-
-pub count_is : (es : List Expr) → count (trees_of es) ≡ length es
-count_is [] = refl
-count_is (e ∷ es) = rw (count_is es) (omega (arith, count_is es))
 
 pub filled_along : (s : Scope) (p : Place) (size i : ℕ) (es : List Expr) (m : Memory) → filled s p size i (trees_of es) m ≡ along (λ i e. listed_at s p size i (tree_of e)) i es m
 filled_along s p size i [] m = refl

@@ -178,7 +178,7 @@ type_begins a b unsigned h = base_starts a [] b unsigned refl h
 
 -- ---- stars
 
-stars_again : (n : ℕ) (a rest : List Lexeme) → AreStars a n → begins w.Star rest ≡ false → stars_of (a ++ rest) ≡ (n, rest)
+pub stars_again : (n : ℕ) (a rest : List Lexeme) → AreStars a n → begins w.Star rest ≡ false → stars_of (a ++ rest) ≡ (n, rest)
 unfolding stars_of
 stars_again zero a rest h e = rw (nothing a h.1, e) refl
 stars_again (suc zero) a rest h e =

@@ -8,20 +8,10 @@ use Rattle.std.specs.Ordering.{ordering_reverse}
 use Rattle.std.specs.declared.cmp.Ordering.{Ordering}
 use Rattle.std.specs.declared.cmp.Ordering.TheVariants.{Less, Equal, Greater}
 use Rattle.std.proofs.lemmas.List.Elements.{Contains-append_left, Contains-append_right, Contains-append_cases}
-use Rattle.cw_lemmas.proofs.Lists.{contains_none, contains_one}
+use Rattle.cw_lemmas.proofs.Lists.{contains_none, contains_one, head_in, tail_in, in_either}
 use Rattle.cw_fixpoint.specs.Closures.{Exactly}
 
 module _ {K : Type 0} where
-  pub head_in : (x : K) (xs : List K) → Contains (x ∷ xs) x
-  head_in x xs = (0, omega arith, refl)
-
-  pub tail_in : (x : K) (xs : List K) (y : K) → Contains xs y → Contains (x ∷ xs) y
-  tail_in x xs y h = let lt = h.1 in (suc h.0, omega (arith, lt), h.2)
-
-  pub in_either : (x : K) (xs : List K) (y : K) → Contains (x ∷ xs) y → (x ≡ y) ⊎ Contains xs y
-  in_either x xs y (zero, lt, e) = inl e
-  in_either x xs y (suc k, lt, e) = inr (k, omega (arith, lt), e)
-
   -- a list without one of its elements
   take_out : (ys : List K) (y : K) → Contains ys y → (zs : List K) × (length ys ≡ suc (length zs)) × ((z : K) → Contains ys z → (z ≡ y → ⊥) → Contains zs z)
   take_out [] y h = absurd (contains_none y h)

@@ -16,7 +16,6 @@ use Rattle.std.proofs.lemmas.Map.Made.{length-from_same_keys}
 use Rattle.std.proofs.lemmas.Map.Views.{Contains-from_any, list_any-from_Contains, btree_set_contains_iff}
 use Rattle.std.proofs.lemmas.Option.{same_Some}
 use Rattle.cw_lemmas.proofs.Lists.{contains_none, contains_one, get_set, get_other}
-use Rattle.cw_lemmas.proofs.Orders.{is_eq_equal}
 use Rattle.cw_lemmas.proofs.Truths.{not_both}
 use Rattle.cw_fixpoint.specs.Closures.{Exactly}
 use Rattle.cw_fixpoint.specs.Seen.{SeenIs, Adds}
@@ -24,6 +23,7 @@ use Rattle.cw_fixpoint.proofs.Existing.{in_order}
 use Rattle.cw_fixpoint.proofs.Keys.{inserted_old, inserted_new, inserted_from}
 use Rattle.cw_fixpoint.specs.Seeing.{named, IsFree, IsHinted, IsSeen}
 use Rattle.cw_fixpoint.proofs.Places.{named_in, named_more, named_last, filtered_from, filtered_to}
+use Rattle.cw_fixpoint.proofs.Numbers.{equal_is}
 
 pub adds_new : {K : Type 0} (keys : List K) (k : K) → Adds keys (keys ++ k ∷ []) (k ∷ [])
 adds_new keys k = record { more = k ∷ []; is = refl; from = λ q c. c; has = λ q c. Contains-append_right keys (k ∷ []) q c }
@@ -45,18 +45,15 @@ seen_none cmp index hints = record {
 }
 
 module _ {K : Type 0} (cmp : K → K → Ordering) (total : IsTotalOrder cmp) (exact : IsAntisymmetric cmp) where
-  equal_is : (x y : K) → eq_by_cmp cmp x y ≡ true → x ≡ y
-  equal_is x y e = exact x y (is_eq_equal (cmp x y) e)
-
   once_more : (keys : List K) (k : K) → IsDistinct (eq_by_cmp cmp) keys → (Contains keys k → ⊥) → IsDistinct (eq_by_cmp cmp) (keys ++ k ∷ [])
   once_more keys k once out = IsDistinct-push (eq_by_cmp_equiv total) keys k once
-      (elim (cases_Bool (list_any (eq_by_cmp cmp k) keys)) [ inl t ↦ absurd (out (Contains-from_any equal_is k keys t)) | inr f ↦ f ])
+      (elim (cases_Bool (list_any (eq_by_cmp cmp k) keys)) [ inl t ↦ absurd (out (Contains-from_any (equal_is cmp total exact) k keys t)) | inr f ↦ f ])
 
   same_length : (xs ys : List K) → IsDistinct (eq_by_cmp cmp) xs → IsDistinct (eq_by_cmp cmp) ys → ((x : K) → (Contains xs x → Contains ys x) × (Contains ys x → Contains xs x)) → length xs ≡ length ys
   same_length xs ys d e same = length-from_same_keys (eq_by_cmp_equiv total) xs ys d e
       (λ q. both_ways (is_member (eq_by_cmp cmp) xs q) (is_member (eq_by_cmp cmp) ys q)
-      (λ t. list_any-from_Contains (eq_by_cmp_equiv total) q ys ((same q).0 (Contains-from_any equal_is q xs t)))
-      (λ t. list_any-from_Contains (eq_by_cmp_equiv total) q xs ((same q).1 (Contains-from_any equal_is q ys t))))
+      (λ t. list_any-from_Contains (eq_by_cmp_equiv total) q ys ((same q).0 (Contains-from_any (equal_is cmp total exact) q xs t)))
+      (λ t. list_any-from_Contains (eq_by_cmp_equiv total) q xs ((same q).1 (Contains-from_any (equal_is cmp total exact) q ys t))))
 
   pub as_many : (keys v : List K) → IsDistinct (eq_by_cmp cmp) keys → Exactly cmp (Contains keys) v → length v ≡ length keys
   as_many keys v once e = same_length v keys (IsDistinct-from_sorted cmp v e.0) once (λ x. e.1 x)

@@ -5,8 +5,7 @@ use Rattle.std.specs.List.{Contains, cons_option}
 use Rattle.std.proofs.lemmas.List.{take_more}
 use Rattle.std.proofs.lemmas.List.Elements.{filter_map-append}
 use Rattle.std.proofs.lemmas.Option.{none-some, same_Some}
-use Rattle.cw_lemmas.proofs.Lists.{contains_none, get_contains, get_front, get_last}
-use Rattle.cw_fixpoint.proofs.Existing.{head_in, tail_in, in_either}
+use Rattle.cw_lemmas.proofs.Lists.{contains_none, get_contains, get_front, get_last, head_in, tail_in, in_either}
 use Rattle.cw_fixpoint.specs.Seeing.{named}
 
 -- the key that a hint names

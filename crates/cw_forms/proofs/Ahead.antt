@@ -16,10 +16,10 @@ use Rattle.cw_lex.specs.declared.piece.Front.TheVariants as piece
 use Rattle.cw_lex.specs.Bytes.{is_white, is_blank, is_line_byte, is_letter, is_digit, is_name_byte, is_number_byte, is_octal_digit, is_hexadecimal_digit}
 use Rattle.cw_lex.specs.Keywords.{is_keyword}
 use Rattle.cw_lex.specs.Numbers.{is_number}
-use Rattle.cw_lex.specs.Characters.{Spelled, longer, spelled, escape_at, item_at, closed, character_len, more_by, text_len}
+use Rattle.cw_lex.specs.Characters.{Spelled, spelled, escape_at, item_at, closed, character_len, more_by, text_len}
 use Rattle.cw_lex.specs.Marks.{three_byte_marks, two_byte_marks, one_byte_marks, begins, mark_len}
 use Rattle.cw_lex.specs.Pieces.{word, number, quoted, to_close, comment, is_include, line, directive, mark, piece_at, size}
-use Rattle.cw_lex.proofs.Alone.{both, chosen, more_is, by_item, text_long}
+use Rattle.cw_lex.proofs.Alone.{both, chosen, more_is, by_item, text_long, longer_cut}
 use Rattle.cw_lex.proofs.Tokened.{no_directive}
 
 -- A byte stands where another one stood: the same, or `{` where it was no line feed.
@@ -83,10 +83,6 @@ while_all q w a b r s brace f long =
 
 -- ---- items
 
-longer_is : (more : ℕ) (o : Option Spelled) (x : Spelled) → longer more o ≡ Some x → (y : Spelled) × (o ≡ Some y) × (y.1 + more ≡ x.1)
-longer_is more None x e = absurd cc
-longer_is more (Some y) x e = (y, refl, cc)
-
 spelled_is : (base : ℕ) (ds : List ℕ) (x : Spelled) → spelled base ds ≡ Some x → length ds ≡ x.1
 spelled_is base [] x e = absurd cc
 spelled_is base (d ∷ ds) x e = chosen (leb (digits_value base (d ∷ ds)) 255) _ _ (Some x) _ (λ t h. cc) (λ t h. absurd cc) e
@@ -120,24 +116,18 @@ spelled_few base q m u x y it e lt =
     let long = spelled_is base (take_while q (take m (u ++ x))) it e in
     rw (while_few q m u x y (omega arith)) e
 
-longer_few : (o p : Option Spelled) (it : Spelled) → ((z : Spelled) → o ≡ Some z → z.1 + 1 ≡ it.1 → p ≡ Some z) → longer 1 o ≡ Some it → longer 1 p ≡ Some it
-longer_few o p it same e =
-    let z = longer_is 1 o it e in
-    let q : p ≡ o = same z.0 z.1 z.2 ∙ sym z.1 in
-    ap (longer 1) q ∙ e
-
 escape_few : (u x y : List ℕ) (it : Spelled) → escape_at (u ++ x) ≡ Some it → it.1 < length u → escape_at (u ++ y) ≡ Some it
 unfolding escape_at
 escape_few [] x y it e lt = absurd (omega arith)
 escape_few (c ∷ u) x y it e lt = both (is_octal_digit c) _ _ _ _ (Some it) (λ h. spelled_few 8 is_octal_digit 3 (c ∷ u) x y it h lt) (λ h.
-    both (eqb c 120) _ _ _ _ (Some it) (λ g. longer_few (spelled 16 (take_while is_hexadecimal_digit (take 2 (u ++ x))))
+    both (eqb c 120) _ _ _ _ (Some it) (λ g. longer_cut (spelled 16 (take_while is_hexadecimal_digit (take 2 (u ++ x))))
     (spelled 16 (take_while is_hexadecimal_digit (take 2 (u ++ y)))) it (λ z is long. spelled_few 16 is_hexadecimal_digit 2 u x y z is (omega arith)) g) (λ g. g) h) e
 
 item_few : (q : ℕ) (u x y : List ℕ) (it : Spelled) → item_at q (u ++ x) ≡ Some it → it.1 < length u → item_at q (u ++ y) ≡ Some it
 unfolding item_at
 item_few q [] x y it e lt = absurd (omega arith)
 item_few q (c ∷ u) x y it e lt = both (eqb c q || eqb c 10) _ _ _ _ (Some it) (λ h. h) (λ h.
-    both (eqb c 92) _ _ _ _ (Some it) (λ g. longer_few (escape_at (u ++ x)) (escape_at (u ++ y)) it (λ z is long. escape_few u x y z is (omega arith)) g) (λ g. g) h) e
+    both (eqb c 92) _ _ _ _ (Some it) (λ g. longer_cut (escape_at (u ++ x)) (escape_at (u ++ y)) it (λ z is long. escape_few u x y z is (omega arith)) g) (λ g. g) h) e
 
 closed_few : (v x y : List ℕ) (o : Option Spelled) → item_at 39 (v ++ x) ≡ o → closed (v ++ x) o ≡ Some (length v) → closed (v ++ y) (item_at 39 (v ++ y)) ≡ Some (length v)
 closed_few v x y None is e = absurd cc

@@ -28,6 +28,7 @@ use Rattle.cw_forms.specs.Statements.{standing, SameWhole, IsFork, IsExit, SameF
 use Rattle.cw_forms.proofs.Observed.{pairs_both, listed_pairs}
 use Rattle.cw_forms.proofs.Trees.{NoneAll, none_of, of_none, none_split, none_join, none_pairs, no_place, place_none, call_of, is_name_op, same_call, nodes_alike, nodes_in_alike}
 use Rattle.cw_forms.proofs.Lists.{AllOf, wholes_made, locals_pairs}
+use Rattle.cw_lemmas.proofs.Options.{option_map_none}
 
 neither : (a b : Option DescriptorFault) → option_or a b ≡ None → (a ≡ None) × (b ≡ None)
 neither None b e = (refl, e)
@@ -35,10 +36,6 @@ neither (Some x) b e = absurd (cc)
 
 of_neither : (a b : Option DescriptorFault) → a ≡ None → b ≡ None → option_or a b ≡ None
 of_neither a b e f = rw (e, f) refl
-
-unmapped : (F : ℕ → DescriptorFault) (o : Option ℕ) → option_map F o ≡ None → o ≡ None
-unmapped F None e = refl
-unmapped F (Some x) e = absurd (cc)
 
 -- a place that no item has
 position_none : (p q : PlainDescriptor → Bool) → ((x : PlainDescriptor) → p x ≡ false → q x ≡ false) → (i : ℕ) (xs : List PlainDescriptor) → position_from p i xs ≡ None → position_from q i xs ≡ None
@@ -451,6 +448,6 @@ module _ (source form : List ℕ) where
         let two = neither (option_map NoVariable (first_undeclared source (entries file) policy.descriptors)) (option_map Shadowed (first_shadowed source (locals file) policy.descriptors)) both.0 in
         of_neither _ _
         (of_neither _ _
-        (ap (option_map NoVariable) (undeclared_none policy.descriptors (unmapped NoVariable (first_undeclared source (entries file) policy.descriptors) two.0)))
-        (ap (option_map Shadowed) (shadowed_none policy.descriptors (unmapped Shadowed (first_shadowed source (locals file) policy.descriptors) two.1))))
-        (ap (option_map Misuse) (misuses_none (names_of policy) (unmapped Misuse (least_misuse (scene_under policy source file) file) both.1)))
+        (ap (option_map NoVariable) (undeclared_none policy.descriptors (option_map_none NoVariable (first_undeclared source (entries file) policy.descriptors) two.0)))
+        (ap (option_map Shadowed) (shadowed_none policy.descriptors (option_map_none Shadowed (first_shadowed source (locals file) policy.descriptors) two.1))))
+        (ap (option_map Misuse) (misuses_none (names_of policy) (option_map_none Misuse (least_misuse (scene_under policy source file) file) both.1)))

@@ -7,7 +7,7 @@ use Rattle.std.specs.Option.{unwrap_or}
 use Rattle.std.specs.Str.{bytes_eq}
 use Rattle.std.proofs.lemmas.Bool.{and_parts}
 use Rattle.std.proofs.lemmas.Slice.Eq.{bytes_eq-Decides}
-use Rattle.std.proofs.lemmas.List.{append-nil, append_assoc, take-append-drop, length-take-le, map-append, take-append-le, take_all}
+use Rattle.std.proofs.lemmas.List.{append-nil, append_assoc, length-take-le, map-append, take-append-le, take_all}
 use Rattle.std.proofs.Math.Seq.{take-append-add, drop-append_seam}
 use Rattle.cw_syntax.specs.Names.{slice}
 use Rattle.cw_lex.specs.declared.tokens.TokenKind.{TokenKind}
@@ -31,6 +31,7 @@ use Rattle.cw_detach.specs.Form.{before, behind}
 use Rattle.cw_forms.specs.Spans.{spans_of, with_texts}
 use Rattle.cw_forms.proofs.Ahead.{any_line, no_feed}
 use Rattle.cw_forms.proofs.Standing.{total, stand_both, tokens_both, stand_ahead, reach, drop_on, slice_take, read_at, tokens_read, tokens_same, same_lexeme}
+use Rattle.cw_detach.proofs.Kept.{slice_behind}
 
 -- ---- a `;`
 
@@ -283,12 +284,6 @@ unfolding piece_at
 some_bytes f [] k n e = absurd cc
 some_bytes f (a ∷ r) k n e = (a, r, refl)
 
-slice_on : (source : List ℕ) (a b : ℕ) → a ≤ b → slice source a b ++ drop b source ≡ drop a source
-slice_on source a b le =
-    let same : a + (b - a) ≡ b = omega arith in
-    let there : drop b source ≡ drop (b - a) (drop a source) = sym (drop-drop (b - a) a source ∙ ap (λ n. drop n source) same) in
-    ap (λ l. slice source a b ++ l) there ∙ take-append-drop (b - a) (drop a source)
-
 slice_long : (source : List ℕ) (a b : ℕ) → b ≤ length source → length (slice source a b) ≡ b - a
 slice_long source a b le = length-take-le (b - a) (drop a source) (omega (arith, length-drop a source))
 
@@ -334,7 +329,7 @@ module _ (source form : List ℕ) where
   semi_slice a k e z le next in_source here =
       let m = slice source a k in
       let long : length m ≡ k - a = slice_long source a k (omega arith) in
-      let whole : drop a source ≡ m ++ 59 ∷ drop e source = sym (slice_on source a k le) ∙ ap (λ (l : List ℕ). m ++ l) here in
+      let whole : drop a source ≡ m ++ 59 ∷ drop e source = sym (slice_behind source a k le) ∙ ap (λ (l : List ℕ). m ++ l) here in
       let count : e - a ≡ length m + 1 = omega arith in
       let cut : slice source a e ≡ m ++ 59 ∷ [] = ap (λ (n : ℕ). take n (drop a source)) count ∙ ap (take (length m + 1)) whole ∙ take-append-add m (59 ∷ drop e source) 1 in
       ap (λ (l : List ℕ). l ++ z) cut ∙ append_assoc m (59 ∷ []) z
@@ -434,7 +429,7 @@ module _ (source form : List ℕ) where
       let stand1 : Stand f (slice source at t.from ++ X2) r.front r.fresh X2 =
       brace_ahead r.front f r.fresh (slice source at t.from) t_bytes.0 t_bytes.1 X3 feed (omega (arith, place1, long1))
       (subst (λ (z : List ℕ). Stand f (slice source at t.from ++ z) r.front r.fresh z) t_bytes.2 (subst (λ (z : List ℕ). Stand f z r.front r.fresh (drop t.from source)) (sym
-      (slice_on source at t.from at_t)) r.stand)) in
+      (slice_behind source at t.from at_t)) r.stand)) in
       let p1 = same_part r.front f r.fresh at d t.from xs [] X2 at_t (omega (arith, t_in)) place1 there stand1 (ap (lexemes_of source) r.tokens ∙ first_is) in
       let p2 = at_place form (t.from + d) (t.from + d) r.fresh X2 (opened (t.from + d)) (t.from + d + 13) (t.from + (d + 13)) false X3 refl (omega arith) (opens_at form
       (t.from + d) r.fresh X3 there2) in
@@ -445,7 +440,7 @@ module _ (source form : List ℕ) where
       let stand3 : Stand false X3 own r2.fresh (59 ∷ X4) =
       stand_ahead own false r2.fresh m0 59 59 (drop c.to source) X4 (inl refl) (omega (arith, own_long, long2))
       (subst (λ (z : List ℕ). Stand false (m0 ++ z) own r2.fresh z) at_semi (subst (λ (z : List ℕ). Stand false z own r2.fresh (drop c.from source)) (sym
-      (slice_on source t.from c.from t_c)) own_stand)) in
+      (slice_behind source t.from c.from t_c)) own_stand)) in
       let own_words : lexemes_of source (tokens_of t.from own) ≡ lexeme_of source t ∷ ys = first_token t r.long r2.front ys r.end (ap (lexemes_of source) r2.tokens ∙ inner_is) in
       let p3 = same_part own false r2.fresh t.from (d + 13) c.from (lexeme_of source t ∷ ys) [] (59 ∷ X4) t_c (omega (arith, c_in)) own_long there3 stand3 own_words in
       let p4 : Lexed form (c.from + (d + 13)) r2.fresh (59 ∷ X4) (moved (d + 13) (lexeme_of source c) ∷ []) (c.to + (d + 13)) false X4 = record {

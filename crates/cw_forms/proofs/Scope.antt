@@ -30,12 +30,10 @@ use Rattle.cw_forms.proofs.Trees.{NoneAll, none_of, of_none, none_split, none_jo
 use Rattle.cw_forms.proofs.Trees.{same_plain, nodes_alike, nodes_in_alike, counts_alike, both_some, any_calls_alike, call_if_none, calls_long, second_none, statement_call_alike}
 use Rattle.cw_forms.proofs.Lists.{AllOf, if_name, filter_none, none_filter, loose, jumps_stand, wholes_made, statements_stand, labels_stand, node_rule, globals_pairs, locals_pairs}
 use Rattle.cw_forms.proofs.Lists.{every_label_pairs, places_pairs, found_same}
+use Rattle.cw_lemmas.proofs.Options.{option_map_none}
+use Rattle.cw_source.proofs.Kept.{neither as parted}
 
 -- ---- rules one after the other
-
-parted : (a b : Option ScopeFault) → a or_else b ≡ None → (a ≡ None) × (b ≡ None)
-parted None b e = (refl, e)
-parted (Some x) b e = absurd (cc)
 
 abbrev Nine : (a b c d e f g h i : Option ScopeFault) → Type 0
 Nine a b c d e f g h i = (a ≡ None) × (b ≡ None) × (c ≡ None) × (d ≡ None) × (e ≡ None) × (f ≡ None) × (g ≡ None) × (h ≡ None) × (i ≡ None)
@@ -54,10 +52,6 @@ nine_of a b c d e f g h i kept =
 
 of_nine : (a b c d e f g h i : Option ScopeFault) → Nine a b c d e f g h i → a or_else b or_else c or_else d or_else e or_else f or_else g or_else h or_else i ≡ None
 of_nine a b c d e f g h i (p, q, r, s, t, u, v, x, y) = rw (p, q, r, s, t, u, v, x, y) refl
-
-unmapped : {X : Type 0} (F : X → ScopeFault) (o : Option X) → option_map F o ≡ None → o ≡ None
-unmapped F None e = refl
-unmapped F (Some x) e = absurd (cc)
 
 remapped : {X : Type 0} (F : X → ScopeFault) (o : Option X) → o ≡ None → option_map F o ≡ None
 remapped F o e = ap (option_map F) e
@@ -131,11 +125,11 @@ module _ (source form : List ℕ) where
     unfolding two_functions
     functions_once e =
         let names = pairs_map (SameFunction source form) SN (λ f. f.name) (λ f. f.name) (λ x y s. s.1.0) file.functions made.functions same.functions in
-        remapped TwoFunctions (second_function form made) (repeated_none [] _ _ names (unmapped TwoFunctions (second_function source file) e))
+        remapped TwoFunctions (second_function form made) (repeated_none [] _ _ names (option_map_none TwoFunctions (second_function source file) e))
 
     labels_once : two_labels source file ≡ None → two_labels form made ≡ None
     unfolding two_labels
-    labels_once e = remapped TwoLabels (second_label form made.functions) (labels_none file.functions made.functions same.functions (unmapped TwoLabels (second_label source file.functions) e))
+    labels_once e = remapped TwoLabels (second_label form made.functions) (labels_none file.functions made.functions same.functions (option_map_none TwoLabels (second_label source file.functions) e))
 
     -- as many arguments as parameters
     abbrev arity_of : List ℕ → File → Option Name → Trees → ℕ → Option ℕ
@@ -194,7 +188,7 @@ module _ (source form : List ℕ) where
         remapped Arity (soonest (map (wrong_arity form made) (every_node made)))
         (of_none (wrong_arity form made) (every_node made)
         (on_nodes (wrong_arity source file) (wrong_arity form made) arity_none arity_fork arity_exit
-        (none_of (wrong_arity source file) (every_node file) (unmapped Arity (soonest (map (wrong_arity source file) (every_node file))) e))))
+        (none_of (wrong_arity source file) (every_node file) (option_map_none Arity (soonest (map (wrong_arity source file) (every_node file))) e))))
 
     -- `main` isn't called
     main_none : (t u : Tree) → L t u → main_call source t ≡ None → main_call form u ≡ None
@@ -211,7 +205,7 @@ module _ (source form : List ℕ) where
     main_not_called e =
         remapped MainCalled (soonest (map (main_call form) (every_node made)))
         (of_none (main_call form) (every_node made)
-        (on_nodes (main_call source) (main_call form) main_none main_fork main_exit (none_of (main_call source) (every_node file) (unmapped MainCalled (soonest (map (main_call source)
+        (on_nodes (main_call source) (main_call form) main_none main_fork main_exit (none_of (main_call source) (every_node file) (option_map_none MainCalled (soonest (map (main_call source)
         (every_node file))) e))))
 
     -- names
@@ -260,7 +254,7 @@ module _ (source form : List ℕ) where
     reserved_kept : reserved_name source (every_name file) ≡ None → reserved_name form (every_name made) ≡ None
     unfolding reserved_name
     reserved_kept e =
-        let all = none_of (reserved source) (every_name file) (unmapped Reserved (soonest (map (reserved source) (every_name file))) e) in
+        let all = none_of (reserved source) (every_name file) (option_map_none Reserved (soonest (map (reserved source) (every_name file))) e) in
         let three = none_split (reserved source) (uses file ++ function_places file) (filter_map called_name (every_node file)) all in
         let two = none_split (reserved source) (uses file) (function_places file) three.0 in
         let calls : NoneAll (reserved form) (filter_map called_name (every_node made)) =
@@ -368,7 +362,7 @@ module _ (source form : List ℕ) where
     unfolding call_form
     call_forms e =
         let both = neither (soonest (map (function_name source file) (uses file))) (soonest (map (wrong_form source file) (every_whole file)))
-        (unmapped CallForm (sooner (soonest (map (function_name source file) (uses file))) (soonest (map (wrong_form source file) (every_whole file)))) e) in
+        (option_map_none CallForm (sooner (soonest (map (function_name source file) (uses file))) (soonest (map (wrong_form source file) (every_whole file)))) e) in
         let first = of_none (function_name form made) (uses made) (used_names (function_name source file) (function_name form made) function_name_none (none_of (function_name source file)
         (uses file) both.0)) in
         let wholes = wholes_made source form (λ w. wrong_form source file w ≡ None) (λ v. wrong_form form made v ≡ None) form_none form_fork form_exit file made same
@@ -384,7 +378,7 @@ module _ (source form : List ℕ) where
         remapped Jump (soonest (map (loose source form) (every_statement made)))
         (of_none (loose source form) (every_statement made)
         (jumps_stand source form (every_statement file) (every_statement made) (statements_stand source form file.functions made.functions same.functions)
-        (none_of (loose source form) (every_statement file) (unmapped Jump (soonest (map (loose source form) (every_statement file))) e))))
+        (none_of (loose source form) (every_statement file) (option_map_none Jump (soonest (map (loose source form) (every_statement file))) e))))
 
     limits_kept : limit source file (every_label file) ≡ None → limit form made (every_label made) ≡ None
     unfolding limit

@@ -1,5 +1,5 @@
 -- What meets the numbered conditions is closed.
-use Rattle.std.proofs.Common.{◌≡◌, ℕ, zero, suc, ◌+◌, ◌<◌, ◌≤◌, List, [], ◌∷◌, ◌++◌, map, length, Bool, true, false, cond, not, ◌&&◌, ◌||◌, Option, Some, None, is_some, option_map}
+use Rattle.std.proofs.Common.{◌≡◌, ℕ, zero, suc, ◌+◌, ◌<◌, List, [], ◌∷◌, ◌++◌, map, length, Bool, true, false, cond, not, ◌&&◌, ◌||◌, Option, Some, None, is_some, option_map}
 use Rattle.std.proofs.Common.{find, nat_eq, nat_lt, refl, sym, ap, ap₂, ◌∙◌, subst, arith, eqb-true, eq-eqb}
 use Rattle.std.specs.Prelude.{slice_get}
 use Rattle.std.specs.List.{list_all, list_any, enumerate_from, range_with_len}
@@ -46,11 +46,11 @@ none_first (c ∷ xs) ys h =
     let r = none_first xs ys k.1 in
     (ap (λ b. cond b (first_failing xs) (Some c.0)) k.0 ∙ r.0, r.1)
 
-none_mapped : {A B : Type 0} (f : A → B) (cs : List (A × Bool)) → first_failing (map (λ c. (f c.0, c.1)) cs) ≡ None → first_failing cs ≡ None
-none_mapped f [] h = refl
-none_mapped f (c ∷ cs) h =
+pub unmapped : {A B : Type 0} (f : A → B) (cs : List (A × Bool)) → first_failing (map (λ c. (f c.0, c.1)) cs) ≡ None → first_failing cs ≡ None
+unmapped f [] h = refl
+unmapped f (c ∷ cs) h =
     let k = taken c.1 (first_failing (map (λ c. (f c.0, c.1)) cs)) (f c.0) h in
-    ap (λ b. cond b (first_failing cs) (Some c.0)) k.0 ∙ none_mapped f cs k.1
+    ap (λ b. cond b (first_failing cs) (Some c.0)) k.0 ∙ unmapped f cs k.1
 
 pub all_in : {A : Type 0} (part : Part) (test : A → Bool) (n : ℕ) (rows : List A) → first_failing (map (λ r. (fault_at part r.0 1, test r.1)) (enumerate_from n rows)) ≡ None
     → list_all test rows ≡ true
@@ -191,7 +191,7 @@ module _ (g : Game) (t : Table) where
       let w = and_parts (is_position g r.0.0) (is_memory t r.1) l.0 in
       let m = some_at t.mems r.1.0 w.1 in
       both (row_ok_by g t r.0.0 r.1.0 (slice_get t.mems r.1.0)) (rows_ok g t rows)
-      (row_good r.0.0 r.1.0 m.0 (slice_get t.mems r.1.0) m.1 w.0 (none_mapped (λ c. fault_at InLive n c) (live_by g t r.0.0 r.1.0 (slice_get t.mems r.1.0)) k.0))
+      (row_good r.0.0 r.1.0 m.0 (slice_get t.mems r.1.0) m.1 w.0 (unmapped (λ c. fault_at InLive n c) (live_by g t r.0.0 r.1.0 (slice_get t.mems r.1.0)) k.0))
       (rows_good (n + 1) rows l.1 k.1)
 
   live_in_range : first_failing (ranges g t) ≡ None → list_all (is_live_row g t) t.live ≡ true
@@ -398,7 +398,7 @@ module _ (g : Game) (s : Strategy) where
   rows_hold n [] h i r e = absurd (none-some r e)
   rows_hold n (y ∷ rows) h zero r e =
       let k = none_first (map (λ c. (fault_in n c.0, c.1)) (row_conditions g s n y (slice_get g.spots y.pos))) (all_rows g s (enumerate_from (n + 1) rows)) h in
-      let z = none_mapped (λ c. fault_in n c) (row_conditions g s n y (slice_get g.spots y.pos)) k.0 in
+      let z = unmapped (λ c. fault_in n c) (row_conditions g s n y (slice_get g.spots y.pos)) k.0 in
       subst (λ (m : ℕ). first_failing (row_conditions g s m r (slice_get g.spots r.pos)) ≡ None) (omega arith)
       (subst (λ (y : Row). first_failing (row_conditions g s n y (slice_get g.spots y.pos)) ≡ None) (same_Some y r e) z)
   rows_hold n (y ∷ rows) h (suc i) r e =

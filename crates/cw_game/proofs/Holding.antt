@@ -11,13 +11,13 @@ pub use Rattle.cw_game.specs.Staying.{AreClosed}
 abbrev pub Gives : Bool → Bool → Type 0
 Gives a b = a ≡ true → b ≡ true
 
-gives_or : (a b c d : Bool) → Gives a c → Gives b d → Gives (a || b) (c || d)
+pub gives_or : (a b c d : Bool) → Gives a c → Gives b d → Gives (a || b) (c || d)
 gives_or true b c d f g h = ap (λ z. z || d) (f refl)
 gives_or false true true d f g h = refl
 gives_or false true false d f g h = g refl
 gives_or false false c d f g h = cc
 
-gives_and : (a b c d : Bool) → Gives a c → Gives b d → Gives (a && b) (c && d)
+pub gives_and : (a b c d : Bool) → Gives a c → Gives b d → Gives (a && b) (c && d)
 gives_and true true c d f g h = ap₂ (λ y z. y && z) (f refl) (g refl)
 gives_and true false c d f g h = cc
 gives_and false b c d f g h = cc

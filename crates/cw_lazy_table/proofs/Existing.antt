@@ -9,14 +9,14 @@ use Rattle.std.proofs.lemmas.Bool.{and_parts}
 use Rattle.std.proofs.lemmas.Cmp.{nat_cmp_total, on_total, then_total}
 use Rattle.std.proofs.lemmas.List.Elements.{Contains-append_left, Contains-append_right, Contains-append_cases}
 use Rattle.std.proofs.lemmas.List.FromFn.{length-range_with_len, get_or-range_with_len}
-use Rattle.cw_lemmas.proofs.Lists.{contains_none, contains_one, contains_map}
+use Rattle.cw_lemmas.proofs.Lists.{contains_none, contains_one, contains_map, head_in}
 use Rattle.cw_lemmas.proofs.Orders.{then_equal}
 use Rattle.cw_certs.specs.Ascending.{mem_cmp}
 use Rattle.cw_certs.specs.Tables.{Table, table_with}
 use Rattle.cw_certs.proofs.Orders.{mem_total}
 use Rattle.cw_fixpoint.specs.Closures.{Exactly}
 use Rattle.cw_fixpoint.specs.Members.{Rules, IsMember, first, then, joins, IsPair, pair_cmp}
-use Rattle.cw_fixpoint.proofs.Existing.{head_in, in_order, closed_in, in_flat, of_flat}
+use Rattle.cw_fixpoint.proofs.Existing.{in_order, closed_in, in_flat, of_flat}
 use Rattle.cw_game.specs.Games.{Game}
 use Rattle.cw_game.specs.Pairs.{all_states}
 use Rattle.cw_solve.specs.Contexts.{context}

@@ -1,13 +1,12 @@
 -- The rows of keys in order are the lists of the table.
-use Rattle.std.proofs.Common.{◌≡◌, inl, inr, ⊎_elim, ℕ, ◌<◌, List, [], ◌∷◌, map, filter_map, Bool, true, false, cond, Option, Some, None, option_map, nat_eq, refl, sym, ap}
-use Rattle.std.proofs.Common.{ap₂, ◌∙◌, subst, arith}
+use Rattle.std.proofs.Common.{◌≡◌, inl, inr, ⊎_elim, ℕ, List, [], ◌∷◌, map, filter_map, Bool, true, false, cond, Option, Some, None, option_map, nat_eq, refl, sym, ap}
+use Rattle.std.proofs.Common.{ap₂, ◌∙◌, subst}
 use Rattle.std.specs.Prelude.{slice_get}
 use Rattle.std.specs.List.{Contains, AllByRecursion, cons_option}
 use Rattle.std.specs.List.Sorted.{IsStrictlySortedBy}
 use Rattle.std.specs.declared.cmp.Ordering.{Ordering}
 use Rattle.std.specs.declared.cmp.Ordering.TheVariants.{Less, Equal, Greater}
 use Rattle.std.specs.Ordering.{ordering_then, nat_cmp, bool_cmp}
-use Rattle.std.proofs.lemmas.Bool.Decides.{nat_tests}
 use Rattle.std.proofs.lemmas.Option.{same_Some}
 use Rattle.std.specs.FinMap.{nat_cmp-IsAntisymmetric}
 use Rattle.cw_certs.specs.Ascending.{mem_cmp, live_cmp, try_cmp, at_cmp, open_cmp, into_cmp, back_cmp}
@@ -32,7 +31,7 @@ use Rattle.cw_lazy_table.proofs.Finding.{In, in_of, of_in}
 use Rattle.cw_lazy_table.proofs.Numbers.{mem_less}
 use Rattle.cw_lazy_table.proofs.Placing.{asked_there, label_there, open_there, close_there, call_there, less_first, then_equal, tied_nat, not_less_same, split_parts}
 use Rattle.cw_lazy_table.proofs.Rowing.{meant, try_to, try_from, label_to, label_from, close_to, close_from, open_to, open_from, into_to, into_from, back_to, back_from, live_to, live_from}
-use Rattle.cw_lemmas.proofs.Orders.{then_equal as both_equal, then_less}
+use Rattle.cw_lemmas.proofs.Orders.{then_equal as both_equal, then_less, less_nat}
 
 module _ {A : Type 0} where
   all_by : (P : A → Type 0) (xs : List A) → ((x : A) → In xs x → P x) → AllByRecursion P xs
@@ -127,9 +126,6 @@ longer Greater p m e h = cc
 
 without : (s p m : Ordering) → p ≡ Equal → ordering_then s (ordering_then p m) ≡ Less → ordering_then s m ≡ Less
 without s p m e h = ap (λ o. ordering_then s o) (sym (then_equal p m e)) ∙ h
-
-pub less_nat : (a b : ℕ) → a < b → nat_cmp a b ≡ Less
-less_nat a b l = grind (arith, nat_tests)
 
 same_placed : (a b c d e k l m n o : ℕ) → a ≡ k → b ≡ l → c ≡ m → d ≡ n → e ≡ o
     → ◌≡◌ {A = Placed} (record { seam = a; part = b; state = c; promise = d; pos = e }) (record { seam = k; part = l; state = m; promise = n; pos = o })

@@ -35,9 +35,10 @@ use Rattle.cw_lazy_table.specs.Numbered.{whole, whole_pair, small, lost_by, set_
 use Rattle.cw_lazy_table.specs.Places.{key_cmp}
 use Rattle.cw_lazy_table.proofs.Choosing.{safe_at, set_full}
 use Rattle.cw_lazy_table.proofs.Finding.{of_in}
-use Rattle.cw_lazy_table.proofs.Listing.{rows_exactly, sorted_map, less_nat}
+use Rattle.cw_lazy_table.proofs.Listing.{rows_exactly, sorted_map}
 use Rattle.cw_lazy_table.proofs.Renaming.{AreNamed, named_member, member_named, named_pair, pair_named}
 use Rattle.cw_lazy_table.proofs.Returning.{alive, ended_at}
+use Rattle.cw_lemmas.proofs.Orders.{less_nat}
 
 cons_map : {A B : Type 0} (f : A → B) (o : Option A) (xs : List A) → cons_option (option_map f o) (map f xs) ≡ map f (cons_option o xs)
 cons_map f None xs = refl

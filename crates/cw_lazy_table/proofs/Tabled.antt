@@ -1,6 +1,5 @@
 -- The lists of what is live are those of the lazy table.
-use Rattle.std.proofs.Common.{◌≡◌, ℕ, ◌<◌, List, map, filter_map, length, Result, Ok, Err, sym, ap₂, subst, arith}
-use Rattle.std.specs.Prelude.{IfOk}
+use Rattle.std.proofs.Common.{◌≡◌, ℕ, ◌<◌, List, map, filter_map, length, sym, ap₂, subst, arith}
 use Rattle.std.specs.List.{Contains}
 use Rattle.std.proofs.lemmas.List.{length-map}
 use Rattle.cw_core.specs.declared.ids.MemId.{MemId}
@@ -38,10 +37,6 @@ use Rattle.cw_lazy_table.proofs.Listing.{places_exactly, memories_exactly, tries
 use Rattle.cw_lazy_table.proofs.Returning.{alive, listed, returns_exactly}
 use Rattle.cw_lazy_table.proofs.Rowing.{meant}
 use Rattle.cw_certs.proofs.Orders.{mem_total}
-
-pub if_ok : {A E : Type 0} (P Q : A → Type 0) (r : Result A E) → IfOk r P → ((a : A) → P a → Q a) → IfOk r Q
-if_ok P Q (Ok a) p h = h a p
-if_ok P Q (Err e) p h = p
 
 pub in_order : (g : Game) (ms : Memories) → AreAllMemories g ms → AreMemories ms
 in_order g ms are = record { order = are.are.0; few = are.few }

@@ -1,10 +1,9 @@
 -- The aims of all contexts.
-use Rattle.std.proofs.Common.{◌≡◌, ℕ, ◌+◌, ◌<◌, ◌≤◌, ◌^◌, List, [], ◌∷◌, ◌++◌, Bool, true, false, not, ◌&&◌, Some, Result, Ok, Err, Fits, w32, map, take, length, nat_lt, refl, sym, ap, ◌∙◌, subst, arith}
+use Rattle.std.proofs.Common.{◌≡◌, ℕ, ◌+◌, ◌<◌, ◌≤◌, ◌^◌, List, [], ◌∷◌, ◌++◌, Bool, true, false, not, ◌&&◌, Some, Fits, w32, map, take, length, nat_lt, refl, sym, ap, ◌∙◌, subst, arith}
 use Rattle.std.proofs.Math.Facts.{Fits-lt-pow}
-use Rattle.std.specs.Prelude.{slice_get, IfOk}
+use Rattle.std.specs.Prelude.{slice_get}
 use Rattle.std.specs.FinMap.{nat_cmp-IsAntisymmetric}
 use Rattle.std.specs.List.{Contains}
-use Rattle.std.specs.List.Sorted.{IsStrictlySortedBy}
 use Rattle.std.specs.Bool.{Decides}
 use Rattle.std.specs.Cmp.{nat_cmp_total, eq_by_cmp_equiv, tied_itself, both_ways}
 use Rattle.std.specs.Ordering.{nat_cmp, eq_by_cmp, is_eq}
@@ -27,10 +26,6 @@ use Rattle.cw_solve.specs.Solved.{Held}
 use Rattle.cw_least_strategy.specs.Heights.{others}
 use Rattle.cw_least_strategy.specs.Small.{AreAims}
 use Rattle.cw_least_strategy.proofs.Sets.{has_set, same_set}
-
-pub if_ok : {A E : Type 0} (P Q : A → Type 0) (r : Result A E) → IfOk r P → ((a : A) → P a → Q a) → IfOk r Q
-if_ok P Q (Ok a) p h = h a p
-if_ok P Q (Err e) p h = p
 
 pub fit : {n : ℕ} → Fits w32 n → n < 4294967296
 fit f = Fits-lt-pow f

@@ -2,10 +2,10 @@
 use Rattle.std.proofs.Common.{ℕ, ◌+◌, ◌^◌, ◌<◌, ◌≤◌, List, [], ◌∷◌, map, length, refl, ap, ◌∙◌, subst, arith}
 use Rattle.std.specs.List.{Contains, flat_map, range_with_len}
 use Rattle.std.proofs.lemmas.List.FromFn.{length-range_with_len, get_or-range_with_len}
-use Rattle.cw_lemmas.proofs.Lists.{contains_one, contains_map}
+use Rattle.cw_lemmas.proofs.Lists.{contains_one, contains_map, head_in}
 use Rattle.cw_certs.specs.Strategies.{Strategy}
 use Rattle.cw_fixpoint.specs.Closures.{Reached, first, then, Exactly}
-use Rattle.cw_fixpoint.proofs.Existing.{head_in, closed_in, in_flat, of_flat}
+use Rattle.cw_fixpoint.proofs.Existing.{closed_in, in_flat, of_flat}
 use Rattle.cw_game.specs.Games.{Game}
 use Rattle.cw_game.specs.Pairs.{all_states}
 use Rattle.cw_product.specs.Routed.{AreRouted}

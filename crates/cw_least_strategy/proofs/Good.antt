@@ -35,8 +35,8 @@ use Rattle.cw_least_strategy.proofs.Lowest as lowest
 use Rattle.cw_fixpoint.proofs.Numbers.{at_number}
 use Rattle.cw_least_strategy.proofs.Keys.{key_total, key_exact, before}
 use Rattle.cw_least_strategy.proofs.Moving.{moved}
-use Rattle.cw_least_strategy.proofs.Naming.{none_in, first_or_later, is_first, is_later, in_range, named_lower, fails, best_taken, best_some, taken_at, backs_lower, reached_keys, start_is}
-use Rattle.cw_lemmas.proofs.Lists.{map_contains as from_mapped}
+use Rattle.cw_least_strategy.proofs.Naming.{in_range, named_lower, fails, best_taken, best_some, taken_at, backs_lower, reached_keys, start_is}
+use Rattle.cw_lemmas.proofs.Lists.{map_contains as from_mapped, head_in, tail_in, in_either, contains_none}
 use Rattle.std.proofs.lemmas.Bool.{and_cases as one_fails, not-false as not_false, or_parts as both_fail}
 use Rattle.cw_lemmas.proofs.Numbers.{nat_eq_self as itself}
 use Rattle.cw_lemmas.proofs.Lists.{contains_map as to_mapped}
@@ -60,22 +60,22 @@ rows_none g s (r ∷ rows) n h =
 -- tests of lists
 all_of : {A : Type 0} (test : A → Bool) (xs : List A) → ((x : A) → Contains xs x → test x ≡ true) → list_all test xs ≡ true
 all_of test [] h = refl
-all_of test (x ∷ xs) h = both (test x) (list_all test xs) (h x (is_first x xs)) (all_of test xs (λ y c. h y (is_later x xs y c)))
+all_of test (x ∷ xs) h = both (test x) (list_all test xs) (h x (head_in x xs)) (all_of test xs (λ y c. h y (tail_in x xs y c)))
 
 to_kept : {A B : Type 0} (f : A → Option B) (xs : List A) (x : A) (y : B) → Contains xs x → f x ≡ Some y → Contains (filter_map f xs) y
-to_kept f [] x y c e = absurd (none_in x c)
-to_kept {A} {B} f (z ∷ zs) x y c e = by (f z) refl (first_or_later z zs x c) (λ d. to_kept f zs x y d e)
+to_kept f [] x y c e = absurd (contains_none x c)
+to_kept {A} {B} f (z ∷ zs) x y c e = by (f z) refl (in_either z zs x c) (λ d. to_kept f zs x y d e)
   where
     by : (o : Option B) → f z ≡ o → (z ≡ x) ⊎ Contains zs x → (Contains zs x → Contains (filter_map f zs) y) → Contains (cons_option o (filter_map f zs)) y
     by None eo (inl s) rec = absurd (none-some y (sym eo ∙ ap f s ∙ e))
-    by (Some v) eo (inl s) rec = let w : v ≡ y = same_Some v y (sym eo ∙ ap f s ∙ e) in subst (Contains (v ∷ filter_map f zs)) w (is_first v (filter_map f zs))
+    by (Some v) eo (inl s) rec = let w : v ≡ y = same_Some v y (sym eo ∙ ap f s ∙ e) in subst (Contains (v ∷ filter_map f zs)) w (head_in v (filter_map f zs))
     by None eo (inr d) rec = rec d
-    by (Some v) eo (inr d) rec = is_later v (filter_map f zs) y (rec d)
+    by (Some v) eo (inr d) rec = tail_in v (filter_map f zs) y (rec d)
 
 -- a back that is there is found
 back_there : (backs : List (ℕ × ℕ)) (x b : ℕ) → Contains backs (x, b) → is_some (back_of backs x) ≡ true
-back_there [] x b c = absurd (none_in (x, b) c)
-back_there (y ∷ backs) x b c = by (nat_eq y.0 x) refl (first_or_later y backs (x, b) c) (back_there backs x b)
+back_there [] x b c = absurd (contains_none (x, b) c)
+back_there (y ∷ backs) x b c = by (nat_eq y.0 x) refl (in_either y backs (x, b) c) (back_there backs x b)
   where
     by : (t : Bool) → nat_eq y.0 x ≡ t → (y ≡ (x, b)) ⊎ Contains backs (x, b) → (Contains backs (x, b) → is_some (back_of backs x) ≡ true)
         → is_some (option_map (λ b. b.1) (cond t (Some y) (find (λ b. nat_eq b.0 x) backs))) ≡ true
@@ -183,12 +183,12 @@ module _ (g : Game) (functions : ℕ) (routed : AreRouted g functions) (keys : L
         let r = t.1.0 in
         let m = moved g routed.closed k.pos k.state v.by r is.state t.1.1 in
         let at_is : is_row_at r.0 r.1 k.aim (slice_get s.rows (number keys v.to)) ≡ true =
-        ap (λ (b : Key). is_row_at b.pos b.state b.aim (slice_get s.rows (number keys v.to))) (sym t.1.2) ∙ stands v.to (named_in v.to (names v.to (is_first v.to []))) in
+        ap (λ (b : Key). is_row_at b.pos b.state b.aim (slice_get s.rows (number keys v.to))) (sym t.1.2) ∙ stands v.to (named_in v.to (names v.to (head_in v.to []))) in
         let after_is : stands_after s (number keys v.to) k.aim (leads_in g k.pos k.state [] spot v.by) ≡ true =
         ap (stands_after s (number keys v.to) k.aim) m.3.1 ∙ ap (λ (p : ℕ × ℕ). is_row_at p.0 p.1 k.aim (slice_get s.rows (number keys v.to))) m.3.2 ∙ at_is in
         let turn : not (weavers_in spot || (is_call_in spot || (is_exit_in spot || bad_in g k.state spot))) ≡ true =
         all_four (weavers_in spot) (is_call_in spot) (is_exit_in spot) (bad_in g k.state spot) w c x m.0 in
-        meets (Go v) (row_range (Go v) (both (nat_lt (number keys v.to) i) true (smaller v.to (names v.to (is_first v.to []))) refl) refl) refl refl refl (both _ _ turn after_is) refl refl
+        meets (Go v) (row_range (Go v) (both (nat_lt (number keys v.to) i) true (smaller v.to (names v.to (head_in v.to []))) refl) refl) refl refl refl (both _ _ turn after_is) refl refl
       where
         all_four : (a b c d : Bool) → a ≡ false → b ≡ false → c ≡ false → d ≡ false → not (a || (b || (c || d))) ≡ true
         all_four false false false false w x y z = refl
@@ -215,8 +215,8 @@ module _ (g : Game) (functions : ℕ) (routed : AreRouted g functions) (keys : L
     visit_meets j x a es names =
         let skip = below g k (k.pos + 2) k.state k.aim in
         let tried = below g k (k.pos + 1) k.state k.aim in
-        let cs : Contains (named g k) skip = names skip (is_first skip (tried ∷ [])) in
-        let ct : Contains (named g k) tried = names tried (is_later skip (tried ∷ []) tried (is_first tried [])) in
+        let cs : Contains (named g k) skip = names skip (head_in skip (tried ∷ [])) in
+        let ct : Contains (named g k) tried = names tried (tail_in skip (tried ∷ []) tried (head_in tried [])) in
         let at_visit : weaver_moves g s k.pos k.state k.aim (Some (Visit j x a)) (how_by keys (Both skip tried)) ≡ true =
         both (is_row_at (k.pos + 2) k.state k.aim (slice_get s.rows (number keys skip))) (is_row_at (k.pos + 1) k.state k.aim (slice_get s.rows (number keys tried)))
         (stands skip (named_in skip cs)) (stands tried (named_in tried ct)) in
@@ -242,10 +242,10 @@ module _ (g : Game) (functions : ℕ) (routed : AreRouted g functions) (keys : L
         let count = g.states.count in
         let numbered : List (ℕ × ℕ) = map (λ b. (b.0, number keys b.1)) backs in
         let a : Act = Into callee backs in
-        let cc_in : Contains (named g k) callee = names callee (is_first callee (map (λ b. b.1) backs)) in
+        let cc_in : Contains (named g k) callee = names callee (head_in callee (map (λ b. b.1) backs)) in
         let callee_row : slice_get s.rows (number keys callee) ≡ Some (row_at g keys callee) = row_is callee (named_in callee cc_in) in
         let back_in : (b : ℕ × Key) → Contains backs b → Contains (named g k) b.1
-        = λ b d. names b.1 (is_later callee (map (λ b. b.1) backs) b.1 (to_mapped (λ (b : ℕ × Key). b.1) backs b d)) in
+        = λ b d. names b.1 (tail_in callee (map (λ b. b.1) backs) b.1 (to_mapped (λ (b : ℕ × Key). b.1) backs b d)) in
         let smaller_all : list_all (λ m. nat_lt m i) (number keys callee ∷ map (λ b. b.1) numbered) ≡ true
         = both (nat_lt (number keys callee) i) _ (smaller callee cc_in) (all_of (λ m. nat_lt m i) (map (λ b. b.1) numbered) (λ m d.
         let y = from_mapped (λ (b : ℕ × ℕ). b.1) numbered m d in
@@ -325,7 +325,7 @@ module _ (g : Game) (functions : ℕ) (routed : AreRouted g functions) (s : Stra
   key_is k c = reached_keys g functions routed start k (start_is g functions routed is.height state is.is_height) (needed k c)
 
   begins : Contains is.keys start
-  begins = (is.exactly.1 start).1 (first start (is_first start []))
+  begins = (is.exactly.1 start).1 (first start (head_in start []))
 
   row_meets : (i : ℕ) (k : Key) → slice_get is.keys i ≡ Some k → first_failing (row_conditions g s i (row_at g is.keys k) (slice_get g.spots k.pos)) ≡ None
   row_meets i k at =

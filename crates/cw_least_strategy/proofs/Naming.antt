@@ -1,5 +1,5 @@
 -- What a key names are keys, each of a lesser height.
-use Rattle.std.proofs.Common.{◌≡◌, ◌⊎◌, ℕ, zero, suc, ◌+◌, ◌-◌, ◌<◌, ◌^◌, List, [], ◌∷◌, Bool, true, false, cond, not, ◌&&◌, ◌||◌, Option, Some, None, map, filter_map, nat_lt}
+use Rattle.std.proofs.Common.{◌≡◌, ◌⊎◌, ℕ, zero, suc, ◌+◌, ◌-◌, ◌<◌, ◌^◌, List, [], ◌∷◌, Bool, true, false, cond, not, ◌&&◌, Option, Some, None, map, filter_map, nat_lt}
 use Rattle.std.proofs.Common.{nat_le, refl, sym, ap, ◌∙◌, subst, arith, inl, inr}
 use Rattle.std.specs.Prelude.{slice_get, option_map}
 use Rattle.std.specs.List.{Contains, cons_option, range_with_len}
@@ -26,35 +26,21 @@ use Rattle.cw_least_strategy.proofs.Sets.{has_set, set_within, none_aimed}
 use Rattle.cw_least_strategy.proofs.Lowest as lowest
 use Rattle.cw_least_strategy.proofs.Moving.{moved}
 use Rattle.std.proofs.lemmas.Bool.{or_parts as neither}
-use Rattle.cw_lemmas.proofs.Lists.{map_contains as from_mapped}
+use Rattle.cw_lemmas.proofs.Lists.{map_contains as from_mapped, head_in, tail_in, in_either, contains_none}
 
 -- members of lists
-module _ {A : Type 0} where
-  pub none_in : (x : A) → Contains [] x → ⊥
-  none_in x (k, l, e) = absurd (omega (arith, l))
-
-  pub first_or_later : (y : A) (ys : List A) (x : A) → Contains (y ∷ ys) x → (y ≡ x) ⊎ Contains ys x
-  first_or_later y ys x (zero, l, e) = inl e
-  first_or_later y ys x (suc k, l, e) = inr (k, omega (arith, l), e)
-
-  pub is_first : (x : A) (xs : List A) → Contains (x ∷ xs) x
-  is_first x xs = (0, omega arith, refl)
-
-  pub is_later : (y : A) (ys : List A) (x : A) → Contains ys x → Contains (y ∷ ys) x
-  is_later y ys x (k, l, e) = (suc k, omega (arith, l), e)
-
 pub from_kept : {A B : Type 0} (f : A → Option B) (xs : List A) (y : B) → Contains (filter_map f xs) y → (x : A) × Contains xs x × (f x ≡ Some y)
-from_kept f [] y c = absurd (none_in y c)
+from_kept f [] y c = absurd (contains_none y c)
 from_kept {A} {B} f (x ∷ xs) y c = by (f x) refl c (from_kept f xs y)
   where
     Is : Type 0
     Is = (z : A) × Contains (x ∷ xs) z × (f z ≡ Some y)
 
     by : (o : Option B) → f x ≡ o → Contains (cons_option o (filter_map f xs)) y → (Contains (filter_map f xs) y → (z : A) × Contains xs z × (f z ≡ Some y)) → Is
-    by None e c rec = let r = rec c in (r.0, is_later x xs r.0 r.1, r.2)
-    by (Some v) e c rec = elim (first_or_later v (filter_map f xs) y c) [
-      | inl s ↦ (x, is_first x xs, e ∙ ap Some s)
-      | inr d ↦ let r = rec d in (r.0, is_later x xs r.0 r.1, r.2)
+    by None e c rec = let r = rec c in (r.0, tail_in x xs r.0 r.1, r.2)
+    by (Some v) e c rec = elim (in_either v (filter_map f xs) y c) [
+      | inl s ↦ (x, head_in x xs, e ∙ ap Some s)
+      | inr d ↦ let r = rec d in (r.0, tail_in x xs r.0 r.1, r.2)
     ]
 
 pub in_range : (n x : ℕ) → Contains (range_with_len 0 n) x → x < n
@@ -150,8 +136,8 @@ module _ (g : Game) (functions : ℕ) (routed : AreRouted g functions) where
         cases false = (b, refl)
 
     pub best_some : (bys : List Move) (by : Move) (w : Way) → Contains bys by → way g k by ≡ Some w → 0 < w.to.height → (v : Way) × (best g k bys ≡ Some v)
-    best_some [] by w c e p = absurd (none_in by c)
-    best_some (b ∷ bys) by w c e p = cases (first_or_later b bys by c) (λ d. best_some bys by w d e p)
+    best_some [] by w c e p = absurd (contains_none by c)
+    best_some (b ∷ bys) by w c e p = cases (in_either b bys by c) (λ d. best_some bys by w d e p)
       where
         cases : (b ≡ by) ⊎ Contains bys by → (Contains bys by → (v : Way) × (best g k bys ≡ Some v)) → (v : Way) × (sooner (way g k b) (best g k bys) ≡ Some v)
         cases (inl s) rec = sooner_some (way g k b) (best g k bys) (inl (w, ap (way g k) s ∙ e, p))
@@ -232,16 +218,16 @@ module _ (g : Game) (functions : ℕ) (routed : AreRouted g functions) where
           by x s false t e = absurd (none-some b e)
 
       pub into_lower : (b : Key) → Contains (keys_in (Into (below g k (g.entry c.function) k.state (aim_at g k c)) (backs_at g k c))) b → Lower b
-      into_lower b i = elim (first_or_later (below g k (g.entry c.function) k.state (aim_at g k c)) (map (λ b. b.1) (backs_at g k c)) b i) [
+      into_lower b i = elim (in_either (below g k (g.entry c.function) k.state (aim_at g k c)) (map (λ b. b.1) (backs_at g k c)) b i) [
         | inl s ↦ subst Lower s callee_lower
         | inr d ↦ let m = from_mapped (λ (b : ℕ × Key). b.1) (backs_at g k c) b d in subst Lower m.2 (backs_lower m.0 m.1).3
       ]
 
     goes_lower : (o : Option Way) → best g k moves ≡ o → (b : Key) → Contains (keys_in (goes o)) b → Lower b
-    goes_lower None e b i = absurd (none_in b i)
-    goes_lower (Some w) e b i = elim (first_or_later w.to [] b i) [
+    goes_lower None e b i = absurd (contains_none b i)
+    goes_lower (Some w) e b i = elim (in_either w.to [] b i) [
       | inl s ↦ subst Lower s (taken_at w (best_taken moves w e)).0
-      | inr d ↦ absurd (none_in b d)
+      | inr d ↦ absurd (contains_none b d)
     ]
 
     inner_lower : (s : Option Spot) → slice_get g.spots k.pos ≡ s → (b : Key) → Contains (keys_in (inner g k s)) b → Lower b
@@ -249,14 +235,14 @@ module _ (g : Game) (functions : ℕ) (routed : AreRouted g functions) where
         let v = visit_lower j i a es in
         let skip = below g k (k.pos + 2) k.state k.aim in
         let tried = below g k (k.pos + 1) k.state k.aim in
-        elim (first_or_later skip (tried ∷ []) b c) [
+        elim (in_either skip (tried ∷ []) b c) [
           | inl s ↦ subst Lower s v.0
-          | inr d ↦ elim (first_or_later tried [] b d) [
+          | inr d ↦ elim (in_either tried [] b d) [
             | inl s ↦ subst Lower s v.1
-            | inr f ↦ absurd (none_in b f)
+            | inr f ↦ absurd (contains_none b f)
           ]
         ]
-    inner_lower (Some (Exit f)) es b c = absurd (none_in b c)
+    inner_lower (Some (Exit f)) es b c = absurd (contains_none b c)
     inner_lower None es b c = goes_lower (best g k moves) refl b c
     inner_lower (Some (Asked j i a)) es b c = goes_lower (best g k moves) refl b c
     inner_lower (Some (Step m)) es b c = goes_lower (best g k moves) refl b c
@@ -282,9 +268,9 @@ module _ (g : Game) (functions : ℕ) (routed : AreRouted g functions) where
   all_keys k b is (on a c d i l) = all_keys c d (named_lower g functions routed k is c i).0 l
 
   pub reached_keys : (k b : Key) → IsKey g functions k → Reached (named g) (k ∷ []) b → IsKey g functions b
-  reached_keys k b is (first c i) = elim (first_or_later k [] b i) [
+  reached_keys k b is (first c i) = elim (in_either k [] b i) [
     | inl s ↦ subst (IsKey g functions) s is
-    | inr d ↦ absurd (none_in b d)
+    | inr d ↦ absurd (contains_none b d)
   ]
   reached_keys k b is (then a c r i) = (named_lower g functions routed a (reached_keys k a is r) c i).0
 

@@ -1,5 +1,5 @@
 -- Keys by the numbers of their aims.
-use Rattle.std.proofs.Common.{◌≡◌, ℕ, zero, suc, ◌+◌, ◌<◌, ◌≤◌, List, [], ◌∷◌, ◌++◌, Bool, true, false, cond, Some, map, append_assoc, length, inl, inr, refl, sym, ap, ◌∙◌, subst, arith}
+use Rattle.std.proofs.Common.{◌≡◌, ℕ, suc, ◌+◌, ◌<◌, ◌≤◌, List, [], ◌∷◌, ◌++◌, Bool, true, false, cond, Some, map, append_assoc, length, inl, inr, refl, sym, ap, ◌∙◌, subst, arith}
 use Rattle.std.specs.Prelude.{slice_get, slice_index, sum_by}
 use Rattle.std.specs.FinMap.{IsAntisymmetric, nat_cmp-IsAntisymmetric}
 use Rattle.std.specs.List.{Contains, AllByRecursion}
@@ -17,11 +17,10 @@ use Rattle.std.proofs.lemmas.Option.{slice_get-get_or, slice_get_within, get_or_
 use Rattle.cw_core.specs.declared.ids.StateId.{StateId}
 use Rattle.cw_fixpoint.specs.Closures.{Reached, first, then, Exactly, HasMore}
 use Rattle.cw_fixpoint.specs.Numbers.{number_in}
-use Rattle.cw_fixpoint.proofs.Existing.{head_in, tail_in}
 use Rattle.cw_fixpoint.proofs.Numbers.{equal_is, at_number, number_at}
 use Rattle.cw_game.specs.Games.{Game}
-use Rattle.cw_lemmas.proofs.Lists.{contains_one, contains_map, map_contains}
-use Rattle.cw_lemmas.proofs.Orders.{is_eq_equal as at_equal, then_equal as both_equal}
+use Rattle.cw_lemmas.proofs.Lists.{contains_one, contains_map, map_contains, head_in, tail_in}
+use Rattle.cw_lemmas.proofs.Orders.{then_equal as both_equal, less_nat}
 use Rattle.cw_product.specs.Product.{game_of}
 use Rattle.cw_solve.specs.Solved.{Held}
 use Rattle.cw_least_strategy.specs.declared.key.Key.{Key}
@@ -49,9 +48,6 @@ lower_small : (a k : SmallKey) → a.height < k.height → small_cmp a k ≡ Les
 lower_small a k l =
     let n : nat_cmp a.height k.height ≡ Less = grind (arith, nat_tests, l) in
     ap (λ o. ordering_then o (ordering_then (nat_cmp a.pos k.pos) (ordering_then (nat_cmp a.state k.state) (nat_cmp a.aim k.aim)))) n
-
-less_nat : (m n : ℕ) → m < n → nat_cmp m n ≡ Less
-less_nat m n l = grind (arith, nat_tests, l)
 
 -- a number that is below how many there are is that of an item
 found_at : (es : List ℕ) (e : ℕ) → number_in nat_cmp es e < length es → slice_get es (number_in nat_cmp es e) ≡ Some e

@@ -1,6 +1,6 @@
 -- Lists: what they contain, what stands at a place, what all or some of their items are.
 use Rattle.std.proofs.Common.{◌≡◌, ℕ, zero, suc, ◌+◌, ◌<◌, ◌≤◌, Bool, true, false, ◌&&◌, ◌||◌, cond, List, [], ◌∷◌, ◌++◌, map, length, Some, refl, sym, ap, ◌∙◌, arith, ⊎_elim, nat_eq, eqb-true}
-use Rattle.std.proofs.Common.{eq-eqb, set, take, get_or, ap₂}
+use Rattle.std.proofs.Common.{eq-eqb, set, take, get_or, ap₂, ◌⊎◌, inl, inr}
 use Rattle.std.specs.Prelude.{slice_get}
 use Rattle.std.specs.List.{Contains, list_any, list_all, range_with_len, take_while, AllByRecursion}
 use Rattle.std.proofs.lemmas.Bool.{and_parts}
@@ -15,6 +15,17 @@ contains_none x (k, l, e) = absurd (omega arith)
 
 pub contains_one : {A : Type 0} (x y : A) → Contains (x ∷ []) y → x ≡ y
 contains_one x y c = ⊎_elim (λ n. absurd (contains_none y n)) (λ e. e) (Contains-push_cases [] x y c)
+
+-- of a list with one item in front
+pub head_in : {A : Type 0} (x : A) (xs : List A) → Contains (x ∷ xs) x
+head_in x xs = (0, omega arith, refl)
+
+pub tail_in : {A : Type 0} (x : A) (xs : List A) (y : A) → Contains xs y → Contains (x ∷ xs) y
+tail_in x xs y h = let lt = h.1 in (suc h.0, omega (arith, lt), h.2)
+
+pub in_either : {A : Type 0} (x : A) (xs : List A) (y : A) → Contains (x ∷ xs) y → (x ≡ y) ⊎ Contains xs y
+in_either x xs y (zero, lt, e) = inl e
+in_either x xs y (suc k, lt, e) = inr (k, omega (arith, lt), e)
 
 pub contains_map : {A B : Type 0} (f : A → B) (xs : List A) (x : A) → Contains xs x → Contains (map f xs) (f x)
 contains_map f xs x (k, l, e) = let n = length-map xs f in (k, omega (arith, l, n), get_or-map f xs k x (f x) l ∙ ap f e)

@@ -1,6 +1,6 @@
 -- Options, besides what std has of them.
-use Rattle.std.proofs.Common.{◌≡◌, ℕ, ◌+◌, Bool, true, false, cond, List, [], ◌∷◌, Option, None, Some, option_map, refl, ap, ◌∙◌}
-use Rattle.std.specs.Prelude.{find}
+use Rattle.std.proofs.Common.{◌≡◌, ℕ, ◌+◌, Bool, true, false, cond, List, [], ◌∷◌, Option, None, Some, option_map, refl, ap, ◌∙◌, sym}
+use Rattle.std.specs.Prelude.{find, Result, Ok, Err, IfNone, IfOk}
 use Rattle.std.specs.List.{position_from}
 use Rattle.std.proofs.lemmas.Option.{none-some, same_Some}
 
@@ -24,3 +24,16 @@ position_none t i (x ∷ xs) e = by (t x) refl e (position_none t (i + 1) xs)
 pub cond_none : {X : Type 0} (b : Bool) (o : Option X) → o ≡ None → cond b None o ≡ None
 cond_none true o e = refl
 cond_none false o e = e
+
+pub option_map_none : {A B : Type 0} (f : A → B) (o : Option A) → option_map f o ≡ None → o ≡ None
+option_map_none f None e = refl
+option_map_none f (Some x) e = absurd (none-some (f x) (sym e))
+
+-- what follows where there is no answer, and of an answer
+pub where_none : {A P Q : Type 0} (o : Option A) → IfNone o P → (P → Q) → IfNone o Q
+where_none (Some x) p f = tt
+where_none None p f = f p
+
+pub if_ok : {A E : Type 0} (P Q : A → Type 0) (r : Result A E) → IfOk r P → ((a : A) → P a → Q a) → IfOk r Q
+if_ok P Q (Ok a) p h = h a p
+if_ok P Q (Err e) p h = p

@@ -1,9 +1,10 @@
 -- Orderings, besides what std has of them.
-use Rattle.std.proofs.Common.{◌≡◌, true, refl, ◌⊎◌, ℕ, ◌<◌, Bool, false, cond, nat_lt, ap, inl, inr, nat_eq}
+use Rattle.std.proofs.Common.{◌≡◌, true, refl, ◌⊎◌, ℕ, ◌<◌, Bool, false, cond, nat_lt, ap, inl, inr, nat_eq, arith}
 use Rattle.std.specs.declared.cmp.Ordering.{Ordering}
 use Rattle.std.specs.declared.cmp.Ordering.TheVariants.{Less, Equal, Greater}
 use Rattle.std.specs.Ordering.{is_eq, ordering_then, is_lt, nat_cmp, ordering_reverse}
 use Rattle.std.proofs.lemmas.Bool.{ltb-true}
+use Rattle.std.proofs.lemmas.Bool.Decides.{nat_tests}
 
 pub is_eq_equal : (o : Ordering) → is_eq o ≡ true → o ≡ Equal
 is_eq_equal Less e = cc
@@ -37,3 +38,6 @@ nat_less m n e = ltb-true m n (by (nat_lt m n) (nat_eq m n) refl e)
     by true y h k = h
     by false true h k = cc
     by false false h k = cc
+
+pub less_nat : (m n : ℕ) → m < n → nat_cmp m n ≡ Less
+less_nat m n l = grind (arith, nat_tests, l)

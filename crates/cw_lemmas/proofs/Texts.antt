@@ -4,6 +4,7 @@ use Rattle.std.specs.List.{starts_with}
 use Rattle.std.proofs.lemmas.Bool.{and_parts, and_from, cases_eq, false≢true}
 use Rattle.std.specs.Str.{bytes_eq}
 use Rattle.std.proofs.lemmas.Slice.Eq.{bytes_eq-Decides}
+use Rattle.std.specs.Prelude.{codes}
 
 pub starts_is : (t w : List ℕ) → starts_with nat_eq t w ≡ true → t ≡ w ++ drop (length w) t
 starts_is t [] e = refl
@@ -62,3 +63,8 @@ some_bytes (b ∷ bytes) is_empty e is none = omega (arith, ap length none)
 pub no_bytes : (bytes : List ℕ) (is_empty : Bool) → is_empty ≡ eqb (length bytes) 0 → is_empty ≡ true → bytes ≡ []
 no_bytes [] is_empty e is = refl
 no_bytes (b ∷ bytes) is_empty e is = absurd (let p = eqb-true (length (b ∷ bytes)) 0 (sym e ∙ is) in omega (arith, p))
+
+-- no slash stands in no bytes
+pub nothing_begins : (at : ℕ) → starts_with nat_eq (drop at []) (codes "/") ≡ false
+nothing_begins zero = refl
+nothing_begins (suc at) = refl

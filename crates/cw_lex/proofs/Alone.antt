@@ -47,7 +47,7 @@ few_cut p m xs k le = rw (take_swap m k xs) (while_cut p (take m xs) k le)
 
 -- ---- items
 
-longer_is : (more : ℕ) (o : Option Spelled) (x : Spelled) → longer more o ≡ Some x → (y : Spelled) × (o ≡ Some y) × (y.1 + more ≡ x.1)
+pub longer_is : (more : ℕ) (o : Option Spelled) (x : Spelled) → longer more o ≡ Some x → (y : Spelled) × (o ≡ Some y) × (y.1 + more ≡ x.1)
 longer_is more None x e = absurd cc
 longer_is more (Some y) x e = (y, refl, cc)
 
@@ -74,7 +74,7 @@ spelled_cut base p m bs k x e le =
     let long = (spelled_is base (take_while p (take m bs)) x e).0 in
     rw (few_cut p m bs k (omega arith)) e
 
-longer_cut : (o p : Option Spelled) (x : Spelled) → ((y : Spelled) → o ≡ Some y → y.1 + 1 ≡ x.1 → p ≡ Some y) → longer 1 o ≡ Some x → longer 1 p ≡ Some x
+pub longer_cut : (o p : Option Spelled) (x : Spelled) → ((y : Spelled) → o ≡ Some y → y.1 + 1 ≡ x.1 → p ≡ Some y) → longer 1 o ≡ Some x → longer 1 p ≡ Some x
 longer_cut o p x same e =
     let y = longer_is 1 o x e in
     let q : p ≡ o = same y.0 y.1 y.2 ∙ sym y.1 in

@@ -1,5 +1,5 @@
 -- What a move changes.
-use Rattle.std.proofs.Common.{◌≡◌, ◌≢◌, ◌⊎◌, inl, inr, ℕ, suc, ◌<◌, ◌≤◌, List, [], ◌∷◌, Bool, true, false, cond, ◌&&◌, ◌++◌, nat_eq, nat_lt, length, Option, Some, None, option_map, refl}
+use Rattle.std.proofs.Common.{◌≡◌, ◌≢◌, ◌⊎◌, inl, inr, ℕ, suc, ◌<◌, ◌≤◌, List, [], ◌∷◌, Bool, true, false, cond, ◌&&◌, ◌++◌, nat_eq, nat_lt, length, Option, Some, None, refl}
 use Rattle.std.proofs.Common.{sym, ap, ◌∙◌, subst, arith, eqb-true, eq-eqb}
 use Rattle.std.specs.Prelude.{slice_get}
 use Rattle.std.proofs.lemmas.Option.{none-some, same_Some, unwrap_or-slice_get}
@@ -58,11 +58,11 @@ pub over_has_none : OverHasNoMove
 over_has_none p b m next e h = over p b b.phase m next e h.1
 
 -- A board that comes in Refused comes by a refusal that can be answered with a stop.
-onward_on : (i : ℕ) (later : List Primitive) → is_refused (onward i later) ≡ false
+pub onward_on : (i : ℕ) (later : List Primitive) → is_refused (onward i later) ≡ false
 onward_on i [] = refl
 onward_on i (a ∷ later) = refl
 
-begin_on : (policy : PlainPolicy) (stack : List Frame) → is_refused (begin policy stack) ≡ false
+pub begin_on : (policy : PlainPolicy) (stack : List Frame) → is_refused (begin policy stack) ≡ false
 begin_on policy [] = refl
 begin_on policy (frame ∷ frames) = onward_on 0 (primitives_in policy frame)
 

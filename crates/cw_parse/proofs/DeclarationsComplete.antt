@@ -26,7 +26,8 @@ use Rattle.cw_parse.proofs.Listed.{Several, not_longer, separated_all, separated
 use Rattle.cw_parse.proofs.DeclarationsSound.{Allowed, more_comma, item_sound}
 use Rattle.cw_parse.proofs.Wording.{flag_again, first_again, starts_declarator, ends_item, ends_element, item_end, element_end, base_again, starts_base, type_starts}
 use Rattle.cw_grammar.proofs.Wording.{one_word as one_token}
-use Rattle.cw_parse.proofs.Wording.{stars_again, stars_start}
+use Rattle.cw_parse.proofs.Wording.{stars_start}
+use Rattle.cw_expressions.proofs.TypesComplete.{stars_again}
 
 -- ---- specifiers
 

@@ -21,13 +21,13 @@ use Rattle.cw_expressions.specs.TypeReading.{base_of, type_name}
 use Rattle.cw_expressions.proofs.Steps.{begins_again}
 use Rattle.cw_expressions.proofs.Follows.{Starts, starts_never}
 use Rattle.std.proofs.lemmas.Bool.{false_from_ne_true as is_false}
-use Rattle.cw_expressions.proofs.TypesComplete.{next_is, continues_type, type_name_again}
+use Rattle.cw_expressions.proofs.TypesComplete.{next_is, continues_type, type_name_again, stars_again}
 use Rattle.cw_parse.specs.Lists.{Read}
 use Rattle.cw_parse.specs.DeclarationReading.{optional_name, brackets, param, is_void, params, front, header, begins_header}
 use Rattle.cw_parse.proofs.BothWays.{Reads, reads_bind, reads_then, reads_else, reads_expect}
 use Rattle.cw_parse.proofs.Listed.{Several, not_longer, separated_all, separated_again}
 use Rattle.cw_parse.proofs.DeclarationsSound.{param_sound, HasHeader}
-use Rattle.cw_parse.proofs.Wording.{starts_declarator, ends_item, ends_param, follows_name, param_follows, stars_again, stars_start}
+use Rattle.cw_parse.proofs.Wording.{starts_declarator, ends_item, ends_param, follows_name, param_follows, stars_start}
 use Rattle.cw_grammar.proofs.Wording.{one_word as one_token, two_words as two_tokens}
 use Rattle.cw_parse.proofs.DeclarationsComplete.{specifiers_again, name_again, name_starts, three, four, between_again, Any, initialiser_next, array_next}
 use Rattle.cw_lemmas.proofs.Truths.{and_first as both_true, and_false}

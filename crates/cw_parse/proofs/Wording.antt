@@ -1,5 +1,5 @@
 -- Tokens by their words, and what stands next.
-use Rattle.std.proofs.Common.{◌≡◌, ℕ, zero, suc, ◌<◌, Bool, true, false, List, [], ◌∷◌, ◌++◌, length, replicate, Ok, Err, refl, ap, ◌∙◌, arith}
+use Rattle.std.proofs.Common.{◌≡◌, ℕ, zero, suc, ◌<◌, Bool, true, false, List, [], ◌∷◌, ◌++◌, length, replicate, Ok, Err, refl, arith}
 use Rattle.std.proofs.lemmas.Bool.{false≢true}
 use Rattle.cw_syntax.specs.declared.program.Base.{Base}
 use Rattle.cw_syntax.specs.declared.program.Base.TheVariants as base
@@ -7,16 +7,16 @@ use Rattle.cw_grammar.specs.declared.words.Lexeme.{Lexeme}
 use Rattle.cw_grammar.specs.declared.words.Word.{Word}
 use Rattle.cw_grammar.specs.declared.words.Word.TheVariants as w
 use Rattle.cw_grammar.specs.Words.{same}
-use Rattle.cw_grammar.specs.Lexemes.{Is, words, from_of, IsFlag}
+use Rattle.cw_grammar.specs.Lexemes.{Is, from_of, IsFlag}
 use Rattle.cw_grammar.specs.Types.{IsType, AreStars}
 use Rattle.cw_expressions.specs.declared.refusal.Refusal.TheVariants as refusal
 use Rattle.cw_expressions.specs.Cursor.{begins, first}
 use Rattle.cw_expressions.specs.Next.{ends, IsEnd}
-use Rattle.cw_expressions.specs.TypeReading.{skip, Based, based, unsigned_base, base_of, stars_of}
+use Rattle.cw_expressions.specs.TypeReading.{skip, Based, based, unsigned_base, base_of}
 use Rattle.cw_expressions.proofs.Follows.{Starts}
 use Rattle.cw_expressions.proofs.TypesComplete.{base_is}
 use Rattle.cw_parse.specs.DeclarationReading.{flag}
-use Rattle.cw_grammar.proofs.Wording.{first_word as first_token, no_words as no_tokens, one_word as one_token, two_words as two_tokens}
+use Rattle.cw_grammar.proofs.Wording.{first_word as first_token, no_words as no_tokens, one_word as one_token}
 
 pub flag_again : (word : Word) (b : Bool) (a ts : List Lexeme) → IsFlag word a b → ((t : Lexeme) → Is word t → same t.word word ≡ true) → begins word ts ≡ false → flag word (a ++ ts) ≡ (b, ts)
 flag_again word true a ts h yes_word e = let p = one_token a word h in rw (p.1, yes_word p.0 p.2) refl
@@ -131,17 +131,6 @@ pub type_starts : (a rest : List Lexeme) (b : Base) (unsigned : Bool) → IsType
 type_starts a rest b unsigned h stop = based_starts (a ++ rest) ((b, unsigned), rest) (base_again a rest b unsigned h stop)
 
 -- ---- stars
-
-pub stars_again : (n : ℕ) (a rest : List Lexeme) → AreStars a n → begins w.Star rest ≡ false → stars_of (a ++ rest) ≡ (n, rest)
-unfolding stars_of
-stars_again zero a rest h e = rw (no_tokens a h.1, e) refl
-stars_again (suc zero) a rest h e =
-    let p = one_token a w.Star h.1 in
-    rw (p.1, p.2, e) refl
-stars_again (suc (suc zero)) a rest h e =
-    let p = two_tokens a w.Star w.Star h.1 in
-    rw (p.2, p.3, p.4) refl
-stars_again (suc (suc (suc n))) a rest h e = let le = h.0 in absurd (omega arith)
 
 pub stars_start : (n : ℕ) (a rest : List Lexeme) → AreStars a n → Starts starts_declarator rest → Starts starts_declarator (a ++ rest)
 stars_start zero a rest h e = rw (no_tokens a h.1) e

@@ -1,11 +1,10 @@
 -- The points of a program stand as its frames need them.
-use Rattle.std.proofs.Common.{◌≡◌, ℕ, zero, suc, ◌+◌, List, [], ◌∷◌, ◌++◌, length, Bool, true, false, Option, Some, None, refl, sym, ap, ◌∙◌, subst, arith, zero-add, add-zero, length-append}
+use Rattle.std.proofs.Common.{◌≡◌, ℕ, zero, suc, ◌+◌, List, [], ◌∷◌, ◌++◌, length, Bool, true, false, Option, Some, None, refl, sym, ◌∙◌, subst, arith, zero-add, add-zero, length-append}
 use Rattle.std.specs.Prelude.{slice_get}
 use Rattle.std.proofs.lemmas.List.{length-map}
 use Rattle.cw_syntax.specs.Names.{Names}
-use Rattle.cw_syntax.specs.Trees.{Definition, File}
-use Rattle.cw_syntax.specs.Plans.{Scene, Stm, Plain, Break, Continue, Return, Open, Close, Call, Group, Label, If, While, Do, For, Stms, end, then, Routine, Plan, scene_of, plan_of}
-use Rattle.cw_syntax.specs.Plans.{steps_of_all, seams_all, routines_from}
+use Rattle.cw_syntax.specs.Trees.{File}
+use Rattle.cw_syntax.specs.Plans.{Stm, Plain, Break, Continue, Return, Open, Close, Call, Group, Label, If, While, Do, For, Stms, end, then, Routine, Plan, scene_of, plan_of}
 use Rattle.cw_syntax.specs.Frames.{Item, Entry, Test, End, init_if, after_if}
 use Rattle.cw_points.specs.declared.graph.Point.TheVariants as point
 use Rattle.cw_points.specs.declared.graph.Node.{Node}
@@ -15,6 +14,7 @@ use Rattle.cw_points.specs.Walks.{parts_of}
 use Rattle.cw_points.proofs.Placed.{StepAt, InitAt, Placed, PlacedAll, IsPlaced, IsPart}
 use Rattle.cw_points.proofs.Held.{HasAt, has_front, has_all, has_behind, first_own, first_two, first_last, points_length, points_length_all}
 use Rattle.cw_points.proofs.Lengths.{nodes_length, nodes_length_all}
+use Rattle.cw_syntax.proofs.Counting.{length_routines}
 
 module _ (ns : List Node) (its : List Item) (f : ℕ) where
   -- the parts of a `for`
@@ -154,12 +154,8 @@ placed_plan plan splits e f =
     subst (λ z. IsPart (nodes plan) (points plan) z (slice_get plan.routines f) (slice_get (parts_from plan.routines splits 0) f)) (zero-add f)
     (placed_from (nodes plan) (points plan) plan.routines splits 0 0 f e (has_all (nodes plan) []) (has_all (points plan) []))
 
-routines_length : (s : Scene) (j : ℕ) (fs : List Definition) → length (routines_from s j fs) ≡ length fs
-routines_length s j [] = refl
-routines_length s j (f ∷ fs) = ap suc (routines_length s (j + 1 + seams_all (steps_of_all s f.body)) fs)
-
 pub splits_length : (names : Names) (source : List ℕ) (file : File) → length (plan_of names source file).routines ≡ length (splits_of names source file)
-splits_length names source file = routines_length (scene_of names source file) 0 file.functions ∙ sym (length-map file.functions _)
+splits_length names source file = length_routines (scene_of names source file) 0 file.functions ∙ sym (length-map file.functions _)
 
 -- each function of a program stands where its part says, and none else has a part
 pub placed_program : (names : Names) (source : List ℕ) (file : File) (f : ℕ) → IsPart (nodes (plan_of names source file)) (points (plan_of names source file)) f

@@ -5,9 +5,9 @@ use Rattle.std.proofs.lemmas.Option.{slice_get_within}
 use Rattle.std.proofs.lemmas.List.{length-map}
 use Rattle.cw_rights.specs.Policies.{PlainPolicy}
 use Rattle.cw_syntax.specs.Names.{Names, text, number_in}
-use Rattle.cw_syntax.specs.Trees.{Definition, File}
-use Rattle.cw_syntax.specs.Plans.{Callee, Action, Computes, Opens, Closes, Invokes, action_of, Scene, Routine, Plan, routines_from, plan_of}
-use Rattle.cw_syntax.specs.Plans.{scene_of, seams_all, steps_of_all}
+use Rattle.cw_syntax.specs.Trees.{File}
+use Rattle.cw_syntax.specs.Plans.{Callee, Action, Computes, Opens, Closes, Invokes, action_of, Routine, Plan, plan_of}
+use Rattle.cw_syntax.specs.Plans.{scene_of}
 use Rattle.cw_resolve.proofs.Bounds.{IsWithin, acts_within}
 use Rattle.cw_game.specs.declared.spots.Spot.{Spot}
 use Rattle.cw_syntax.specs.Runnable.{IsRunnable}
@@ -27,10 +27,7 @@ use Rattle.cw_positions.proofs.Leading.{all_lead, length_nodes}
 use Rattle.cw_positions.proofs.Fitting.{ActFits, PointFits, routine_fits, points_fit_from, point_fits}
 use Rattle.cw_positions.proofs.Closing.{CallsWithin, base_below, leads_within}
 use Rattle.cw_lemmas.proofs.Lists.{get_below}
-
-length_routines : (c : Scene) (j : ℕ) (fs : List Definition) → length (routines_from c j fs) ≡ length fs
-length_routines c j [] = refl
-length_routines c j (f ∷ fs) = ap suc (length_routines c (j + 1 + seams_all (steps_of_all c f.body)) fs)
+use Rattle.cw_syntax.proofs.Counting.{length_routines}
 
 length_parts : (rs : List Routine) (splits : List Bool) (n : ℕ) → length rs ≡ length splits → length (parts_from rs splits n) ≡ length rs
 length_parts [] [] n h = refl

@@ -1,14 +1,11 @@
 -- No C name has a slash.
-use Rattle.std.proofs.Common.{◌≡◌, ℕ, zero, suc, eqb, true, false, List, [], ◌∷◌, drop, refl, sym, ap, ◌∙◌}
-use Rattle.std.specs.Prelude.{nat_eq, codes}
-use Rattle.std.specs.List.{list_all, starts_with}
+use Rattle.std.proofs.Common.{◌≡◌, ℕ, zero, suc, eqb, true, List, [], ◌∷◌, refl, sym, ap, ◌∙◌}
+use Rattle.std.specs.Prelude.{codes}
+use Rattle.std.specs.List.{list_all}
 use Rattle.std.proofs.lemmas.Bool.{and_parts, false_from_ne_true, true≢false, eqb-true, or_left}
 use Rattle.cw_rights.specs.Valid.{is_name, is_name_byte, is_name_start}
 use Rattle.cw_syntax.specs.PlainMarks.{HasNone}
-
-nothing_begins : (at : ℕ) → starts_with nat_eq (drop at []) (codes "/") ≡ false
-nothing_begins zero = refl
-nothing_begins (suc at) = refl
+use Rattle.cw_lemmas.proofs.Texts.{nothing_begins}
 
 bytes_plain : (bytes : List ℕ) → list_all is_name_byte bytes ≡ true → HasNone (codes "/") bytes
 bytes_plain [] e at = nothing_begins at

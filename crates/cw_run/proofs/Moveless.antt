@@ -34,15 +34,11 @@ use Rattle.cw_trace.specs.Steps.{IsNoMove}
 use Rattle.cw_run.specs.Walks.{Here, Wait, ret_of, config_of, mems_of, place, mem_after, within, To, Over as AllOver, Back, Stopped, called, returning, ended, going_on, refusing, asked, next_of}
 use Rattle.cw_run.proofs.Sees.{Sees, see, is_inner, below, board_on, remembered}
 use Rattle.cw_run.proofs.Sits.{same_lead, with_rets, Waiting, Least, Sits}
-use Rattle.cw_lemmas.proofs.Options.{option_map_some as mapped}
+use Rattle.cw_lemmas.proofs.Options.{option_map_some as mapped, option_map_none}
 use Rattle.cw_run.proofs.Calls.{call_here, called_memory, end_here}
 use Rattle.cw_run.proofs.Refusals.{refusal_step, asked_here}
 use Rattle.std.proofs.lemmas.Bool.{or_from as no_or}
 use Rattle.cw_game.proofs.Linking.{steady}
-
-none_mapped : {A B : Type 0} (f : A → B) (o : Option A) → option_map f o ≡ None → o ≡ None
-none_mapped f None e = refl
-none_mapped f (Some x) e = absurd (none-some (f x) (sym e))
 
 inner_calls : (s : Spot) → is_inner s ≡ true → (is_call_in (Some s) || is_exit_in (Some s)) ≡ false
 inner_calls (CallSpot j f n) e = cc
@@ -130,7 +126,7 @@ module _ (names : Names) (g : Game) (t : Table) (plan : Plan) (right : AreStates
       let d = tie.to_pair next mv in
       let pair = leads_pair h waits by spot d.0 es inner good d.1 in
       let lost : mem_after t h.mem spot by ≡ None =
-      none_mapped (place pair.0) (mem_after t h.mem spot by) (sym (ap (option_and_then (λ (r : ℕ × ℕ). option_map (place r) (mem_after t h.mem spot by))) pair.1) ∙ none) in
+      option_map_none (place pair.0) (mem_after t h.mem spot by) (sym (ap (option_and_then (λ (r : ℕ × ℕ). option_map (place r) (mem_after t h.mem spot by))) pair.1) ∙ none) in
       let turn = environments_turn (Least g) g plan right laid has s.board c sits.stands (ap weavers_in es ∙ env) in
       there s by next (mems_of h waits) safe sits.mems turn mv
       (memory_is s.board h waits by spot sits.stands es inner turn never ∙ ap (option_map (λ n. n ∷ map (λ (w : Wait). w.mem) waits)) lost)
@@ -170,7 +166,7 @@ module _ (names : Names) (g : Game) (t : Table) (plan : Plan) (right : AreStates
       let k = link.calls s.board c call by next (stands_at s.board c sits.stands) (unrefused (Least g) g plan right laid has s.board c sits.stands)
       (ap call_in es ∙ is_call split) mv in
       let turn = environments_turn (Least g) g plan right laid has s.board c sits.stands (ap weavers_in es ∙ no_visit split) in
-      let lost = none_mapped _ (option_and_then (λ r. mem_in t r.callee) (into_at t j split h.mem)) (sym (ap (called g t h j f n split) k.0) ∙ none) in
+      let lost = option_map_none _ (option_and_then (λ r. mem_in t r.callee) (into_at t j split h.mem)) (sym (ap (called g t h j f n split) k.0) ∙ none) in
       there s On next (mems_of h waits) safe sits.mems turn (subst (λ y. Moves problem s.board y next) k.0 mv)
       (on s.board.stack s.board.kept s.board.caps s.board.word s.board.phase sits.stands
       ∙ ap (option_map (λ callee. callee ∷ mems_of h waits)) lost)
@@ -224,7 +220,7 @@ module _ (names : Names) (g : Game) (t : Table) (plan : Plan) (right : AreStates
           (option_and_then (λ r. mem_in t r.after) (back_at t w.seam w.split w.mem exit))) o ≡ None
           → option_and_then (λ exit. option_and_then (λ r. mem_in t r.after) (back_at t w.seam w.split w.mem exit)) o ≡ None
       by None e = refl
-      by (Some exit) e = none_mapped _ (option_and_then (λ r. mem_in t r.after) (back_at t w.seam w.split w.mem exit)) e
+      by (Some exit) e = option_map_none _ (option_and_then (λ r. mem_in t r.after) (back_at t w.seam w.split w.mem exit)) e
 
   end_moveless : (s : State) (h : Here) (waits : List Wait) (by : Move) (f : ℕ) → Sits plan g s h waits → Safe problem t s
       → slice_get g.spots h.pos ≡ Some (Exit f) → ended g t h waits by ≡ None → IsNoMove problem s.board by
@@ -251,7 +247,7 @@ module _ (names : Names) (g : Game) (t : Table) (plan : Plan) (right : AreStates
     where
       by : (o : Option MemId) → going_on t j pair o ≡ None → (not (is_some o) ≡ false) × (option_and_then (mem_in t) o ≡ None)
       by None e = absurd (none-some (Stopped j) (sym e))
-      by (Some m) e = (refl, none_mapped _ (mem_in t m) e)
+      by (Some m) e = (refl, option_map_none _ (mem_in t m) e)
 
   -- neither of the weaver's moves is there, in Refused
   stuck : (b next : Board) (i : ℕ) (a : Primitive) (later : List Primitive) (ms ns : List ℕ) (by : Move) → moved problem b (Refused i a later) by ≡ Some next
@@ -291,9 +287,9 @@ module _ (names : Names) (g : Game) (t : Table) (plan : Plan) (right : AreStates
   asked_moveless s h waits Refuse j i a sits safe after es (Some pair) er none = λ next mv. refusing_moveless s h waits j i a pair sits after es er none
   asked_moveless s h waits Refuse j i a sits safe after es None er none =
       inner_moveless s h waits Refuse (AskedSpot j i a) sits safe es refl refl
-      (asked_never s.board.stack s.board.kept s.board.caps s.board.word s.board.phase h.pos h.state (map ret_of waits) sits.stands er) (none_mapped To _ none)
+      (asked_never s.board.stack s.board.kept s.board.caps s.board.word s.board.phase h.pos h.state (map ret_of waits) sits.stands er) (option_map_none To _ none)
   asked_moveless s h waits by j i a sits safe after es o er none =
-      inner_moveless s h waits by (AskedSpot j i a) sits safe es refl refl (only_refusals g.policy s.board.caps s.board.phase by (λ e. cc)) (none_mapped To _ none)
+      inner_moveless s h waits by (AskedSpot j i a) sits safe es refl refl (only_refusals g.policy s.board.caps s.board.phase by (λ e. cc)) (option_map_none To _ none)
 
   -- Where no move is found there is none.
   pub moveless : (s : State) (h : Here) (waits : List Wait) (by : Move) (spot : Spot) → Sits plan g s h waits → Safe problem t s
@@ -306,16 +302,16 @@ module _ (names : Names) (g : Game) (t : Table) (plan : Plan) (right : AreStates
   moveless s h waits by (VisitSpot j i a) sits safe after es env none = cc
   moveless s h waits by (Step n) sits safe after es env none =
       inner_moveless s h waits by (Step n) sits safe es refl refl
-      (unasked_on s.board.stack s.board.kept s.board.caps s.board.word s.board.phase h.pos h.state (map ret_of waits) by (Step n) sits.stands es (λ j i a e. cc)) (none_mapped To _ none)
+      (unasked_on s.board.stack s.board.kept s.board.caps s.board.word s.board.phase h.pos h.state (map ret_of waits) by (Step n) sits.stands es (λ j i a e. cc)) (option_map_none To _ none)
   moveless s h waits by (Branch m n) sits safe after es env none =
       inner_moveless s h waits by (Branch m n) sits safe es refl refl
-      (unasked_on s.board.stack s.board.kept s.board.caps s.board.word s.board.phase h.pos h.state (map ret_of waits) by (Branch m n) sits.stands es (λ j i a e. cc)) (none_mapped To _ none)
+      (unasked_on s.board.stack s.board.kept s.board.caps s.board.word s.board.phase h.pos h.state (map ret_of waits) by (Branch m n) sits.stands es (λ j i a e. cc)) (option_map_none To _ none)
   moveless s h waits by (LabelSpot j l n) sits safe after es env none =
       inner_moveless s h waits by (LabelSpot j l n) sits safe es refl refl
-      (unasked_on s.board.stack s.board.kept s.board.caps s.board.word s.board.phase h.pos h.state (map ret_of waits) by (LabelSpot j l n) sits.stands es (λ j i a e. cc)) (none_mapped To _ none)
+      (unasked_on s.board.stack s.board.kept s.board.caps s.board.word s.board.phase h.pos h.state (map ret_of waits) by (LabelSpot j l n) sits.stands es (λ j i a e. cc)) (option_map_none To _ none)
   moveless s h waits by (OpenSpot j d n) sits safe after es env none =
       inner_moveless s h waits by (OpenSpot j d n) sits safe es refl refl
-      (unasked_on s.board.stack s.board.kept s.board.caps s.board.word s.board.phase h.pos h.state (map ret_of waits) by (OpenSpot j d n) sits.stands es (λ j i a e. cc)) (none_mapped To _ none)
+      (unasked_on s.board.stack s.board.kept s.board.caps s.board.word s.board.phase h.pos h.state (map ret_of waits) by (OpenSpot j d n) sits.stands es (λ j i a e. cc)) (option_map_none To _ none)
   moveless s h waits by (CloseSpot j d n) sits safe after es env none =
       inner_moveless s h waits by (CloseSpot j d n) sits safe es refl refl
-      (unasked_on s.board.stack s.board.kept s.board.caps s.board.word s.board.phase h.pos h.state (map ret_of waits) by (CloseSpot j d n) sits.stands es (λ j i a e. cc)) (none_mapped To _ none)
+      (unasked_on s.board.stack s.board.kept s.board.caps s.board.word s.board.phase h.pos h.state (map ret_of waits) by (CloseSpot j d n) sits.stands es (λ j i a e. cc)) (option_map_none To _ none)

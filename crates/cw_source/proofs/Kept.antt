@@ -1,6 +1,5 @@
 -- Where no scope rule is broken each is kept.
 use Rattle.std.proofs.Common.{◌≡◌, ℕ, Bool, true, false, cond, nat_lt, ◌≤◌, List, [], length, map, Option, None, Some, refl, arith}
-use Rattle.std.specs.Option.{option_map}
 use Rattle.std.proofs.lemmas.Bool.Decides.{nat_tests}
 use Rattle.cw_core.specs.declared.quantity.Quantity.TheVariants.{Functions, Labels}
 use Rattle.cw_syntax.specs.Trees.{File}
@@ -11,8 +10,9 @@ use Rattle.cw_scope.specs.Names.{uses, every_name, every_label}
 use Rattle.cw_scope.specs.Rules.{different, has_main, loose_jump}
 use Rattle.cw_resolve.specs.Soonest.{soonest}
 use Rattle.cw_scope.specs.Faults.{no_main, two_functions, two_labels, arity, call_form, main_called, reserved_name, jump, limit, ◌or_else◌, scope_fault}
+use Rattle.cw_lemmas.proofs.Options.{option_map_none}
 
-neither : (a b : Option ScopeFault) → a or_else b ≡ None → (a ≡ None) × (b ≡ None)
+pub neither : (a b : Option ScopeFault) → a or_else b ≡ None → (a ≡ None) × (b ≡ None)
 neither None b e = (refl, e)
 neither (Some x) b e = absurd (cc)
 
@@ -43,13 +43,9 @@ module _ (source : List ℕ) (file : File) (kept : scope_fault source file ≡ N
   unfolding no_main
   has_main_kept = there (has_main source file) rules.0
 
-  unmapped : (place : Option ℕ) → option_map Jump place ≡ None → place ≡ None
-  unmapped None e = refl
-  unmapped (Some x) e = absurd (cc)
-
   pub jumps_kept : soonest (map (λ p. loose_jump p.looped p.statement) (every_statement file)) ≡ None
   unfolding jump
-  jumps_kept = unmapped (soonest (map (λ p. loose_jump p.looped p.statement) (every_statement file))) rules.1
+  jumps_kept = option_map_none Jump (soonest (map (λ p. loose_jump p.looped p.statement) (every_statement file))) rules.1
 
   at_most : (most n : ℕ) (rest : Option ScopeFault) (b : Bool) → nat_lt most n ≡ b → cond b (Some (Limit Functions)) rest ≡ None → n ≤ most
   at_most most n rest true is e = absurd (cc)

@@ -1,5 +1,5 @@
 pub mod OneAnswer
-mod Kept
+pub mod Kept
 pub mod Lying
 mod Ordered
 pub mod Marking

@@ -1,5 +1,5 @@
 -- A program that is read has `main`, and few functions.
-use Rattle.std.proofs.Common.{◌≡◌, ℕ, suc, ◌+◌, ◌≤◌, Bool, true, false, cond, is_some, List, [], ◌∷◌, length, map, Some, slice_get, refl, ap, arith}
+use Rattle.std.proofs.Common.{◌≡◌, ℕ, suc, ◌+◌, ◌≤◌, Bool, true, false, cond, is_some, List, [], ◌∷◌, length, map, Some, slice_get, refl, arith}
 use Rattle.std.specs.Prelude.{codes}
 use Rattle.std.specs.List.{find, position_or_len}
 use Rattle.std.specs.Str.{bytes_eq}
@@ -9,6 +9,7 @@ use Rattle.cw_syntax.specs.Trees.{Definition, File}
 use Rattle.cw_syntax.specs.Plans.{Scene, steps_of_all, seams_all, Routine, routines_from, scene_of, plan_of}
 use Rattle.cw_source.specs.Read.{ReadsAs}
 use Rattle.cw_source.proofs.Kept.{has_main_kept, functions_kept}
+use Rattle.cw_syntax.proofs.Counting.{length_routines}
 
 behind : (x : Routine) (xs : List Routine) (n : ℕ) (r : Routine) → slice_get xs n ≡ Some r → slice_get (x ∷ xs) (1 + n) ≡ Some r
 behind x xs n r e = let same : 1 + n ≡ suc n = omega arith in rw same e
@@ -37,9 +38,5 @@ module _ (s : Scene) (source name : List ℕ) where
 pub main_there : (names : Names) (source : List ℕ) (file : File) → ReadsAs source file → (r : Routine) × (slice_get (plan_of names source file).routines (plan_of names source file).main ≡ Some r)
 main_there names source file h = there (scene_of names source file) source (codes "main") file.functions 0 (has_main_kept source file h.scoped)
 
-as_many : (s : Scene) (j : ℕ) (fs : List Definition) → length (routines_from s j fs) ≡ length fs
-as_many s j [] = refl
-as_many s j (f ∷ fs) = ap (λ (n : ℕ). suc n) (as_many s (j + 1 + seams_all (steps_of_all s f.body)) fs)
-
 pub functions_few : (names : Names) (source : List ℕ) (file : File) → ReadsAs source file → length (plan_of names source file).routines ≤ 512
-functions_few names source file h = rw (as_many (scene_of names source file) 0 file.functions) (functions_kept source file h.scoped)
+functions_few names source file h = rw (length_routines (scene_of names source file) 0 file.functions) (functions_kept source file h.scoped)

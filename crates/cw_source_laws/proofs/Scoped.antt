@@ -2,7 +2,6 @@
 use Rattle.std.proofs.Common.{◌≡◌, ℕ, zero, ◌<◌, List, [], ◌∷◌, ◌++◌, map, length, Bool, true, false, cond, nat_lt, get_or, Option, None, Some, refl, sym, ap, ◌∙◌, arith}
 use Rattle.std.specs.Prelude.{codes}
 use Rattle.std.specs.List.{flat_map, position_or_len}
-use Rattle.std.specs.Option.{option_map}
 use Rattle.std.specs.Str.{bytes_eq}
 use Rattle.std.proofs.lemmas.Bool.Decides.{nat_tests}
 use Rattle.std.proofs.lemmas.Option.{same_Some}
@@ -24,6 +23,7 @@ use Rattle.cw_scope.specs.Faults.{no_main, two_functions, two_labels, arity, cal
 use Rattle.cw_positions.specs.Opens.{EachStands, EachStandsIn, EachStandsArm, EachStandsAll, EachStandsFrom}
 use Rattle.cw_positions.proofs.Fitting.{ActFits}
 use Rattle.cw_source.proofs.Landing.{neither}
+use Rattle.cw_lemmas.proofs.Options.{option_map_none}
 
 -- the rule on `main` is kept where all are
 first_kept : (a b : Option ScopeFault) → a or_else b ≡ None → a ≡ None
@@ -41,14 +41,10 @@ sixth_kept a b c d e f g h i kept =
     let six = first_kept (a or_else b or_else c or_else d or_else e or_else f) g seven in
     last_kept (a or_else b or_else c or_else d or_else e) f six
 
-unmapped : (place : Option ℕ) → option_map MainCalled place ≡ None → place ≡ None
-unmapped None e = refl
-unmapped (Some x) e = absurd (cc)
-
 main_kept : (source : List ℕ) (file : File) → scope_fault source file ≡ None → soonest (map (main_call source) (every_node file)) ≡ None
 unfolding main_called
 main_kept source file kept =
-    unmapped (soonest (map (main_call source) (every_node file)))
+    option_map_none MainCalled (soonest (map (main_call source) (every_node file)))
     (sixth_kept (no_main source file) (two_functions source file) (two_labels source file) (arity source file (every_node file))
     (call_form source file (uses file) (every_whole file)) (main_called source (every_node file)) (reserved_name source (every_name file)) (jump (every_statement file))
     (limit source file (every_label file)) kept)

@@ -11,13 +11,13 @@ use Rattle.cw_core.specs.Ranges.{is_spelling_byte}
 use Rattle.cw_certs.specs.declared.moves.Move.{Move}
 use Rattle.cw_certs.specs.declared.moves.Move.TheVariants.{Skip, Try, Grant, Refuse, On, Left, Right, Opened, Failed, Stop}
 use Rattle.cw_text.specs.Lines.{IsFree, Reads}
-use Rattle.cw_text.specs.Moves.{IsEnvironments}
 use Rattle.cw_text.proofs.Names.{move_of}
 use Rattle.cw_text.proofs.Free.{free_from_test, decimal_free}
 use Rattle.cw_text_lines.specs.Lines.{Tell, AreTold}
 use Rattle.cw_text_lines.proofs.Telling.{words_or_not, below_or_not, same_by, told_by}
 use Rattle.cw_steps.specs.declared.step.Step.{Step}
 use Rattle.cw_steps.specs.Steps.{act_word, FitsAct, step_words, FitsStep}
+use Rattle.cw_text.proofs.SomeAnswer.{environments_or_not}
 
 -- ---- words without a mark
 
@@ -70,12 +70,6 @@ step_back s fits = ap₂ (λ (n : ℕ) (act : Bool × Move). record { process = 
     (decimal_is_IsNumeral s.process (let small = fits.process in omega (arith, small))).1 (act_back s.fork s.by fits.act)
 
 -- ---- whether a step fits
-
-environments_or_not : (by : Move) → IsEnvironments by ⊎ (IsEnvironments by → ⊥)
-environments_or_not Skip = inr (λ h. h)
-environments_or_not Try = inr (λ h. h)
-environments_or_not Stop = inr (λ h. h)
-environments_or_not _ = inl tt
 
 act_or_not : (fork : Bool) (by : Move) → FitsAct fork by ⊎ (FitsAct fork by → ⊥)
 act_or_not true by = go by

@@ -8,7 +8,6 @@ use Rattle.cw_lemmas.proofs.Texts.{begins_or_not}
 use Rattle.cw_core.specs.StateSet.{IsBelow}
 use Rattle.cw_core.proofs.Sets.{IsBelow-lt, IsBelow_from_lt}
 use Rattle.cw_certs.specs.declared.moves.Move.{Move}
-use Rattle.cw_certs.specs.declared.moves.Move.TheVariants.{Skip, Try, Grant, Refuse, On, Left, Right, Opened, Failed, Stop as StopMove}
 use Rattle.cw_certs.specs.Strategies.{How, Bad, Out, Both, Go, Into, Row, Strategy}
 use Rattle.cw_text.specs.declared.fault.TextFault.{TextFault}
 use Rattle.cw_text.specs.declared.fault.TextFault.TheVariants.{Line, Order, Limit}
@@ -26,6 +25,7 @@ use Rattle.cw_strategy_text.proofs.Backs as backs
 use Rattle.cw_strategy_text.proofs.Fronts.{front_first, front_next, front_end}
 use Rattle.cw_strategy_text.proofs.Hows.{no_words, no_kind, of_kind}
 use Rattle.cw_strategy_text.proofs.RowLines.{no_place, no_how, a_row, none_at_all, none_here, end_stands, row_here, row_shortens}
+use Rattle.cw_text.proofs.SomeAnswer.{environments_or_not}
 
 -- ---- what can be decided
 
@@ -152,23 +152,11 @@ backs_readable low (w ∷ words) = by_read (back_readable w).0 (back_readable w)
 
 -- ---- what a row does
 
-is_environments : (by : Move) → IsEnvironments by ⊎ (IsEnvironments by → ⊥)
-is_environments Skip = inr (λ h. h)
-is_environments Try = inr (λ h. h)
-is_environments StopMove = inr (λ h. h)
-is_environments Grant = inl tt
-is_environments Refuse = inl tt
-is_environments On = inl tt
-is_environments Left = inl tt
-is_environments Right = inl tt
-is_environments Opened = inl tt
-is_environments Failed = inl tt
-
 -- only the move that a name tells can have it
 move_readable : (word : List ℕ) → Readable IsEnvironments move_name word
 move_readable word =
     elim (same_text (move_name (move_of word)) word) [
-      | inl e ↦ elim (is_environments (move_of word)) [
+      | inl e ↦ elim (environments_or_not (move_of word)) [
         | inl fits ↦ (Some (move_of word), record { some = (fits, e); none = tt })
         | inr not ↦ (None, record { some = tt; none = λ by fits is. not (subst IsEnvironments (one by is) fits) })
       ]

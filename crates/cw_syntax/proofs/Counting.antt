@@ -1,12 +1,11 @@
 -- The numbers of the seams.
-use Rattle.std.proofs.Common.{◌≡◌, ℕ, zero, suc, ◌+◌, List, [], ◌∷◌, ◌++◌, refl, sym, ap, ap₂, ◌∙◌, subst, arith}
+use Rattle.std.proofs.Common.{◌≡◌, ℕ, zero, suc, ◌+◌, List, [], ◌∷◌, ◌++◌, refl, sym, ap, ap₂, ◌∙◌, arith}
 use Rattle.std.specs.Prelude.{map, length}
 use Rattle.std.specs.List.{range_with_len}
 use Rattle.std.proofs.lemmas.List.{map-append, length-map}
 use Rattle.std.proofs.lemmas.List.FromFn.{length-range_with_len}
-use Rattle.cw_syntax.specs.Names.{Names}
-use Rattle.cw_syntax.specs.Trees.{Definition, File}
-use Rattle.cw_syntax.specs.Plans.{Callee, Stm, Plain, Break, Continue, Return, Open, Close, Call, Group, Label, If, While, Do, For, Stms, end, then, Routine, Plan, plan_of, scene_of, numbered, numbered_all, seams, seams_all, Scene, steps_of_all, routines_from}
+use Rattle.cw_syntax.specs.Trees.{Definition}
+use Rattle.cw_syntax.specs.Plans.{Stm, Plain, Break, Continue, Return, Open, Close, Call, Group, Label, If, While, Do, For, Stms, end, then, plan_of, scene_of, numbered, numbered_all, seams, seams_all, Scene, steps_of_all, routines_from}
 use Rattle.cw_syntax.specs.Marks.{SeamMark, marks_in, marks_in_all, marks_from, marks_of, SeamsAreInOrder}
 
 abbrev number_of : SeamMark → ℕ
@@ -68,3 +67,8 @@ in_order names source file =
     let h : map number_of marks ≡ range_with_len 0 n = numbers_from (scene_of names source file) 0 file.functions in
     let e : n ≡ length marks = sym (length-range_with_len 0 n) ∙ sym (ap length h) ∙ length-map marks number_of in
     h ∙ ap (range_with_len 0) e
+
+-- a plan has a routine for each function
+pub length_routines : (s : Scene) (j : ℕ) (fs : List Definition) → length (routines_from s j fs) ≡ length fs
+length_routines s j [] = refl
+length_routines s j (f ∷ fs) = ap suc (length_routines s (j + 1 + seams_all (steps_of_all s f.body)) fs)

@@ -5,7 +5,7 @@ use Rattle.std.specs.Fmt.{decimal}
 use Rattle.std.specs.List.{All, filter, range_with_len, join_with_byte}
 use Rattle.std.proofs.lemmas.Bool.{cases_eq, eq-eqb, ne_eqb, false≢true}
 use Rattle.std.proofs.lemmas.Slice.Eq.{bytes_eq-Decides}
-use Rattle.std.proofs.lemmas.Fmt.{decimal_injective, decimal_nonempty}
+use Rattle.std.proofs.lemmas.Fmt.{decimal_injective}
 use Rattle.std.proofs.lemmas.List.Elements.{All-nil, All-cons, All-append}
 use Rattle.std.specs.Cmp.{both_ways as same_bool}
 use Rattle.cw_core.specs.Numerals.{hexadecimal}
@@ -18,6 +18,7 @@ use Rattle.cw_text.specs.Lines.{IsFree, words_of, set_text, IsSetIn}
 use Rattle.cw_text.proofs.Cuts.{words_first, words_last, words-joined}
 use Rattle.cw_text.proofs.Fields.{mask_stands}
 use Rattle.cw_text.proofs.Free.{decimal_free}
+use Rattle.cw_core.proofs.RunTexts.{some_text}
 
 -- ---- numbers in a list
 
@@ -188,15 +189,6 @@ run_free run up small =
           (All-append (λ (b : ℕ). eqb b 43 ≡ false) (decimal run.least) (45 ∷ decimal run.greatest) first (All-cons (λ (b : ℕ). eqb b 43 ≡ false) 45 (decimal run.greatest) refl second))
     ]
 
-some_run : (run : Run) → run.least ≤ run.greatest → run.greatest < 1024 → 0 < length (run_text run)
-unfolding run_text
-some_run run up small =
-    let some = decimal_nonempty run.least (omega (arith, up, small)) in
-    elim (cases_eq run.least run.greatest) [
-      | inl e ↦ rw (eq-eqb run.least run.greatest e) some
-      | inr differs ↦ rw (ne_eqb run.least run.greatest differs) (omega (arith, some, length-append (decimal run.least) (codes "-" ++ decimal run.greatest)))
-    ]
-
 runs_free : (runs : List Run) → AreGood runs → All (IsFree 43) (map run_text runs)
 runs_free [] good = All-nil (IsFree 43)
 runs_free (run ∷ runs) good = All-cons (IsFree 43) (run_text run) (map run_text runs) (run_free run good.0 good.1) (runs_free runs good.2)
@@ -213,10 +205,10 @@ same_runs (r ∷ rs) (s ∷ ss) good also e =
 
 no_text : (run : Run) (runs : List Run) → AreGood (run ∷ runs) → runs_text (run ∷ runs) ≡ [] → ⊥
 unfolding runs_text
-no_text run [] good e = let some = some_run run good.0 good.1 in omega (arith, some, ap length e)
+no_text run [] good e = let some = some_text run good.0 good.1 in omega (arith, some, ap length e)
 no_text run (next ∷ runs) good e =
     let long = length-append (run_text run) (43 ∷ join_with_byte 43 (map run_text (next ∷ runs))) in
-    let some = some_run run good.0 good.1 in
+    let some = some_text run good.0 good.1 in
     let none = ap length e in
     omega (arith, long, some, none)
 

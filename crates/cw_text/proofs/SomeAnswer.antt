@@ -1,7 +1,7 @@
 -- Each text is the tape of some moves, or has a first line with a word that names none.
-use Rattle.std.proofs.Common.{◌≡◌, ◌⊎◌, ℕ, zero, suc, ◌+◌, ◌<◌, List, [], ◌∷◌, ◌++◌, map, length, Bool, true, false, Result, Ok, Err, refl, sym, ap, ap₂, ◌∙◌, subst, inl, inr, arith, append_assoc, append-nil}
+use Rattle.std.proofs.Common.{◌≡◌, ◌⊎◌, ℕ, suc, ◌+◌, List, [], ◌∷◌, ◌++◌, length, Bool, true, false, Result, Ok, Err, refl, sym, ap, ap₂, ◌∙◌, subst, inl, inr, arith, append_assoc, append-nil}
 use Rattle.std.specs.Prelude.{Contains}
-use Rattle.std.specs.List.{All, flat_map}
+use Rattle.std.specs.List.{flat_map}
 use Rattle.std.specs.Str.{bytes_eq}
 use Rattle.std.proofs.lemmas.Grind.{flat_map-append}
 use Rattle.std.proofs.lemmas.List.{map-append}
@@ -13,7 +13,7 @@ use Rattle.cw_certs.specs.declared.moves.Move.TheVariants.{Skip, Try, Stop}
 use Rattle.cw_text.specs.declared.fault.TextFault.{TextFault}
 use Rattle.cw_text.specs.declared.fault.TextFault.TheVariants as fault
 use Rattle.cw_text.specs.Moves.{move_name, IsWeavers, IsEnvironments}
-use Rattle.cw_text.specs.Tapes.{words, lines, IsIn, AreNames, IsOther, IsFirstOther, IsAnswer}
+use Rattle.cw_text.specs.Tapes.{words, lines, IsIn, AreNames, IsOther, IsAnswer}
 use Rattle.cw_text.proofs.Names.{move_of, told}
 
 weavers_or_not : (by : Move) → IsWeavers by ⊎ (IsWeavers by → ⊥)
@@ -21,7 +21,7 @@ weavers_or_not Skip = inl tt
 weavers_or_not Try = inl tt
 weavers_or_not _ = inr (λ h. h)
 
-environments_or_not : (by : Move) → IsEnvironments by ⊎ (IsEnvironments by → ⊥)
+pub environments_or_not : (by : Move) → IsEnvironments by ⊎ (IsEnvironments by → ⊥)
 environments_or_not Skip = inr (λ h. h)
 environments_or_not Try = inr (λ h. h)
 environments_or_not Stop = inr (λ h. h)

@@ -8,8 +8,8 @@ use Rattle.cw_product.specs.Product.{game_of}
 use Rattle.cw_solve.specs.declared.contexts.Context.{Context}
 use Rattle.cw_lazy_table.specs.Numbered.{ArePromises}
 use Rattle.cw_lazy_table.proofs.Numbering.{are_promises, promise_more}
-use Rattle.cw_lazy_table.proofs.Tabled.{if_ok}
 use Rattle.cw_lazy_table.proofs.promises.promises_of.Goals as goal
+use Rattle.cw_lemmas.proofs.Options.{if_ok}
 
 pub returns : goal.returns
 returns c =

@@ -12,8 +12,8 @@ use Rattle.cw_lazy_table.specs.Numbered.{whole_memory}
 use Rattle.cw_lazy_table.specs.Places.{return_cmp, return_of}
 use Rattle.cw_lazy_table.specs.Rowing.{back_row}
 use Rattle.cw_lazy_table.proofs.Keeps.{pair_position, return_states, backs_are}
-use Rattle.cw_lazy_table.proofs.Tabled.{if_ok}
 use Rattle.cw_lazy_table.proofs.table.backs.Goals as goal
+use Rattle.cw_lemmas.proofs.Options.{if_ok}
 
 pub returns-requires : goal.returns-requires
 returns-requires c = pair_position c.args.game.now c.args.promises.now c.args.pairs.now c.requires.returns

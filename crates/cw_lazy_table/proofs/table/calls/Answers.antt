@@ -9,8 +9,8 @@ use Rattle.cw_lazy_table.specs.Lazy.{IsIntoRow}
 use Rattle.cw_lazy_table.specs.Numbered.{set_at, whole_memory}
 use Rattle.cw_lazy_table.specs.Rowing.{into_row}
 use Rattle.cw_lazy_table.proofs.Keeps.{place_can, calls_are}
-use Rattle.cw_lazy_table.proofs.Tabled.{if_ok}
 use Rattle.cw_lazy_table.proofs.table.calls.Goals as goal
+use Rattle.cw_lemmas.proofs.Options.{if_ok}
 
 pub into_rows-requires-clause-can : goal.into_rows-requires-clause-can
 into_rows-requires-clause-can c =

@@ -9,8 +9,8 @@ use Rattle.cw_lazy_table.specs.Lazy.{IsCloseRow}
 use Rattle.cw_lazy_table.specs.Numbered.{whole_memory}
 use Rattle.cw_lazy_table.specs.Rowing.{at_row}
 use Rattle.cw_lazy_table.proofs.Keeps.{place_range, closes_are}
-use Rattle.cw_lazy_table.proofs.Tabled.{if_ok}
 use Rattle.cw_lazy_table.proofs.table.closes.Goals as goal
+use Rattle.cw_lemmas.proofs.Options.{if_ok}
 
 pub at_rows-requires-clause-there : goal.at_rows-requires-clause-there
 at_rows-requires-clause-there c =

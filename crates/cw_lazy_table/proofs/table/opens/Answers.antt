@@ -9,8 +9,8 @@ use Rattle.cw_lazy_table.specs.Lazy.{IsOpenRow}
 use Rattle.cw_lazy_table.specs.Numbered.{whole_memory}
 use Rattle.cw_lazy_table.specs.Rowing.{open_row}
 use Rattle.cw_lazy_table.proofs.Keeps.{place_range, opens_are}
-use Rattle.cw_lazy_table.proofs.Tabled.{if_ok}
 use Rattle.cw_lazy_table.proofs.table.opens.Goals as goal
+use Rattle.cw_lemmas.proofs.Options.{if_ok}
 
 pub open_rows-requires-clause-there : goal.open_rows-requires-clause-there
 open_rows-requires-clause-there c =

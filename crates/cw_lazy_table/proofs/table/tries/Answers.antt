@@ -9,8 +9,8 @@ use Rattle.cw_lazy_table.specs.Lazy.{IsTryRow}
 use Rattle.cw_lazy_table.specs.Numbered.{lost_by, whole_memory}
 use Rattle.cw_lazy_table.specs.Rowing.{try_row}
 use Rattle.cw_lazy_table.proofs.Keeps.{place_can, tries_are}
-use Rattle.cw_lazy_table.proofs.Tabled.{if_ok}
 use Rattle.cw_lazy_table.proofs.table.tries.Goals as goal
+use Rattle.cw_lemmas.proofs.Options.{if_ok}
 
 pub try_rows-requires-clause-can : goal.try_rows-requires-clause-can
 try_rows-requires-clause-can c =

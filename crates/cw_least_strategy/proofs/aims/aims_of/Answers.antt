@@ -1,4 +1,4 @@
-use Rattle.std.proofs.Common.{rules, ◌≡◌, ◌<◌, ◌≤◌, ℕ, List, length, map, ◌∙◌, ap, subst, arith, Vec}
+use Rattle.std.proofs.Common.{rules, ◌≡◌, ◌<◌, ℕ, List, length, map, ◌∙◌, ap, subst, arith, Vec}
 use Rattle.std.specs.Prelude.{Contains}
 use Rattle.std.specs.Global.{Global}
 use Rattle.std.specs.Ordering.{nat_cmp}
@@ -7,8 +7,9 @@ use Rattle.cw_fixpoint.specs.Closures.{Exactly}
 use Rattle.cw_product.specs.Product.{Held, game_of}
 use Rattle.cw_least_strategy.specs.Heights.{others}
 use Rattle.cw_least_strategy.specs.Small.{AreAims}
-use Rattle.cw_least_strategy.proofs.AllAims.{aim_in, aim_more, are_aims, fit, if_ok}
+use Rattle.cw_least_strategy.proofs.AllAims.{aim_in, aim_more, are_aims, fit}
 use Rattle.cw_least_strategy.proofs.aims.aims_of.Goals as goal
+use Rattle.cw_lemmas.proofs.Options.{if_ok}
 
 pub loop-number-preserved : goal.loop-number-preserved
 loop-number-preserved c =

@@ -1,8 +1,8 @@
 use Rattle.std.proofs.Common.{◌≡◌, suc, ◌∷◌, length, ap, arith}
 use Rattle.std.proofs.lemmas.List.Sorted.{length_permutation}
 use Rattle.std.proofs.lemmas.Option.{IfSome_then}
-use Rattle.cw_audit_store.proofs.Nearest.{where_none}
 use Rattle.cw_audit_store.proofs.frontier.Frontier.take.Goals as goal
+use Rattle.cw_lemmas.proofs.Options.{where_none}
 
 pub returns-clause-fewer : goal.returns-clause-fewer
 returns-clause-fewer c =
