@@ -3,8 +3,8 @@ use Rattle.std.proofs.Common.{◌≡◌, ℕ, List, [], ◌∷◌, ◌++◌, map
 use Rattle.std.proofs.lemmas.List.{map-append}
 use Rattle.cw_rights.specs.declared.words.Regex.{Regex}
 use Rattle.cw_rights.specs.Trees.{tree_of, Tree, star as star_of, plus as plus_of, maybe as maybe_of}
-use Rattle.cw_regex.specs.declared.text.Mark.TheVariants.{ParenOpen, Bar}
-use Rattle.cw_regex.specs.Parts.{mark}
+use Rattle.cw_regex.specs.declared.text.Sign.TheVariants.{ParenOpen, Bar}
+use Rattle.cw_regex.specs.Parts.{sign}
 use Rattle.cw_regex.specs.Grammar.{Expression, only, either, Term, single, then, Factor, plain, star, plus, maybe, Atom, literal, group, spelled, spelled_term, spelled_factor, spelled_atom}
 use Rattle.cw_regex.specs.Meaning.{joined_seq, joined_alt, terms, factors, factor_meaning, atom_meaning, meaning}
 use Rattle.cw_regex.specs.Items.{Item, close, bar, many, some, optional, spelled_items, items, items_term, items_factor, items_atom, Level, Levels, finished, on_last, put_all}
@@ -13,7 +13,7 @@ use Rattle.cw_regex.specs.Items.{Item, close, bar, many, some, optional, spelled
 mutual
   pub items_spelled : (e : Expression) (rest : List Item) → spelled_items (items e rest) ≡ spelled e (spelled_items rest)
   items_spelled (only t) rest = term_spelled t rest
-  items_spelled (either t e) rest = term_spelled t (bar ∷ items e rest) ∙ ap (λ l. spelled_term t (mark Bar ∷ l)) (items_spelled e rest)
+  items_spelled (either t e) rest = term_spelled t (bar ∷ items e rest) ∙ ap (λ l. spelled_term t (sign Bar ∷ l)) (items_spelled e rest)
 
   term_spelled : (t : Term) (rest : List Item) → spelled_items (items_term t rest) ≡ spelled_term t (spelled_items rest)
   term_spelled (single f) rest = factor_spelled f rest
@@ -27,7 +27,7 @@ mutual
 
   atom_spelled : (a : Atom) (rest : List Item) → spelled_items (items_atom a rest) ≡ spelled_atom a (spelled_items rest)
   atom_spelled (literal label ts) rest = refl
-  atom_spelled (group e) rest = ap (λ l. mark ParenOpen ∷ l) (items_spelled e (close ∷ rest))
+  atom_spelled (group e) rest = ap (λ l. sign ParenOpen ∷ l) (items_spelled e (close ∷ rest))
 
 last_changed : (f : Tree → Tree) (ts : List Tree) (t : Tree) → on_last f (ts ++ t ∷ []) ≡ ts ++ f t ∷ []
 last_changed f [] t = refl

@@ -2,7 +2,7 @@
 use Rattle.std.proofs.Common.{◌≡◌, ◌⊎◌, inl, inr, ⊎_elim, ℕ, ◌+◌, List, [], ◌∷◌, ◌++◌, Bool, true, false, ◌&&◌, nat_eq, refl, sym, ap, ap₂, ◌∙◌, subst, eqb-true, length, arith}
 use Rattle.std.specs.List.{list_all}
 use Rattle.cw_rights.specs.Valid.{is_name_byte}
-use Rattle.cw_regex.specs.Parts.{Part, word, mark, is_blank, mark_of, begins_word, grown, parts, grown_at, placed}
+use Rattle.cw_regex.specs.Parts.{Part, word, sign, is_blank, sign_of, begins_word, grown, parts, grown_at, placed}
 use Rattle.cw_regex.specs.Scans.{Apart}
 use Rattle.std.proofs.lemmas.Bool.{or_cases}
 use Rattle.cw_lemmas.proofs.Truths.{and_first as and_left, and_second as and_right}
@@ -20,8 +20,8 @@ word_no_blank b e = by (which (is_blank b))
 pub parts_blank : (b : ℕ) (t : List ℕ) → is_blank b ≡ true → parts (b ∷ t) ≡ parts t
 parts_blank b t e = rw e refl
 
-pub parts_mark : (b : ℕ) (t : List ℕ) → is_blank b ≡ false → is_name_byte b ≡ false → parts (b ∷ t) ≡ mark (mark_of b) ∷ parts t
-parts_mark b t e f = rw (e, f) refl
+pub parts_sign : (b : ℕ) (t : List ℕ) → is_blank b ≡ false → is_name_byte b ≡ false → parts (b ∷ t) ≡ sign (sign_of b) ∷ parts t
+parts_sign b t e f = rw (e, f) refl
 
 pub parts_byte : (b : ℕ) (t : List ℕ) → is_name_byte b ≡ true → parts (b ∷ t) ≡ grown b (begins_word t) (parts t)
 parts_byte b t e = let f = word_no_blank b e in rw (f, e) refl
@@ -55,7 +55,7 @@ begins_is c s e = by (begins_word s) (parts s) (parts_byte c s e)
     by false ps f = (c ∷ [], ps, f)
     by true [] f = (c ∷ [], [], f)
     by true (word w ∷ ps) f = (c ∷ w, ps, f)
-    by true (mark m ∷ ps) f = (c ∷ [], mark m ∷ ps, f)
+    by true (sign m ∷ ps) f = (c ∷ [], sign m ∷ ps, f)
 
 grown_append : (b : ℕ) (m : Bool) (w : List ℕ) (ps qs : List Part) → grown b m ((word w ∷ ps) ++ qs) ≡ grown b m (word w ∷ ps) ++ qs
 grown_append b true w ps qs = refl
@@ -69,8 +69,8 @@ parts_cut (b ∷ s) t a = by (which (is_blank b)) (which (is_name_byte b)) s a (
         (Apart s t → parts (s ++ t) ≡ parts s ++ parts t) → parts (b ∷ (s ++ t)) ≡ parts (b ∷ s) ++ parts t
     by (inl e) m [] a rec = parts_blank b t e ∙ ap (λ ps. ps ++ parts t) (sym (parts_blank b [] e))
     by (inl e) m (c ∷ s) a rec = parts_blank b ((c ∷ s) ++ t) e ∙ rec a ∙ ap (λ ps. ps ++ parts t) (sym (parts_blank b (c ∷ s) e))
-    by (inr e) (inr f) [] a rec = parts_mark b t e f ∙ ap (λ ps. ps ++ parts t) (sym (parts_mark b [] e f))
-    by (inr e) (inr f) (c ∷ s) a rec = parts_mark b ((c ∷ s) ++ t) e f ∙ ap (λ ps. mark (mark_of b) ∷ ps) (rec a) ∙ ap (λ ps. ps ++ parts t) (sym (parts_mark b (c ∷ s) e f))
+    by (inr e) (inr f) [] a rec = parts_sign b t e f ∙ ap (λ ps. ps ++ parts t) (sym (parts_sign b [] e f))
+    by (inr e) (inr f) (c ∷ s) a rec = parts_sign b ((c ∷ s) ++ t) e f ∙ ap (λ ps. sign (sign_of b) ∷ ps) (rec a) ∙ ap (λ ps. ps ++ parts t) (sym (parts_sign b (c ∷ s) e f))
     by (inr e) (inl f) [] a rec =
         let n : begins_word t ≡ false = subst (λ x. (x && begins_word t) ≡ false) f a in
         parts_byte b t f ∙ ap (λ x. grown b x (parts t)) n ∙ ap (λ ps. ps ++ parts t) (sym (parts_byte b [] f))

@@ -2,18 +2,18 @@
 use Rattle.std.proofs.Common.{◌≡◌, ℕ, ◌+◌, ◌-◌, ◌<◌, ◌≤◌, max, List, [], ◌∷◌, ◌++◌, Bool, true, false, cond, ◌&&◌, Some, None, length, take, drop, refl, sym, ap, ap₂, ◌∙◌, subst}
 use Rattle.std.proofs.Common.{arith, append-nil, append_assoc, length-append, length-take, length-drop}
 use Rattle.std.proofs.lemmas.List.{take_all, drop_all}
-use Rattle.cw_regex.specs.declared.text.Mark.{Mark}
+use Rattle.cw_regex.specs.declared.text.Sign.{Sign}
 use Rattle.cw_regex.specs.declared.phase.Phase.{Phase}
 use Rattle.cw_regex.specs.declared.phase.Phase.TheVariants.{Begin, Label, Whole, Repeated, Test, Negated, Ambient, Descriptor, Colon, Right}
 use Rattle.cw_regex.specs.declared.scan.Scanned.{Scanned}
-use Rattle.cw_regex.specs.Parts.{mark, parts, ends_blank}
+use Rattle.cw_regex.specs.Parts.{sign, parts, ends_blank}
 use Rattle.cw_regex.specs.Grammar.{IsFaultAt}
 use Rattle.cw_regex.specs.Machine.{step_word, step, kept, ends_here, In, deepest}
-use Rattle.cw_regex.specs.Pieces.{IsBlankAt, IsMarkAt, IsWordAt}
+use Rattle.cw_regex.specs.Pieces.{IsBlankAt, IsSignAt, IsWordAt}
 use Rattle.cw_regex.specs.Scans.{is_held, Scan, ScanAt}
 use Rattle.cw_lemmas.proofs.Truths.{and_first as and_left, and_second as and_right}
 use Rattle.cw_regex.proofs.Runs.{take_drop, take_on}
-use Rattle.cw_regex.proofs.Scanned.{scan_blank, scan_mark, scan_word, Stuck, fault_by, front_scan, stuck_front, stuck_held, stuck_mark, stuck_word, later_word, scan_ends, stuck_end}
+use Rattle.cw_regex.proofs.Scanned.{scan_blank, scan_sign, scan_word, Stuck, fault_by, front_scan, stuck_front, stuck_held, stuck_sign, stuck_word, later_word, scan_ends, stuck_end}
 
 held_is : (alone : Bool) (q : Phase) → is_held alone q ≡ true → (alone ≡ true) × (q ≡ Right)
 held_is true Right e = (refl, refl)
@@ -68,9 +68,9 @@ module _ (alone : Bool) (text : List ℕ) (x : Scanned) (h : ScanAt alone text x
             (scan_word alone (take x.at text) p.first p.more (drop end text) x.phase r x.depth x.most was p.bytes p.stop goes);
       }
 
-  pub mark_ok : (m : Mark) (r : Phase) (e : ℕ) → IsMarkAt text x.at m → step alone x.phase x.depth (mark m) ≡ Some (r, e) →
+  pub sign_ok : (m : Sign) (r : Phase) (e : ℕ) → IsSignAt text x.at m → step alone x.phase x.depth (sign m) ≡ Some (r, e) →
       ScanAt alone text (record { at = x.at + 1; phase = r; depth = e; most = max x.most e })
-  mark_ok m r e p goes =
+  sign_ok m r e p goes =
       let was = subst (λ t. Scan alone (take x.at text) t x.phase x.depth x.most) p.cut h.is in
       let k = length-drop x.at text in
       let n : length (drop x.at text) ≡ length (p.byte ∷ drop (x.at + 1) text) = ap length p.cut in
@@ -78,8 +78,8 @@ module _ (alone : Bool) (text : List ℕ) (x : Scanned) (h : ScanAt alone text x
       record {
         far = omega arith;
         is = subst (λ s. Scan alone s (drop (x.at + 1) text) r e (max x.most e)) (sym (take_on text (p.byte ∷ []) x.at (x.at + 1) p.cut (omega arith)))
-            (scan_mark alone (take x.at text) p.byte (drop (x.at + 1) text) x.phase r x.depth e x.most was p.no_blank p.no_word
-            (subst (λ y. step alone x.phase x.depth (mark y) ≡ Some (r, e)) p.is goes));
+            (scan_sign alone (take x.at text) p.byte (drop (x.at + 1) text) x.phase r x.depth e x.most was p.no_blank p.no_word
+            (subst (λ y. step alone x.phase x.depth (sign y) ≡ Some (r, e)) p.is goes));
       }
 
   fault_here : Stuck alone (take x.at text) (drop x.at text) → IsFaultAt (In alone) text x.at
@@ -100,9 +100,9 @@ module _ (alone : Bool) (text : List ℕ) (x : Scanned) (h : ScanAt alone text x
       by true f w = stuck_held (take x.at text) p.byte (drop (x.at + 1) text) x.phase x.depth x.most w p.blank (held_is alone x.phase e).1
       by false f w = absurd (cc)
 
-  pub mark_fault : (m : Mark) → IsMarkAt text x.at m → step alone x.phase x.depth (mark m) ≡ None → IsFaultAt (In alone) text x.at
-  mark_fault m p e = fault_here (subst (Stuck alone (take x.at text)) (sym p.cut) (stuck_mark alone (take x.at text) p.byte (drop (x.at + 1) text) x.phase x.depth x.most
-      (subst (λ t. Scan alone (take x.at text) t x.phase x.depth x.most) p.cut h.is) p.no_blank p.no_word (subst (λ y. step alone x.phase x.depth (mark y) ≡ None) p.is e)))
+  pub sign_fault : (m : Sign) → IsSignAt text x.at m → step alone x.phase x.depth (sign m) ≡ None → IsFaultAt (In alone) text x.at
+  sign_fault m p e = fault_here (subst (Stuck alone (take x.at text)) (sym p.cut) (stuck_sign alone (take x.at text) p.byte (drop (x.at + 1) text) x.phase x.depth x.most
+      (subst (λ t. Scan alone (take x.at text) t x.phase x.depth x.most) p.cut h.is) p.no_blank p.no_word (subst (λ y. step alone x.phase x.depth (sign y) ≡ None) p.is e)))
 
   pub word_fault : (end : ℕ) (p : IsWordAt text x.at end) → step_word x.phase (take (end - x.at) (drop x.at text)) ≡ None → kept x.phase p.first ≡ false → IsFaultAt (In alone) text x.at
   word_fault end p e k =

@@ -2,10 +2,10 @@
 use Rattle.std.proofs.Common.{◌≡◌, ◌⊎◌, inl, inr, ℕ, ◌+◌, List, [], ◌∷◌, Bool, true, false, Option, Some, None, option_and_then, refl, ap, ◌∙◌, add-one}
 use Rattle.std.specs.Option.{option_map}
 use Rattle.std.specs.Str.{bytes_eq}
-use Rattle.cw_regex.specs.declared.text.Mark.TheVariants.{ParenOpen, ParenClose, Bar, Star, Plus, Question, Colon as ColonMark}
+use Rattle.cw_regex.specs.declared.text.Sign.TheVariants.{ParenOpen, ParenClose, Bar, Star, Plus, Question, Colon as ColonSign}
 use Rattle.cw_regex.specs.declared.phase.Phase.{Phase}
 use Rattle.cw_regex.specs.declared.phase.Phase.TheVariants.{Begin, Label, Whole, Repeated, Test, Negated, Ambient, Descriptor, Colon, Right}
-use Rattle.cw_regex.specs.Parts.{Part, word, mark}
+use Rattle.cw_regex.specs.Parts.{Part, word, sign}
 use Rattle.cw_regex.specs.Grammar.{is_descriptor, amb, Name, Subject, ambient, holds, TestForm, Expression, only, either, Term, single, then, Factor, plain, star, plus, maybe, Atom, literal}
 use Rattle.cw_regex.specs.Grammar.{group, spelled_subject, spelled_if, spelled_test, spelled_more, spelled_tests, spelled_label, spelled, spelled_term, spelled_factor, spelled_atom}
 use Rattle.cw_regex.specs.Machine.{is_test_start, in_test, step_word, takes_atom, is_end, run}
@@ -103,13 +103,13 @@ run_subject alone Negated d ambient rest e = refl
 run_subject alone Test d (holds n r) rest e = by (in_test_either n.bytes n.ok)
   where
     by : (in_test n.bytes ≡ Some Ambient) ⊎ (in_test n.bytes ≡ Some Descriptor) → run alone Test d (spelled_subject (holds n r) rest) ≡ run alone Right d rest
-    by (inl f) = run_word alone Test Ambient d n.bytes (mark ColonMark ∷ word r.bytes ∷ rest) f ∙ right_after alone d r rest
-    by (inr f) = run_word alone Test Descriptor d n.bytes (mark ColonMark ∷ word r.bytes ∷ rest) f ∙ right_after alone d r rest
+    by (inl f) = run_word alone Test Ambient d n.bytes (sign ColonSign ∷ word r.bytes ∷ rest) f ∙ right_after alone d r rest
+    by (inr f) = run_word alone Test Descriptor d n.bytes (sign ColonSign ∷ word r.bytes ∷ rest) f ∙ right_after alone d r rest
 run_subject alone Negated d (holds n r) rest e = by (in_test_either n.bytes n.ok)
   where
     by : (in_test n.bytes ≡ Some Ambient) ⊎ (in_test n.bytes ≡ Some Descriptor) → run alone Negated d (spelled_subject (holds n r) rest) ≡ run alone Right d rest
-    by (inl f) = run_word alone Negated Ambient d n.bytes (mark ColonMark ∷ word r.bytes ∷ rest) f ∙ right_after alone d r rest
-    by (inr f) = run_word alone Negated Descriptor d n.bytes (mark ColonMark ∷ word r.bytes ∷ rest) f ∙ right_after alone d r rest
+    by (inl f) = run_word alone Negated Ambient d n.bytes (sign ColonSign ∷ word r.bytes ∷ rest) f ∙ right_after alone d r rest
+    by (inr f) = run_word alone Negated Descriptor d n.bytes (sign ColonSign ∷ word r.bytes ∷ rest) f ∙ right_after alone d r rest
 run_subject alone Begin d s rest e = absurd (cc)
 run_subject alone Label d s rest e = absurd (cc)
 run_subject alone Whole d s rest e = absurd (cc)
@@ -152,14 +152,14 @@ run_tests : (d : ℕ) (label : Option Name) (ts : List TestForm) (rest : List Pa
 run_tests d label [] rest = refl
 run_tests d label (t ∷ ts) rest = run_test false d t (spelled_more ts rest) ∙ run_more d t.what ts rest
 
-pub run_open : (q : Phase) (d : ℕ) (rest : List Part) → takes_atom q ≡ true → run false q d (mark ParenOpen ∷ rest) ≡ run false Begin (d + 1) rest
+pub run_open : (q : Phase) (d : ℕ) (rest : List Part) → takes_atom q ≡ true → run false q d (sign ParenOpen ∷ rest) ≡ run false Begin (d + 1) rest
 run_open q d rest e = rw e refl
 
-pub run_close : (q : Phase) (d : ℕ) (rest : List Part) → is_end q ≡ true → run false q (d + 1) (mark ParenClose ∷ rest) ≡ run false Whole d rest
+pub run_close : (q : Phase) (d : ℕ) (rest : List Part) → is_end q ≡ true → run false q (d + 1) (sign ParenClose ∷ rest) ≡ run false Whole d rest
 run_close q d rest e = rw (e, add-one d) refl
 
-pub run_again : (q : Phase) (d : ℕ) (rest : List Part) → is_atom_end q ≡ true → (run false q d (mark Star ∷ rest) ≡ run false Repeated d rest) ×
-    (run false q d (mark Plus ∷ rest) ≡ run false Repeated d rest) × (run false q d (mark Question ∷ rest) ≡ run false Repeated d rest)
+pub run_again : (q : Phase) (d : ℕ) (rest : List Part) → is_atom_end q ≡ true → (run false q d (sign Star ∷ rest) ≡ run false Repeated d rest) ×
+    (run false q d (sign Plus ∷ rest) ≡ run false Repeated d rest) × (run false q d (sign Question ∷ rest) ≡ run false Repeated d rest)
 run_again Label d rest e = (refl, refl, refl)
 run_again Whole d rest e = (refl, refl, refl)
 run_again Begin d rest e = absurd (cc)
@@ -171,7 +171,7 @@ run_again Descriptor d rest e = absurd (cc)
 run_again Colon d rest e = absurd (cc)
 run_again Right d rest e = absurd (cc)
 
-run_bar : (q : Phase) (d : ℕ) (rest : List Part) → is_end q ≡ true → run false q d (mark Bar ∷ rest) ≡ run false Begin d rest
+run_bar : (q : Phase) (d : ℕ) (rest : List Part) → is_end q ≡ true → run false q d (sign Bar ∷ rest) ≡ run false Begin d rest
 run_bar Label d rest e = refl
 run_bar Whole d rest e = refl
 run_bar Repeated d rest e = refl
@@ -186,7 +186,7 @@ run_bar Right d rest e = absurd (cc)
 mutual
   pub run_expression : (e : Expression) (q : Phase) (d : ℕ) (rest : List Part) → takes_atom q ≡ true → run false q d (spelled e rest) ≡ run false (after e) d rest
   run_expression (only t) q d rest h = run_term t q d rest h
-  run_expression (either t e) q d rest h = run_term t q d (mark Bar ∷ spelled e rest) h ∙ run_bar (after_term t) d (spelled e rest) (term_end t) ∙ run_expression e Begin d rest refl
+  run_expression (either t e) q d rest h = run_term t q d (sign Bar ∷ spelled e rest) h ∙ run_bar (after_term t) d (spelled e rest) (term_end t) ∙ run_expression e Begin d rest refl
 
   run_term : (t : Term) (q : Phase) (d : ℕ) (rest : List Part) → takes_atom q ≡ true → run false q d (spelled_term t rest) ≡ run false (after_term t) d rest
   run_term (single f) q d rest h = run_factor f q d rest h
@@ -194,10 +194,10 @@ mutual
 
   run_factor : (f : Factor) (q : Phase) (d : ℕ) (rest : List Part) → takes_atom q ≡ true → run false q d (spelled_factor f rest) ≡ run false (after_factor f) d rest
   run_factor (plain a) q d rest h = run_atom a q d rest h
-  run_factor (star a) q d rest h = run_atom a q d (mark Star ∷ rest) h ∙ (run_again (after_atom a) d rest (atom_end a)).0
-  run_factor (plus a) q d rest h = run_atom a q d (mark Plus ∷ rest) h ∙ (run_again (after_atom a) d rest (atom_end a)).1
-  run_factor (maybe a) q d rest h = run_atom a q d (mark Question ∷ rest) h ∙ (run_again (after_atom a) d rest (atom_end a)).2
+  run_factor (star a) q d rest h = run_atom a q d (sign Star ∷ rest) h ∙ (run_again (after_atom a) d rest (atom_end a)).0
+  run_factor (plus a) q d rest h = run_atom a q d (sign Plus ∷ rest) h ∙ (run_again (after_atom a) d rest (atom_end a)).1
+  run_factor (maybe a) q d rest h = run_atom a q d (sign Question ∷ rest) h ∙ (run_again (after_atom a) d rest (atom_end a)).2
 
   run_atom : (a : Atom) (q : Phase) (d : ℕ) (rest : List Part) → takes_atom q ≡ true → run false q d (spelled_atom a rest) ≡ run false (after_atom a) d rest
   run_atom (literal label ts) q d rest h = run_label q d label (spelled_tests ts rest) h ∙ run_tests d label ts rest
-  run_atom (group e) q d rest h = run_open q d (spelled e (mark ParenClose ∷ rest)) h ∙ run_expression e Begin (d + 1) (mark ParenClose ∷ rest) refl ∙ run_close (after e) d rest (expression_end e)
+  run_atom (group e) q d rest h = run_open q d (spelled e (sign ParenClose ∷ rest)) h ∙ run_expression e Begin (d + 1) (sign ParenClose ∷ rest) refl ∙ run_close (after e) d rest (expression_end e)

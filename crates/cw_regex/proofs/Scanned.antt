@@ -5,17 +5,17 @@ use Rattle.std.specs.Option.{option_map}
 use Rattle.std.specs.List.{list_all}
 use Rattle.std.specs.Str.{bytes_eq}
 use Rattle.cw_rights.specs.Valid.{is_name_start, is_name_byte, is_name}
-use Rattle.cw_regex.specs.declared.text.Mark.{Mark}
-use Rattle.cw_regex.specs.declared.text.Mark.TheVariants.{Dot, ParenOpen, ParenClose, Bar, Star, Plus, Question, BracketOpen, BracketClose, Bang, Colon as ColonMark, Comma, Other}
+use Rattle.cw_regex.specs.declared.text.Sign.{Sign}
+use Rattle.cw_regex.specs.declared.text.Sign.TheVariants.{Dot, ParenOpen, ParenClose, Bar, Star, Plus, Question, BracketOpen, BracketClose, Bang, Colon as ColonSign, Comma, Other}
 use Rattle.cw_regex.specs.declared.phase.Phase.{Phase}
 use Rattle.cw_regex.specs.declared.phase.Phase.TheVariants.{Begin, Label, Whole, Repeated, Test, Negated, Ambient, Descriptor, Colon, Right}
-use Rattle.cw_regex.specs.Parts.{Part, word, mark, is_blank, mark_of, begins_word, grown, parts, ends_blank}
+use Rattle.cw_regex.specs.Parts.{Part, word, sign, is_blank, sign_of, begins_word, grown, parts, ends_blank}
 use Rattle.cw_regex.specs.Grammar.{is_digit, amb, IsFaultAt}
-use Rattle.cw_regex.specs.Machine.{is_test_start, kept, in_test, step_word, step_mark, closed_one, takes_atom, is_end, step, run, start, ends_here, In, deepest}
+use Rattle.cw_regex.specs.Machine.{is_test_start, kept, in_test, step_word, step_sign, closed_one, takes_atom, is_end, step, run, start, ends_here, In, deepest}
 use Rattle.std.proofs.lemmas.Bool.{or_cases}
 use Rattle.cw_lemmas.proofs.Truths.{and_first as and_left, and_second as and_right}
 use Rattle.std.proofs.lemmas.Bool.{cases_Bool as which}
-use Rattle.cw_regex.proofs.Cutting.{word_no_blank, parts_blank, parts_mark, parts_byte, parts_word, parts_cut}
+use Rattle.cw_regex.proofs.Cutting.{word_no_blank, parts_blank, parts_sign, parts_byte, parts_word, parts_cut}
 use Rattle.cw_regex.specs.Scans.{ends_word, Apart, Scan}
 use Rattle.cw_regex.proofs.Runs.{take_front}
 use Rattle.cw_regex.proofs.Fronts.{At, run_append, apart_begins, ends_append, starts_append, front_of, runs, accepted, rejected, stuck_part, apart_before}
@@ -59,19 +59,19 @@ scan_blank alone s b t q d most h e l other =
 pub deepest_least : (ps : List Part) (d : ℕ) → d ≤ deepest d ps
 deepest_least [] d = omega arith
 deepest_least (word w ∷ ps) d = deepest_least ps d
-deepest_least (mark ParenOpen ∷ ps) d = omega arith
-deepest_least (mark ParenClose ∷ ps) d = omega arith
-deepest_least (mark Dot ∷ ps) d = deepest_least ps d
-deepest_least (mark Bar ∷ ps) d = deepest_least ps d
-deepest_least (mark Star ∷ ps) d = deepest_least ps d
-deepest_least (mark Plus ∷ ps) d = deepest_least ps d
-deepest_least (mark Question ∷ ps) d = deepest_least ps d
-deepest_least (mark BracketOpen ∷ ps) d = deepest_least ps d
-deepest_least (mark BracketClose ∷ ps) d = deepest_least ps d
-deepest_least (mark Bang ∷ ps) d = deepest_least ps d
-deepest_least (mark ColonMark ∷ ps) d = deepest_least ps d
-deepest_least (mark Comma ∷ ps) d = deepest_least ps d
-deepest_least (mark Other ∷ ps) d = deepest_least ps d
+deepest_least (sign ParenOpen ∷ ps) d = omega arith
+deepest_least (sign ParenClose ∷ ps) d = omega arith
+deepest_least (sign Dot ∷ ps) d = deepest_least ps d
+deepest_least (sign Bar ∷ ps) d = deepest_least ps d
+deepest_least (sign Star ∷ ps) d = deepest_least ps d
+deepest_least (sign Plus ∷ ps) d = deepest_least ps d
+deepest_least (sign Question ∷ ps) d = deepest_least ps d
+deepest_least (sign BracketOpen ∷ ps) d = deepest_least ps d
+deepest_least (sign BracketClose ∷ ps) d = deepest_least ps d
+deepest_least (sign Bang ∷ ps) d = deepest_least ps d
+deepest_least (sign ColonSign ∷ ps) d = deepest_least ps d
+deepest_least (sign Comma ∷ ps) d = deepest_least ps d
+deepest_least (sign Other ∷ ps) d = deepest_least ps d
 
 same_depth : (d e : ℕ) (r : Phase) (o : Option Phase) → option_map (λ (x : Phase). let y : At = (x, d) in y) o ≡ Some (r, e) → e ≡ d
 same_depth d e r None h = absurd (cc)
@@ -102,8 +102,8 @@ close_depth (suc d) e r true h =
     let f : d ≡ e = ap (λ (a : At). a.1) p in
     omega arith
 
-deepest_step : (alone : Bool) (q r : Phase) (d e most : ℕ) (m : Mark) (ps : List Part) → step alone q d (mark m) ≡ Some (r, e) → d ≤ most →
-    (max (max most e) (deepest e ps) ≡ max most (deepest d (mark m ∷ ps))) × (e ≤ d + 1)
+deepest_step : (alone : Bool) (q r : Phase) (d e most : ℕ) (m : Sign) (ps : List Part) → step alone q d (sign m) ≡ Some (r, e) → d ≤ most →
+    (max (max most e) (deepest e ps) ≡ max most (deepest d (sign m ∷ ps))) × (e ≤ d + 1)
 deepest_step alone q r d e most ParenOpen ps h l =
     let f = open_depth d e r (takes_atom q) h in
     let g = deepest_least ps (d + 1) in
@@ -115,66 +115,66 @@ deepest_step alone q r d e most ParenClose ps h l =
     let k : deepest (d - 1) ps ≡ deepest e ps = ap (λ n. deepest n ps) (let z : d - 1 ≡ e = omega arith in z) in
     (omega arith, omega arith)
 deepest_step alone q r d e most Dot ps h l =
-    let f = same_depth d e r (step_mark alone q Dot) h in
+    let f = same_depth d e r (step_sign alone q Dot) h in
     let g : deepest e ps ≡ deepest d ps = ap (λ n. deepest n ps) f in
     (omega arith, omega arith)
 deepest_step alone q r d e most Bar ps h l =
-    let f = same_depth d e r (step_mark alone q Bar) h in
+    let f = same_depth d e r (step_sign alone q Bar) h in
     let g : deepest e ps ≡ deepest d ps = ap (λ n. deepest n ps) f in
     (omega arith, omega arith)
 deepest_step alone q r d e most Star ps h l =
-    let f = same_depth d e r (step_mark alone q Star) h in
+    let f = same_depth d e r (step_sign alone q Star) h in
     let g : deepest e ps ≡ deepest d ps = ap (λ n. deepest n ps) f in
     (omega arith, omega arith)
 deepest_step alone q r d e most Plus ps h l =
-    let f = same_depth d e r (step_mark alone q Plus) h in
+    let f = same_depth d e r (step_sign alone q Plus) h in
     let g : deepest e ps ≡ deepest d ps = ap (λ n. deepest n ps) f in
     (omega arith, omega arith)
 deepest_step alone q r d e most Question ps h l =
-    let f = same_depth d e r (step_mark alone q Question) h in
+    let f = same_depth d e r (step_sign alone q Question) h in
     let g : deepest e ps ≡ deepest d ps = ap (λ n. deepest n ps) f in
     (omega arith, omega arith)
 deepest_step alone q r d e most BracketOpen ps h l =
-    let f = same_depth d e r (step_mark alone q BracketOpen) h in
+    let f = same_depth d e r (step_sign alone q BracketOpen) h in
     let g : deepest e ps ≡ deepest d ps = ap (λ n. deepest n ps) f in
     (omega arith, omega arith)
 deepest_step alone q r d e most BracketClose ps h l =
-    let f = same_depth d e r (step_mark alone q BracketClose) h in
+    let f = same_depth d e r (step_sign alone q BracketClose) h in
     let g : deepest e ps ≡ deepest d ps = ap (λ n. deepest n ps) f in
     (omega arith, omega arith)
 deepest_step alone q r d e most Bang ps h l =
-    let f = same_depth d e r (step_mark alone q Bang) h in
+    let f = same_depth d e r (step_sign alone q Bang) h in
     let g : deepest e ps ≡ deepest d ps = ap (λ n. deepest n ps) f in
     (omega arith, omega arith)
-deepest_step alone q r d e most ColonMark ps h l =
-    let f = same_depth d e r (step_mark alone q ColonMark) h in
+deepest_step alone q r d e most ColonSign ps h l =
+    let f = same_depth d e r (step_sign alone q ColonSign) h in
     let g : deepest e ps ≡ deepest d ps = ap (λ n. deepest n ps) f in
     (omega arith, omega arith)
 deepest_step alone q r d e most Comma ps h l =
-    let f = same_depth d e r (step_mark alone q Comma) h in
+    let f = same_depth d e r (step_sign alone q Comma) h in
     let g : deepest e ps ≡ deepest d ps = ap (λ n. deepest n ps) f in
     (omega arith, omega arith)
 deepest_step alone q r d e most Other ps h l =
-    let f = same_depth d e r (step_mark alone q Other) h in
+    let f = same_depth d e r (step_sign alone q Other) h in
     let g : deepest e ps ≡ deepest d ps = ap (λ n. deepest n ps) f in
     (omega arith, omega arith)
 
-pub scan_mark : (alone : Bool) (s : List ℕ) (b : ℕ) (t : List ℕ) (q r : Phase) (d e most : ℕ) → Scan alone s (b ∷ t) q d most → is_blank b ≡ false → is_name_byte b ≡ false →
-    step alone q d (mark (mark_of b)) ≡ Some (r, e) → Scan alone (s ++ b ∷ []) t r e (max most e)
-scan_mark alone s b t q r d e most h nb nw goes =
-    let same : parts (s ++ b ∷ []) ≡ parts s ++ mark (mark_of b) ∷ [] = parts_cut s (b ∷ []) (apart_begins s (b ∷ []) nw) ∙ ap (λ ps. parts s ++ ps) (parts_mark b [] nb nw) in
+pub scan_sign : (alone : Bool) (s : List ℕ) (b : ℕ) (t : List ℕ) (q r : Phase) (d e most : ℕ) → Scan alone s (b ∷ t) q d most → is_blank b ≡ false → is_name_byte b ≡ false →
+    step alone q d (sign (sign_of b)) ≡ Some (r, e) → Scan alone (s ++ b ∷ []) t r e (max most e)
+scan_sign alone s b t q r d e most h nb nw goes =
+    let same : parts (s ++ b ∷ []) ≡ parts s ++ sign (sign_of b) ∷ [] = parts_cut s (b ∷ []) (apart_begins s (b ∷ []) nw) ∙ ap (λ ps. parts s ++ ps) (parts_sign b [] nb nw) in
     let n = length-append s (b ∷ []) in
     let f = h.few in
-    let k = deepest_step alone q r d e most (mark_of b) (parts t) goes h.within in
+    let k = deepest_step alone q r d e most (sign_of b) (parts t) goes h.within in
     let u = h.within in
     let v = k.1 in
     record {
-      runs = ap (run alone (start alone) 0) same ∙ run_append alone (parts s) (mark (mark_of b) ∷ []) (start alone) q 0 d h.runs
+      runs = ap (run alone (start alone) 0) same ∙ run_append alone (parts s) (sign (sign_of b) ∷ []) (start alone) q 0 d h.runs
           ∙ ap (λ (o : Option At). option_and_then (λ (a : At). run alone a.0 a.1 []) o) goes;
       apart = apart_last s b t nw;
       front = starts_append s (b ∷ []) h.front (λ z. nb);
       may = λ a x. ends_append s b [] ∙ nb;
-      deep = k.0 ∙ ap (λ ps. max most (deepest d ps)) (sym (parts_mark b t nb nw)) ∙ h.deep ∙ ap (λ l. deepest 0 (parts l)) (sym (one_more s b t));
+      deep = k.0 ∙ ap (λ ps. max most (deepest d ps)) (sym (parts_sign b t nb nw)) ∙ h.deep ∙ ap (λ l. deepest 0 (parts l)) (sym (one_more s b t));
       within = omega arith;
       few = omega arith;
     }
@@ -251,30 +251,30 @@ blanks_end (c ∷ rest) b e h = by (which (is_blank c)) (which (is_name_byte c))
     by : (is_blank c ≡ true) ⊎ (is_blank c ≡ false) → (is_name_byte c ≡ true) ⊎ (is_name_byte c ≡ false) → (is_blank c ≡ true → parts rest ≡ [] → ends_blank (c ∷ rest) ≡ true) →
         ends_blank (b ∷ (c ∷ rest)) ≡ true
     by (inl f) g rec = rec f (sym (parts_blank c rest f) ∙ h)
-    by (inr f) (inr g) rec = let z = sym (parts_mark c rest f g) ∙ h in absurd (cc)
+    by (inr f) (inr g) rec = let z = sym (parts_sign c rest f g) ∙ h in absurd (cc)
     by (inr f) (inl g) rec = none (begins_word rest) (parts rest) (sym (parts_byte c rest g) ∙ h)
       where
         none : (m : Bool) (ps : List Part) → grown c m ps ≡ [] → ends_blank (b ∷ (c ∷ rest)) ≡ true
         none false ps z = absurd (cc)
         none true [] z = absurd (cc)
         none true (word w ∷ ps) z = absurd (cc)
-        none true (mark m ∷ ps) z = absurd (cc)
+        none true (sign m ∷ ps) z = absurd (cc)
 
 right_dead : (d : ℕ) (p : Part) → step true Right d p ≡ None
 right_dead d (word w) = refl
-right_dead d (mark Dot) = refl
-right_dead d (mark ParenOpen) = refl
-right_dead d (mark ParenClose) = refl
-right_dead d (mark Bar) = refl
-right_dead d (mark Star) = refl
-right_dead d (mark Plus) = refl
-right_dead d (mark Question) = refl
-right_dead d (mark BracketOpen) = refl
-right_dead d (mark BracketClose) = refl
-right_dead d (mark Bang) = refl
-right_dead d (mark ColonMark) = refl
-right_dead d (mark Comma) = refl
-right_dead d (mark Other) = refl
+right_dead d (sign Dot) = refl
+right_dead d (sign ParenOpen) = refl
+right_dead d (sign ParenClose) = refl
+right_dead d (sign Bar) = refl
+right_dead d (sign Star) = refl
+right_dead d (sign Plus) = refl
+right_dead d (sign Question) = refl
+right_dead d (sign BracketOpen) = refl
+right_dead d (sign BracketClose) = refl
+right_dead d (sign Bang) = refl
+right_dead d (sign ColonSign) = refl
+right_dead d (sign Comma) = refl
+right_dead d (sign Other) = refl
 
 pub stuck_held : (s : List ℕ) (b : ℕ) (t : List ℕ) (q : Phase) (d most : ℕ) → Scan true s (b ∷ t) q d most → is_blank b ≡ true → q ≡ Right → Stuck true s (b ∷ t)
 stuck_held s b t q d most h e r rest x = by (parts rest) refl
@@ -286,9 +286,9 @@ stuck_held s b t q d most h e r rest x = by (parts rest) refl
     by [] f = let y = (runs true (s ++ b ∷ rest) x).4 in let z = sym (ends_append s b rest ∙ blanks_end rest b e f) ∙ y in absurd (cc)
     by (p ∷ ps) f = stuck_part true s (b ∷ rest) Right d p ps (apart_begins s (b ∷ rest) (blank_no_word b e)) at (parts_blank b rest e ∙ f) (right_dead d p) x
 
-pub stuck_mark : (alone : Bool) (s : List ℕ) (b : ℕ) (t : List ℕ) (q : Phase) (d most : ℕ) → Scan alone s (b ∷ t) q d most → is_blank b ≡ false → is_name_byte b ≡ false →
-    step alone q d (mark (mark_of b)) ≡ None → Stuck alone s (b ∷ t)
-stuck_mark alone s b t q d most h nb nw e rest x = stuck_part alone s (b ∷ rest) q d (mark (mark_of b)) (parts rest) (apart_begins s (b ∷ rest) nw) h.runs (parts_mark b rest nb nw) e x
+pub stuck_sign : (alone : Bool) (s : List ℕ) (b : ℕ) (t : List ℕ) (q : Phase) (d most : ℕ) → Scan alone s (b ∷ t) q d most → is_blank b ≡ false → is_name_byte b ≡ false →
+    step alone q d (sign (sign_of b)) ≡ None → Stuck alone s (b ∷ t)
+stuck_sign alone s b t q d most h nb nw e rest x = stuck_part alone s (b ∷ rest) q d (sign (sign_of b)) (parts rest) (apart_begins s (b ∷ rest) nw) h.runs (parts_sign b rest nb nw) e x
 
 -- the first part of a text that begins with a word byte, or with two
 begins_with : (c : ℕ) (rest : List ℕ) → is_name_byte c ≡ true → (w : List ℕ) × (ps : List Part) × (parts (c ∷ rest) ≡ word (c ∷ w) ∷ ps)
@@ -298,7 +298,7 @@ begins_with c rest e = by (begins_word rest) (parts rest) (parts_byte c rest e)
     by false ps f = ([], ps, f)
     by true [] f = ([], [], f)
     by true (word w ∷ ps) f = (w, ps, f)
-    by true (mark m ∷ ps) f = ([], mark m ∷ ps, f)
+    by true (sign m ∷ ps) f = ([], sign m ∷ ps, f)
 
 begins_two : (c b : ℕ) (rest : List ℕ) → is_name_byte c ≡ true → is_name_byte b ≡ true → (w : List ℕ) × (ps : List Part) × (parts (c ∷ (b ∷ rest)) ≡ word (c ∷ (b ∷ w)) ∷ ps)
 begins_two c b rest e f = let x = begins_with b rest f in (x.0, x.1, parts_byte c (b ∷ rest) e ∙ ap₂ (grown c) f x.2)

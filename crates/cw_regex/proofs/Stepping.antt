@@ -1,8 +1,8 @@
 -- One item more of an expression.
 use Rattle.std.proofs.Common.{◌≡◌, ◌≢◌, ℕ, List, [], ◌∷◌, false, Option, Some, None, map, drop, refl, sym, ap, ◌∙◌}
-use Rattle.cw_regex.specs.declared.text.Mark.{Mark}
-use Rattle.cw_regex.specs.declared.text.Mark.TheVariants.{Dot}
-use Rattle.cw_regex.specs.Parts.{Part, word, mark, parts}
+use Rattle.cw_regex.specs.declared.text.Sign.{Sign}
+use Rattle.cw_regex.specs.declared.text.Sign.TheVariants.{Dot}
+use Rattle.cw_regex.specs.Parts.{Part, word, sign, parts}
 use Rattle.cw_regex.specs.Grammar.{Name, TestForm, Expression, spelled, spelled_tests}
 use Rattle.cw_regex.specs.Tokens.{begins_bracket}
 use Rattle.cw_regex.specs.Meaning.{number_in, test_meaning, meaning}
@@ -54,7 +54,7 @@ pub record DotItem (i : Item) (rest ps : List Part) : Type 0 where
   pub is : i ≡ lit None tests
   pub after : ps ≡ spelled_tests tests rest
 
-pub dot_item : (i : Item) (rest ps : List Part) → mark Dot ∷ ps ≡ spelled_item i rest → DotItem i rest ps
+pub dot_item : (i : Item) (rest ps : List Part) → sign Dot ∷ ps ≡ spelled_item i rest → DotItem i rest ps
 dot_item (lit None ts) rest ps e = record { tests = ts; is = refl; after = cc }
 dot_item (lit (Some n) ts) rest ps e = absurd (cc)
 dot_item begin rest ps e = absurd (cc)
@@ -83,14 +83,14 @@ module _ (format : ℕ) (labels descriptors : List (List ℕ)) where
   pub word_rest : (w : List ℕ) (ps qs : List Part) → Rests ps qs → (i : Item) (rest : List Item) → word w ∷ ps ≡ spelled_item i (spelled_items rest) → qs ≡ spelled_items rest
   word_rest w ps qs rests i rest h = let x = word_item i (spelled_items rest) ps w h in rests x.tests (spelled_items rest) x.after (no_bracket rest)
 
-  pub dot_read : (s t : Levels) (m : Mark) (ps : List Part) → m ≡ Dot → Reads ps s t None → (i : Item) (rest : List Item) → mark m ∷ ps ≡ spelled_item i (spelled_items rest) →
+  pub dot_read : (s t : Levels) (m : Sign) (ps : List Part) → m ≡ Dot → Reads ps s t None → (i : Item) (rest : List Item) → sign m ∷ ps ≡ spelled_item i (spelled_items rest) →
       t ≡ put format labels descriptors s i
   dot_read s t m ps dot reads i rest h =
-      let x = dot_item i (spelled_items rest) ps (ap (λ y. mark y ∷ ps) (sym dot) ∙ h) in
+      let x = dot_item i (spelled_items rest) ps (ap (λ y. sign y ∷ ps) (sym dot) ∙ h) in
       reads x.tests (spelled_items rest) x.after (no_bracket rest) ∙ sym (ap (put format labels descriptors s) x.is)
 
-  pub dot_rest : (m : Mark) (ps qs : List Part) → m ≡ Dot → Rests ps qs → (i : Item) (rest : List Item) → mark m ∷ ps ≡ spelled_item i (spelled_items rest) → qs ≡ spelled_items rest
-  dot_rest m ps qs dot rests i rest h = let x = dot_item i (spelled_items rest) ps (ap (λ y. mark y ∷ ps) (sym dot) ∙ h) in rests x.tests (spelled_items rest) x.after (no_bracket rest)
+  pub dot_rest : (m : Sign) (ps qs : List Part) → m ≡ Dot → Rests ps qs → (i : Item) (rest : List Item) → sign m ∷ ps ≡ spelled_item i (spelled_items rest) → qs ≡ spelled_items rest
+  dot_rest m ps qs dot rests i rest h = let x = dot_item i (spelled_items rest) ps (ap (λ y. sign y ∷ ps) (sym dot) ∙ h) in rests x.tests (spelled_items rest) x.after (no_bracket rest)
 
   abbrev start : Levels
   start = record { inner = empty; outer = [] }

@@ -13,11 +13,11 @@ use Rattle.cw_rights.specs.Names.{right_mask, all_rights}
 use Rattle.cw_rights.proofs.Named.{mask_within}
 use Rattle.cw_rights.specs.Trees.{Literal, Tree, AllLiterals}
 use Rattle.cw_rights.specs.Valid.{IsTestWithin, IsLabelWithin, IsLiteralWithin, IsTreeWithin}
-use Rattle.cw_regex.specs.declared.text.Mark.TheVariants.{ParenClose, Bar, Star, Plus, Question}
+use Rattle.cw_regex.specs.declared.text.Sign.TheVariants.{ParenClose, Bar, Star, Plus, Question}
 use Rattle.cw_regex.specs.declared.unknown.Unknown.{Unknown}
 use Rattle.cw_regex.specs.declared.unknown.Unknown.TheVariants.{Descriptor, Right}
 use Rattle.cw_rights.specs.Valid.{is_name_byte}
-use Rattle.cw_regex.specs.Parts.{Part, word, mark, is_blank, mark_of, begins_word, grown, parts, Placed, grown_at, placed}
+use Rattle.cw_regex.specs.Parts.{Part, word, sign, is_blank, sign_of, begins_word, grown, parts, Placed, grown_at, placed}
 use Rattle.cw_regex.specs.Grammar.{Name, Subject, ambient, holds, TestForm, Expression, only, either, Term, single, then, Factor, plain, star, plus, maybe, Atom, literal, group}
 use Rattle.cw_regex.specs.Grammar.{spelled_subject, spelled_if, spelled_test, spelled_more, spelled_tests, spelled_label, spelled, spelled_term, spelled_factor, spelled_atom, Spells}
 use Rattle.cw_regex.specs.Grammar.{SpellsTest, IsExpression, IsTest}
@@ -103,7 +103,7 @@ next_colon (p ∷ rest) = is_colon_part p
 
 part_grown : (n b k : ℕ) (q : Part) (rest : List Placed) → map (λ p. p.part) (grown_at n b true (record { at = k; part = q } ∷ rest)) ≡ grown b true (q ∷ map (λ p. p.part) rest)
 part_grown n b k (word w) rest = refl
-part_grown n b k (mark m) rest = refl
+part_grown n b k (sign m) rest = refl
 
 all_grown : (n b : ℕ) (more : Bool) (ps : List Placed) → map (λ p. p.part) (grown_at n b more ps) ≡ grown b more (map (λ p. p.part) ps)
 all_grown n b true [] = refl
@@ -116,11 +116,11 @@ parts_placed [] n = refl
 parts_placed (b ∷ rest) n = by (parts_placed rest (n + 1)) (is_blank b) (is_name_byte b)
   where
     by : map (λ p. p.part) (placed (n + 1) rest) ≡ parts rest → (s w : Bool) →
-        map (λ p. p.part) (cond s (placed (n + 1) rest) (cond w (grown_at n b (begins_word rest) (placed (n + 1) rest)) (record { at = n; part = mark (mark_of b) } ∷ placed (n + 1) rest))) ≡
-        cond s (parts rest) (cond w (grown b (begins_word rest) (parts rest)) (mark (mark_of b) ∷ parts rest))
+        map (λ p. p.part) (cond s (placed (n + 1) rest) (cond w (grown_at n b (begins_word rest) (placed (n + 1) rest)) (record { at = n; part = sign (sign_of b) } ∷ placed (n + 1) rest))) ≡
+        cond s (parts rest) (cond w (grown b (begins_word rest) (parts rest)) (sign (sign_of b) ∷ parts rest))
     by tail true w = tail
     by tail false true = all_grown n b (begins_word rest) (placed (n + 1) rest) ∙ ap (grown b (begins_word rest)) tail
-    by tail false false = ap (λ ps. mark (mark_of b) ∷ ps) tail
+    by tail false false = ap (λ ps. sign (sign_of b) ∷ ps) tail
 
 module _ (format : ℕ) (names : List (List ℕ)) where
   -- no name of these parts is unknown
@@ -142,7 +142,7 @@ module _ (format : ℕ) (names : List (List ℕ)) where
 
   any_place : (after before : Bool) (n : ℕ) (p : Part) → unknown_part format names after before n p ≡ None → unknown_part format names after before 0 p ≡ None
   any_place after before n (word w) e = any_word after before n w e
-  any_place after before n (mark m) e = refl
+  any_place after before n (sign m) e = refl
 
   both_none : (o p : Option Unknown) → or_else o p ≡ None → (o ≡ None) × (p ≡ None)
   both_none None p e = (refl, e)
@@ -210,7 +210,7 @@ module _ (format : ℕ) (names : List (List ℕ)) where
           AllTrees Ok (terms format labels names e) × AllIn labels ws × Known false ps
       within (only t) ws ps a k = let x = within_term t ws ps a k in ((all_seq Ok (factors format labels names t) x.0, tt), x.1, x.2)
       within (either t e) ws ps a k =
-          let x = within_term t (labels_of e ws) (mark Bar ∷ spelled e ps) a k in
+          let x = within_term t (labels_of e ws) (sign Bar ∷ spelled e ps) a k in
           let y = within e ws ps x.1 x.2.1 in
           ((all_seq Ok (factors format labels names t) x.0, y.0), y.1, y.2)
 
@@ -225,9 +225,9 @@ module _ (format : ℕ) (names : List (List ℕ)) where
       within_factor : (f : Factor) (ws : List (List ℕ)) (ps : List Part) → AllIn labels (labels_of_factor f ws) → Known false (spelled_factor f ps) →
           AllLiterals Ok (factor_meaning format labels names f) × AllIn labels ws × Known false ps
       within_factor (plain a) ws ps i k = within_atom a ws ps i k
-      within_factor (star a) ws ps i k = let x = within_atom a ws (mark Star ∷ ps) i k in (x.0, x.1, x.2.1)
-      within_factor (plus a) ws ps i k = let x = within_atom a ws (mark Plus ∷ ps) i k in (x.0, x.1, x.2.1)
-      within_factor (maybe a) ws ps i k = let x = within_atom a ws (mark Question ∷ ps) i k in (x.0, x.1, x.2.1)
+      within_factor (star a) ws ps i k = let x = within_atom a ws (sign Star ∷ ps) i k in (x.0, x.1, x.2.1)
+      within_factor (plus a) ws ps i k = let x = within_atom a ws (sign Plus ∷ ps) i k in (x.0, x.1, x.2.1)
+      within_factor (maybe a) ws ps i k = let x = within_atom a ws (sign Question ∷ ps) i k in (x.0, x.1, x.2.1)
 
       within_atom : (a : Atom) (ws : List (List ℕ)) (ps : List Part) → AllIn labels (labels_of_atom a ws) → Known false (spelled_atom a ps) →
           AllLiterals Ok (atom_meaning format labels names a) × AllIn labels ws × Known false ps
@@ -236,7 +236,7 @@ module _ (format : ℕ) (names : List (List ℕ)) where
           let y = within_tests ts ps x.2 in
           (record { label = x.0; tests = y.0 }, x.1, y.1)
       within_atom (group e) ws ps i k =
-          let x = within e ws (mark ParenClose ∷ ps) i k.1 in
+          let x = within e ws (sign ParenClose ∷ ps) i k.1 in
           (all_alt Ok (terms format labels names e) x.0, x.1, x.2.1)
 
   -- of a text whose names are known, after its labels were added to others

@@ -2,23 +2,23 @@
 use Rattle.std.specs.Prelude.{ℕ, List, [], ◌∷◌, Bool, true, false, ◌&&◌, cond, not, Option, Some, None}
 use Rattle.std.specs.List.{list_any}
 use Rattle.std.specs.Str.{bytes_eq}
-use Rattle.cw_regex.specs.declared.text.Mark.{Mark}
-use Rattle.cw_regex.specs.declared.text.Mark.TheVariants.{Colon}
+use Rattle.cw_regex.specs.declared.text.Sign.{Sign}
+use Rattle.cw_regex.specs.declared.text.Sign.TheVariants.{Colon}
 use Rattle.cw_regex.specs.declared.unknown.Unknown.{Unknown}
 use Rattle.cw_regex.specs.declared.unknown.Unknown.TheVariants.{Descriptor, Right}
-use Rattle.cw_regex.specs.Parts.{Part, word, mark, Placed}
+use Rattle.cw_regex.specs.Parts.{Part, word, sign, Placed}
 use Rattle.cw_regex.specs.Meaning.{is_right}
 
 abbrev pub is_known : List (List ℕ) → List ℕ → Bool
 is_known names w = list_any (bytes_eq w) names
 
-abbrev pub is_colon : Mark → Bool
+abbrev pub is_colon : Sign → Bool
 is_colon Colon = true
 is_colon m = false
 
 abbrev pub is_colon_part : Part → Bool
 is_colon_part (word w) = false
-is_colon_part (mark m) = is_colon m
+is_colon_part (sign m) = is_colon m
 
 abbrev pub colon_next : List Placed → Bool
 colon_next [] = false
@@ -31,7 +31,7 @@ unknown_word format descriptors false before n w = cond (before && not (is_known
 
 abbrev pub unknown_part : ℕ → List (List ℕ) → Bool → Bool → ℕ → Part → Option Unknown
 unknown_part format descriptors after before n (word w) = unknown_word format descriptors after before n w
-unknown_part format descriptors after before n (mark m) = None
+unknown_part format descriptors after before n (sign m) = None
 
 abbrev pub or_else : Option Unknown → Option Unknown → Option Unknown
 or_else None o = o

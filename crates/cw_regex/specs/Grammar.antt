@@ -9,8 +9,8 @@
 -- A name and a right have the form of a C name, a descriptor has that form or is `0`, `1` or `2`.
 use Rattle.std.specs.Prelude.{◌≡◌, ℕ, ◌+◌, ◌≤◌, ◌<◌, max, List, [], ◌∷◌, ◌++◌, Bool, true, false, ◌||◌, Option, Some, None, nat_eq, take, length, IsTrue}
 use Rattle.cw_rights.specs.Valid.{is_name}
-use Rattle.cw_regex.specs.declared.text.Mark.TheVariants.{Dot, ParenOpen, ParenClose, Bar, Star, Plus, Question, BracketOpen, BracketClose, Bang, Colon, Comma}
-use Rattle.cw_regex.specs.Parts.{Part, word, mark, parts, starts_blank, ends_blank}
+use Rattle.cw_regex.specs.declared.text.Sign.TheVariants.{Dot, ParenOpen, ParenClose, Bar, Star, Plus, Question, BracketOpen, BracketClose, Bang, Colon, Comma}
+use Rattle.cw_regex.specs.Parts.{Part, word, sign, parts, starts_blank, ends_blank}
 
 -- the name of a descriptor that is open at the start
 abbrev pub is_digit : List ℕ → Bool
@@ -71,31 +71,31 @@ amb = 97 ∷ 109 ∷ 98 ∷ []
 -- the parts of each, and then the rest
 abbrev pub spelled_subject : Subject → List Part → List Part
 spelled_subject ambient rest = word amb ∷ rest
-spelled_subject (holds d r) rest = word d.bytes ∷ mark Colon ∷ word r.bytes ∷ rest
+spelled_subject (holds d r) rest = word d.bytes ∷ sign Colon ∷ word r.bytes ∷ rest
 
 abbrev pub spelled_if : Bool → Subject → List Part → List Part
-spelled_if true what rest = mark Bang ∷ spelled_subject what rest
+spelled_if true what rest = sign Bang ∷ spelled_subject what rest
 spelled_if false what rest = spelled_subject what rest
 
 abbrev pub spelled_test : TestForm → List Part → List Part
 spelled_test t rest = spelled_if t.negated t.what rest
 
 abbrev pub spelled_more : List TestForm → List Part → List Part
-spelled_more [] rest = mark BracketClose ∷ rest
-spelled_more (t ∷ ts) rest = mark Comma ∷ spelled_test t (spelled_more ts rest)
+spelled_more [] rest = sign BracketClose ∷ rest
+spelled_more (t ∷ ts) rest = sign Comma ∷ spelled_test t (spelled_more ts rest)
 
 abbrev pub spelled_tests : List TestForm → List Part → List Part
 spelled_tests [] rest = rest
-spelled_tests (t ∷ ts) rest = mark BracketOpen ∷ spelled_test t (spelled_more ts rest)
+spelled_tests (t ∷ ts) rest = sign BracketOpen ∷ spelled_test t (spelled_more ts rest)
 
 abbrev pub spelled_label : Option Name → List Part → List Part
-spelled_label None rest = mark Dot ∷ rest
+spelled_label None rest = sign Dot ∷ rest
 spelled_label (Some name) rest = word name.bytes ∷ rest
 
 abbrev mutual
   pub spelled : Expression → List Part → List Part
   spelled (only t) rest = spelled_term t rest
-  spelled (either t e) rest = spelled_term t (mark Bar ∷ spelled e rest)
+  spelled (either t e) rest = spelled_term t (sign Bar ∷ spelled e rest)
 
   pub spelled_term : Term → List Part → List Part
   spelled_term (single f) rest = spelled_factor f rest
@@ -103,13 +103,13 @@ abbrev mutual
 
   pub spelled_factor : Factor → List Part → List Part
   spelled_factor (plain a) rest = spelled_atom a rest
-  spelled_factor (star a) rest = spelled_atom a (mark Star ∷ rest)
-  spelled_factor (plus a) rest = spelled_atom a (mark Plus ∷ rest)
-  spelled_factor (maybe a) rest = spelled_atom a (mark Question ∷ rest)
+  spelled_factor (star a) rest = spelled_atom a (sign Star ∷ rest)
+  spelled_factor (plus a) rest = spelled_atom a (sign Plus ∷ rest)
+  spelled_factor (maybe a) rest = spelled_atom a (sign Question ∷ rest)
 
   pub spelled_atom : Atom → List Part → List Part
   spelled_atom (literal label tests) rest = spelled_label label (spelled_tests tests rest)
-  spelled_atom (group e) rest = mark ParenOpen ∷ spelled e (mark ParenClose ∷ rest)
+  spelled_atom (group e) rest = sign ParenOpen ∷ spelled e (sign ParenClose ∷ rest)
 
 -- how deep parentheses nest
 abbrev mutual

@@ -1,11 +1,11 @@
 -- Working definitions: an expression as a list of items, and the tree that is built of them from left to right.
 use Rattle.std.specs.Prelude.{ℕ, List, [], ◌∷◌, ◌++◌, Option, map, fold, reverse}
 use Rattle.cw_rights.specs.Trees.{Literal, Tree, tree_of, one, star as star_of, plus as plus_of, maybe as maybe_of}
-use Rattle.cw_regex.specs.declared.text.Mark.{Mark}
-use Rattle.cw_regex.specs.declared.text.Mark.TheVariants.{ParenOpen, ParenClose, Bar, Star, Plus, Question}
+use Rattle.cw_regex.specs.declared.text.Sign.{Sign}
+use Rattle.cw_regex.specs.declared.text.Sign.TheVariants.{ParenOpen, ParenClose, Bar, Star, Plus, Question}
 use Rattle.cw_regex.specs.declared.build.Frame.{Frame}
 use Rattle.cw_regex.specs.declared.build.Building.{Building}
-use Rattle.cw_regex.specs.Parts.{Part, mark}
+use Rattle.cw_regex.specs.Parts.{Part, sign}
 use Rattle.cw_regex.specs.Grammar.{Name, TestForm, Expression, only, either, Term, single, then, Factor, plain, star, plus, maybe, Atom, literal, group, spelled_label, spelled_tests}
 use Rattle.cw_regex.specs.Meaning.{literal_meaning, joined_seq, joined_alt}
 
@@ -20,12 +20,12 @@ pub data Item : Type 0 where
 
 abbrev pub spelled_item : Item → List Part → List Part
 spelled_item (lit label tests) rest = spelled_label label (spelled_tests tests rest)
-spelled_item begin rest = mark ParenOpen ∷ rest
-spelled_item close rest = mark ParenClose ∷ rest
-spelled_item bar rest = mark Bar ∷ rest
-spelled_item many rest = mark Star ∷ rest
-spelled_item some rest = mark Plus ∷ rest
-spelled_item optional rest = mark Question ∷ rest
+spelled_item begin rest = sign ParenOpen ∷ rest
+spelled_item close rest = sign ParenClose ∷ rest
+spelled_item bar rest = sign Bar ∷ rest
+spelled_item many rest = sign Star ∷ rest
+spelled_item some rest = sign Plus ∷ rest
+spelled_item optional rest = sign Question ∷ rest
 
 abbrev pub spelled_items : List Item → List Part
 spelled_items [] = []
@@ -102,17 +102,17 @@ put format labels descriptors s many = repeated star_of s
 put format labels descriptors s some = repeated plus_of s
 put format labels descriptors s optional = repeated maybe_of s
 
--- the same by the mark that stands in the text
-abbrev pub repeated_by : Mark → Tree → Tree
+-- the same by the sign that stands in the text
+abbrev pub repeated_by : Sign → Tree → Tree
 repeated_by Star t = star_of t
 repeated_by Plus t = plus_of t
 repeated_by m t = maybe_of t
 
-abbrev pub with_mark : Levels → Mark → Levels
-with_mark s ParenOpen = with_begin s
-with_mark s ParenClose = with_close s
-with_mark s Bar = with_bar s
-with_mark s m = repeated (repeated_by m) s
+abbrev pub with_sign : Levels → Sign → Levels
+with_sign s ParenOpen = with_begin s
+with_sign s ParenClose = with_close s
+with_sign s Bar = with_bar s
+with_sign s m = repeated (repeated_by m) s
 
 abbrev pub put_all : ℕ → List (List ℕ) → List (List ℕ) → Levels → List Item → Levels
 put_all format labels descriptors s is = fold (put format labels descriptors) s is

@@ -3,11 +3,11 @@ use Rattle.std.specs.Prelude.{ℕ, zero, suc, ◌+◌, ◌-◌, max, List, [], �
 use Rattle.std.specs.Option.{option_map}
 use Rattle.std.specs.Str.{bytes_eq}
 use Rattle.cw_rights.specs.Valid.{is_name}
-use Rattle.cw_regex.specs.declared.text.Mark.{Mark}
-use Rattle.cw_regex.specs.declared.text.Mark.TheVariants.{Dot, ParenOpen, ParenClose, Bar, Star, Plus, Question, BracketOpen, BracketClose, Bang, Colon as ColonMark, Comma}
+use Rattle.cw_regex.specs.declared.text.Sign.{Sign}
+use Rattle.cw_regex.specs.declared.text.Sign.TheVariants.{Dot, ParenOpen, ParenClose, Bar, Star, Plus, Question, BracketOpen, BracketClose, Bang, Colon as ColonSign, Comma}
 use Rattle.cw_regex.specs.declared.phase.Phase.{Phase}
 use Rattle.cw_regex.specs.declared.phase.Phase.TheVariants.{Begin, Label, Whole, Repeated, Test, Negated, Ambient, Descriptor, Colon, Right}
-use Rattle.cw_regex.specs.Parts.{Part, word, mark}
+use Rattle.cw_regex.specs.Parts.{Part, word, sign}
 use Rattle.cw_regex.specs.Grammar.{is_digit, is_descriptor, amb, IsExpression, IsTest}
 
 abbrev pub in_test : List ℕ → Option Phase
@@ -25,30 +25,30 @@ step_word Ambient w = None
 step_word Descriptor w = None
 step_word Right w = None
 
--- a mark that isn't a parenthesis; `alone`: a test by itself, which no `,` or `]` follows
-abbrev pub step_mark : Bool → Phase → Mark → Option Phase
-step_mark alone Begin Dot = Some Label
-step_mark alone Label Dot = Some Label
-step_mark alone Label Bar = Some Begin
-step_mark alone Label Star = Some Repeated
-step_mark alone Label Plus = Some Repeated
-step_mark alone Label Question = Some Repeated
-step_mark alone Label BracketOpen = Some Test
-step_mark alone Whole Dot = Some Label
-step_mark alone Whole Bar = Some Begin
-step_mark alone Whole Star = Some Repeated
-step_mark alone Whole Plus = Some Repeated
-step_mark alone Whole Question = Some Repeated
-step_mark alone Repeated Dot = Some Label
-step_mark alone Repeated Bar = Some Begin
-step_mark alone Test Bang = Some Negated
-step_mark alone Ambient ColonMark = Some Colon
-step_mark alone Descriptor ColonMark = Some Colon
-step_mark false Ambient Comma = Some Test
-step_mark false Ambient BracketClose = Some Whole
-step_mark false Right Comma = Some Test
-step_mark false Right BracketClose = Some Whole
-step_mark alone q m = None
+-- a sign that isn't a parenthesis; `alone`: a test by itself, which no `,` or `]` follows
+abbrev pub step_sign : Bool → Phase → Sign → Option Phase
+step_sign alone Begin Dot = Some Label
+step_sign alone Label Dot = Some Label
+step_sign alone Label Bar = Some Begin
+step_sign alone Label Star = Some Repeated
+step_sign alone Label Plus = Some Repeated
+step_sign alone Label Question = Some Repeated
+step_sign alone Label BracketOpen = Some Test
+step_sign alone Whole Dot = Some Label
+step_sign alone Whole Bar = Some Begin
+step_sign alone Whole Star = Some Repeated
+step_sign alone Whole Plus = Some Repeated
+step_sign alone Whole Question = Some Repeated
+step_sign alone Repeated Dot = Some Label
+step_sign alone Repeated Bar = Some Begin
+step_sign alone Test Bang = Some Negated
+step_sign alone Ambient ColonSign = Some Colon
+step_sign alone Descriptor ColonSign = Some Colon
+step_sign false Ambient Comma = Some Test
+step_sign false Ambient BracketClose = Some Whole
+step_sign false Right Comma = Some Test
+step_sign false Right BracketClose = Some Whole
+step_sign alone q m = None
 
 -- an atom may come; an expression may end
 abbrev pub takes_atom : Phase → Bool
@@ -76,9 +76,9 @@ closed_one (suc d) = Some (Whole, d)
 
 abbrev pub step : Bool → Phase → ℕ → Part → Option (Phase × ℕ)
 step alone q d (word w) = option_map (λ r. (r, d)) (step_word q w)
-step alone q d (mark ParenOpen) = cond (takes_atom q) (Some (Begin, d + 1)) None
-step alone q d (mark ParenClose) = cond (is_end q) (closed_one d) None
-step alone q d (mark m) = option_map (λ r. (r, d)) (step_mark alone q m)
+step alone q d (sign ParenOpen) = cond (takes_atom q) (Some (Begin, d + 1)) None
+step alone q d (sign ParenClose) = cond (is_end q) (closed_one d) None
+step alone q d (sign m) = option_map (λ r. (r, d)) (step_sign alone q m)
 
 abbrev pub run : Bool → Phase → ℕ → List Part → Option (Phase × ℕ)
 run alone q d [] = Some (q, d)
@@ -88,9 +88,9 @@ run alone q d (p ∷ rest) = option_and_then (λ s. run alone s.0 s.1 rest) (ste
 abbrev pub deepest : ℕ → List Part → ℕ
 deepest d [] = d
 deepest d (word w ∷ rest) = deepest d rest
-deepest d (mark ParenOpen ∷ rest) = max d (deepest (d + 1) rest)
-deepest d (mark ParenClose ∷ rest) = max d (deepest (d - 1) rest)
-deepest d (mark m ∷ rest) = deepest d rest
+deepest d (sign ParenOpen ∷ rest) = max d (deepest (d + 1) rest)
+deepest d (sign ParenClose ∷ rest) = max d (deepest (d - 1) rest)
+deepest d (sign m ∷ rest) = deepest d rest
 
 -- a test may come, after `!` or not
 abbrev pub is_test_start : Phase → Bool

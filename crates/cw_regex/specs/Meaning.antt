@@ -9,8 +9,8 @@ use Rattle.cw_rights.specs.declared.policy.Descriptor.{Descriptor}
 use Rattle.cw_rights.specs.declared.capabilities.Rights.{Rights}
 use Rattle.cw_rights.specs.Names.{right_mask}
 use Rattle.cw_rights.specs.Trees.{Literal, Tree, nothing, never, one, seq, alt, star as star_of, plus as plus_of, maybe as maybe_of}
-use Rattle.cw_regex.specs.declared.text.Mark.TheVariants.{BracketOpen, BracketClose}
-use Rattle.cw_regex.specs.Parts.{Part, word, mark}
+use Rattle.cw_regex.specs.declared.text.Sign.TheVariants.{BracketOpen, BracketClose}
+use Rattle.cw_regex.specs.Parts.{Part, word, sign}
 use Rattle.cw_regex.specs.Grammar.{Name, Subject, ambient, holds, TestForm, Expression, only, either, Term, single, then, Factor, plain, star, plus, maybe, Atom, literal, group}
 
 -- the word is the name of a right in this format
@@ -120,6 +120,6 @@ abbrev pub labels_in : Bool → List Part → List (List ℕ)
 labels_in inside [] = []
 labels_in false (word w ∷ rest) = w ∷ labels_in false rest
 labels_in true (word w ∷ rest) = labels_in true rest
-labels_in inside (mark BracketOpen ∷ rest) = labels_in true rest
-labels_in inside (mark BracketClose ∷ rest) = labels_in false rest
-labels_in inside (mark m ∷ rest) = labels_in inside rest
+labels_in inside (sign BracketOpen ∷ rest) = labels_in true rest
+labels_in inside (sign BracketClose ∷ rest) = labels_in false rest
+labels_in inside (sign m ∷ rest) = labels_in inside rest

@@ -1,20 +1,20 @@
 -- The parts of a text: longest runs of letters, digits and `_`, and each other byte that is no blank.
 use Rattle.std.specs.Prelude.{ℕ, ◌+◌, List, [], ◌∷◌, Bool, true, false, ◌||◌, cond, nat_eq}
 use Rattle.cw_rights.specs.Valid.{is_name_byte}
-use Rattle.cw_regex.specs.declared.text.Mark.{Mark}
-use Rattle.cw_regex.specs.declared.text.Mark.TheVariants.{Dot, ParenOpen, ParenClose, Bar, Star, Plus, Question, BracketOpen, BracketClose, Bang, Colon, Comma, Other}
+use Rattle.cw_regex.specs.declared.text.Sign.{Sign}
+use Rattle.cw_regex.specs.declared.text.Sign.TheVariants.{Dot, ParenOpen, ParenClose, Bar, Star, Plus, Question, BracketOpen, BracketClose, Bang, Colon, Comma, Other}
 
 -- A part of a text: a longest run of letters, digits and `_`, or one other byte that is no blank.
 pub data Part : Type 0 where
   word : List ℕ → Part
-  mark : Mark → Part
+  sign : Sign → Part
 
 -- a space or a TAB
 abbrev pub is_blank : ℕ → Bool
 is_blank b = nat_eq b 32 || nat_eq b 9
 
-abbrev pub mark_of : ℕ → Mark
-mark_of b =
+abbrev pub sign_of : ℕ → Sign
+sign_of b =
     cond (nat_eq b 46) Dot (cond (nat_eq b 40) ParenOpen (cond (nat_eq b 41) ParenClose (cond (nat_eq b 124) Bar (
     cond (nat_eq b 42) Star (cond (nat_eq b 43) Plus (cond (nat_eq b 63) Question (cond (nat_eq b 91) BracketOpen (
     cond (nat_eq b 93) BracketClose (cond (nat_eq b 33) Bang (cond (nat_eq b 58) Colon (cond (nat_eq b 44) Comma Other)))))))))))
@@ -26,13 +26,13 @@ begins_word (b ∷ rest) = is_name_byte b
 -- a byte of a word before the parts after it; `more`: the word goes on
 abbrev pub grown : ℕ → Bool → List Part → List Part
 grown b true (word w ∷ rest) = word (b ∷ w) ∷ rest
-grown b true (mark m ∷ rest) = word (b ∷ []) ∷ mark m ∷ rest
+grown b true (sign m ∷ rest) = word (b ∷ []) ∷ sign m ∷ rest
 grown b true [] = word (b ∷ []) ∷ []
 grown b false rest = word (b ∷ []) ∷ rest
 
 abbrev pub parts : List ℕ → List Part
 parts [] = []
-parts (b ∷ rest) = cond (is_blank b) (parts rest) (cond (is_name_byte b) (grown b (begins_word rest) (parts rest)) (mark (mark_of b) ∷ parts rest))
+parts (b ∷ rest) = cond (is_blank b) (parts rest) (cond (is_name_byte b) (grown b (begins_word rest) (parts rest)) (sign (sign_of b) ∷ parts rest))
 
 -- the parts with their places, the text beginning at n
 pub record Placed : Type 0 where
@@ -46,12 +46,12 @@ grown_at n b true (p ∷ rest) = joined p.part
   where
     joined : Part → List Placed
     joined (word w) = record { at = n; part = word (b ∷ w) } ∷ rest
-    joined (mark m) = record { at = n; part = word (b ∷ []) } ∷ p ∷ rest
+    joined (sign m) = record { at = n; part = word (b ∷ []) } ∷ p ∷ rest
 
 abbrev pub placed : ℕ → List ℕ → List Placed
 placed n [] = []
 placed n (b ∷ rest) = cond (is_blank b) (placed (n + 1) rest) (cond (is_name_byte b) (grown_at n b (begins_word rest) (placed (n + 1) rest))
-    (record { at = n; part = mark (mark_of b) } ∷ placed (n + 1) rest))
+    (record { at = n; part = sign (sign_of b) } ∷ placed (n + 1) rest))
 
 -- blanks stand between parts, neither before the first nor after the last
 abbrev pub starts_blank : List ℕ → Bool

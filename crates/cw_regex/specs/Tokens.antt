@@ -1,17 +1,17 @@
 -- Working definitions: the next part from a place of a text on.
 use Rattle.std.specs.Prelude.{◌≡◌, ℕ, Bool, true, false, ◌-◌, ◌<◌, ◌≤◌, List, [], ◌∷◌, take, drop, length}
 use Rattle.cw_regex.specs.declared.text.Token.{Token}
-use Rattle.cw_regex.specs.declared.text.Token.TheVariants.{End, Word, Mark as MarkToken}
-use Rattle.cw_regex.specs.declared.text.Mark.TheVariants.{BracketOpen, Colon}
+use Rattle.cw_regex.specs.declared.text.Token.TheVariants.{End, Word, Sign as SignToken}
+use Rattle.cw_regex.specs.declared.text.Sign.TheVariants.{BracketOpen, Colon}
 use Rattle.cw_regex.specs.Grammar.{Subject, ambient, holds}
-use Rattle.cw_regex.specs.Parts.{Part, word, mark, parts, placed}
+use Rattle.cw_regex.specs.Parts.{Part, word, sign, parts, placed}
 
 abbrev pub begins_colon : List Part → Bool
-begins_colon (mark Colon ∷ rest) = true
+begins_colon (sign Colon ∷ rest) = true
 begins_colon ps = false
 
 abbrev pub begins_bracket : List Part → Bool
-begins_bracket (mark BracketOpen ∷ rest) = true
+begins_bracket (sign BracketOpen ∷ rest) = true
 begins_bracket ps = false
 
 -- after `amb` and no `:`, a test has ended
@@ -34,4 +34,4 @@ pub record IsEnd (text : List ℕ) (at : ℕ) : Type 0 where
 abbrev pub IsToken : List ℕ → ℕ → Token → Type 0
 IsToken text at End = IsEnd text at
 IsToken text at (Word from to) = Comes text at from to (word (take (to - from) (drop from text)))
-IsToken text at (MarkToken m to) = (from : ℕ) × Comes text at from to (mark m)
+IsToken text at (SignToken m to) = (from : ℕ) × Comes text at from to (sign m)

@@ -3,9 +3,9 @@
 ghost use Rattle.std.specs.Prelude.{◌≡◌, ◌∷◌, [], ◌++◌, map, IfOk};
 ghost use Rattle.cw_rights.specs.Trees.{tree_of, one, literal_of, star, plus, maybe};
 ghost use Rattle.cw_regex.specs.Meaning.{joined_seq, joined_alt};
-ghost use Rattle.cw_regex.specs.Items.{level_of, levels_of, finished, empty, with_factor, on_last, closed_into, repeated, with_literal, with_begin, with_close, with_bar, repeated_by, with_mark};
+ghost use Rattle.cw_regex.specs.Items.{level_of, levels_of, finished, empty, with_factor, on_last, closed_into, repeated, with_literal, with_begin, with_close, with_bar, repeated_by, with_sign};
 
-use crate::text::Mark;
+use crate::text::Sign;
 use cw_rights::{Lit, Regex};
 use std::alloc::{AllocError, Global};
 
@@ -143,52 +143,52 @@ fn put_bar(alloc: Global, building: Building) -> Result<Building, AllocError>
 }
 
 /// An expression under `*`, `+` or `?`.
-fn repeated(mark: Mark, body: Box<Regex>) -> Regex
-    ensures { tree_of result ≡ repeated_by mark (tree_of body.value) }
+fn repeated(sign: Sign, body: Box<Regex>) -> Regex
+    ensures { tree_of result ≡ repeated_by sign (tree_of body.value) }
 {
-    match mark {
-        Mark::Star => Regex::Star(body),
-        Mark::Plus => Regex::Plus(body),
+    match sign {
+        Sign::Star => Regex::Star(body),
+        Sign::Plus => Regex::Plus(body),
         _ => Regex::Maybe(body),
     }
 }
 
 /// Repeats the last factor.
-fn repeat_last(alloc: Global, mut factors: Vec<Regex>, mark: Mark) -> Result<Vec<Regex>, AllocError>
-    ensures { IfOk result (λ v. map tree_of v.items ≡ on_last (repeated_by mark) (map tree_of factors.items)) }
+fn repeat_last(alloc: Global, mut factors: Vec<Regex>, sign: Sign) -> Result<Vec<Regex>, AllocError>
+    ensures { IfOk result (λ v. map tree_of v.items ≡ on_last (repeated_by sign) (map tree_of factors.items)) }
 {
     match factors.pop() {
         None => Ok(factors),
         Some(last) => {
-            factors.push(repeated(mark, Box::new(alloc, last)?))?;
+            factors.push(repeated(sign, Box::new(alloc, last)?))?;
             Ok(factors)
         }
     }
 }
 
 /// Repeats the last factor of the innermost level, at `*`, `+` or `?`.
-fn put_repeat(alloc: Global, building: Building, mark: Mark) -> Result<Building, AllocError>
-    ensures { IfOk result (λ b. levels_of b ≡ repeated (repeated_by mark) (levels_of building)) }
+fn put_repeat(alloc: Global, building: Building, sign: Sign) -> Result<Building, AllocError>
+    ensures { IfOk result (λ b. levels_of b ≡ repeated (repeated_by sign) (levels_of building)) }
 {
     let Building { inner, outer } = building;
     let Frame { terms, factors } = inner;
     Ok(Building {
         inner: Frame {
             terms,
-            factors: repeat_last(alloc, factors, mark)?,
+            factors: repeat_last(alloc, factors, sign)?,
         },
         outer,
     })
 }
 
-/// A mark comes that is no dot.
-pub fn put_mark(alloc: Global, building: Building, mark: Mark) -> Result<Building, AllocError>
-    ensures { IfOk result (λ b. levels_of b ≡ with_mark (levels_of building) mark) }
+/// A sign comes that is no dot.
+pub fn put_sign(alloc: Global, building: Building, sign: Sign) -> Result<Building, AllocError>
+    ensures { IfOk result (λ b. levels_of b ≡ with_sign (levels_of building) sign) }
 {
-    match mark {
-        Mark::ParenOpen => put_begin(alloc, building),
-        Mark::ParenClose => put_close(alloc, building),
-        Mark::Bar => put_bar(alloc, building),
-        _ => put_repeat(alloc, building, mark),
+    match sign {
+        Sign::ParenOpen => put_begin(alloc, building),
+        Sign::ParenClose => put_close(alloc, building),
+        Sign::Bar => put_bar(alloc, building),
+        _ => put_repeat(alloc, building, sign),
     }
 }

@@ -10,9 +10,9 @@ ghost use Rattle.cw_regex.specs.Labels.{names_in};
 ghost use Rattle.cw_regex.specs.Meaning.{names_of, number_in, meaning, test_meaning};
 ghost use Rattle.cw_regex.specs.Items.{Item, spelled_item, spelled_items, put, levels_of, with_literal, finished};
 
-use crate::build::{Building, finish, nothing, put_literal, put_mark};
+use crate::build::{Building, finish, nothing, put_literal, put_sign};
 use crate::test::tests_in_brackets;
-use crate::text::{Mark, Token, token_at};
+use crate::text::{Sign, Token, token_at};
 use cw_rights::{Descriptor, Lit, Regex};
 use indexmap::IndexSet;
 use std::alloc::{AllocError, Global};
@@ -79,11 +79,11 @@ fn put_label(
     Ok((put_literal(building, lit)?, to))
 }
 
-/// Whether a mark is `.`.
-fn is_dot(mark: Mark) -> bool
-    ensures { IsTrue result ↔ (mark ≡ Mark.Dot) }
+/// Whether a sign is `.`.
+fn is_dot(sign: Sign) -> bool
+    ensures { IsTrue result ↔ (sign ≡ Sign.Dot) }
 {
-    matches!(mark, Mark::Dot)
+    matches!(sign, Sign::Dot)
 }
 
 /// Builds the next item in, and says where the text goes on.
@@ -123,12 +123,12 @@ fn step(
             )?;
             Ok((next, end))
         }
-        Token::Mark { mark, to } => {
-            if is_dot(mark) {
+        Token::Sign { sign, to } => {
+            if is_dot(sign) {
                 let (next, end) = put_label(alloc, text, to, None, descriptors, format, building)?;
                 Ok((next, end))
             } else {
-                Ok((put_mark(alloc, building, mark)?, to))
+                Ok((put_sign(alloc, building, sign)?, to))
             }
         }
     }

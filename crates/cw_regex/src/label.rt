@@ -7,7 +7,7 @@ ghost use Rattle.cw_regex.specs.Meaning.{with_name, with_names, labels_in};
 ghost use Rattle.cw_regex.specs.Adding.{Adds};
 ghost use Rattle.cw_regex.specs.Labels.{names_in, Gains};
 
-use crate::text::{Mark, Token, token_at};
+use crate::text::{Sign, Token, token_at};
 use indexmap::IndexSet;
 use std::alloc::{AllocError, Global};
 
@@ -60,11 +60,11 @@ fn label_token(
             }
             Ok(Some(Labelled { at: to, ..so_far }))
         }
-        Token::Mark { mark, to } => Ok(Some(Labelled {
+        Token::Sign { sign, to } => Ok(Some(Labelled {
             at: to,
-            inside: match mark {
-                Mark::BracketOpen => true,
-                Mark::BracketClose => false,
+            inside: match sign {
+                Sign::BracketOpen => true,
+                Sign::BracketClose => false,
                 _ => so_far.inside,
             },
         })),

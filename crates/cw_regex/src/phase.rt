@@ -4,12 +4,12 @@ ghost use Rattle.std.specs.Prelude.{◌≡◌, ◌+◌, ◌-◌, ◌<◌, ◌^�
 ghost use Rattle.cw_rights.specs.Valid.{is_name};
 ghost use Rattle.std.specs.Option.{option_map};
 ghost use Rattle.std.specs.Str.{bytes_eq};
-ghost use Rattle.cw_regex.specs.Parts.{mark as part};
+ghost use Rattle.cw_regex.specs.Parts.{sign as part};
 ghost use Rattle.cw_regex.specs.Grammar.{is_digit, is_descriptor, amb};
 ghost use Rattle.cw_regex.specs.Scans.{is_held};
-ghost use Rattle.cw_regex.specs.Machine.{kept, step, in_test, step_word, step_mark, takes_atom, is_end, is_test_end, start, ends_here};
+ghost use Rattle.cw_regex.specs.Machine.{kept, step, in_test, step_word, step_sign, takes_atom, is_end, is_test_end, start, ends_here};
 
-use crate::text::Mark;
+use crate::text::Sign;
 use cw_rights::is_name;
 
 /// What was read last, as far as it tells what may come.
@@ -79,23 +79,23 @@ pub fn step_word(phase: Phase, word: &[u8]) -> Option<Phase>
     }
 }
 
-/// The phase after a mark that is no parenthesis; `alone`: a test by itself.
-pub fn step_mark(alone: bool, phase: Phase, mark: Mark) -> Option<Phase>
-    ensures { result ≡ step_mark alone phase mark }
+/// The phase after a sign that is no parenthesis; `alone`: a test by itself.
+pub fn step_sign(alone: bool, phase: Phase, sign: Sign) -> Option<Phase>
+    ensures { result ≡ step_sign alone phase sign }
 {
-    match (phase, mark) {
-        (Phase::Begin | Phase::Label | Phase::Whole | Phase::Repeated, Mark::Dot) => {
+    match (phase, sign) {
+        (Phase::Begin | Phase::Label | Phase::Whole | Phase::Repeated, Sign::Dot) => {
             Some(Phase::Label)
         }
-        (Phase::Label | Phase::Whole | Phase::Repeated, Mark::Bar) => Some(Phase::Begin),
-        (Phase::Label | Phase::Whole, Mark::Star | Mark::Plus | Mark::Question) => {
+        (Phase::Label | Phase::Whole | Phase::Repeated, Sign::Bar) => Some(Phase::Begin),
+        (Phase::Label | Phase::Whole, Sign::Star | Sign::Plus | Sign::Question) => {
             Some(Phase::Repeated)
         }
-        (Phase::Label, Mark::BracketOpen) => Some(Phase::Test),
-        (Phase::Test, Mark::Bang) => Some(Phase::Negated),
-        (Phase::Ambient | Phase::Descriptor, Mark::Colon) => Some(Phase::Colon),
-        (Phase::Ambient | Phase::Right, Mark::Comma) if !alone => Some(Phase::Test),
-        (Phase::Ambient | Phase::Right, Mark::BracketClose) if !alone => Some(Phase::Whole),
+        (Phase::Label, Sign::BracketOpen) => Some(Phase::Test),
+        (Phase::Test, Sign::Bang) => Some(Phase::Negated),
+        (Phase::Ambient | Phase::Descriptor, Sign::Colon) => Some(Phase::Colon),
+        (Phase::Ambient | Phase::Right, Sign::Comma) if !alone => Some(Phase::Test),
+        (Phase::Ambient | Phase::Right, Sign::BracketClose) if !alone => Some(Phase::Whole),
         _ => None,
     }
 }
@@ -144,16 +144,16 @@ pub fn kept(phase: Phase, first: u8) -> bool
     matches!(phase, Phase::Test | Phase::Negated) && is_digit(&[first])
 }
 
-/// The phase after a mark, and how many parentheses are open then.
-pub fn step(alone: bool, phase: Phase, depth: u32, mark: Mark) -> Option<(Phase, u32)>
+/// The phase after a sign, and how many parentheses are open then.
+pub fn step(alone: bool, phase: Phase, depth: u32, sign: Sign) -> Option<(Phase, u32)>
     requires { depth < 2 ^ 32 - 1 }
-    ensures { result ≡ step alone phase depth (part mark) }
+    ensures { result ≡ step alone phase depth (part sign) }
 {
-    match mark {
-        Mark::ParenOpen if takes_atom(phase) => Some((Phase::Begin, depth + 1)),
-        Mark::ParenClose if is_end(phase) && depth > 0 => Some((Phase::Whole, depth - 1)),
-        Mark::ParenOpen | Mark::ParenClose => None,
-        _ => match step_mark(alone, phase, mark) {
+    match sign {
+        Sign::ParenOpen if takes_atom(phase) => Some((Phase::Begin, depth + 1)),
+        Sign::ParenClose if is_end(phase) && depth > 0 => Some((Phase::Whole, depth - 1)),
+        Sign::ParenOpen | Sign::ParenClose => None,
+        _ => match step_sign(alone, phase, sign) {
             None => None,
             Some(next) => Some((next, depth)),
         },

@@ -2,14 +2,14 @@
 
 ghost use Rattle.std.specs.Prelude.{◌≡◌, ◌+◌, ◌-◌, ◌<◌, ◌≤◌, length, drop, cond, true, false, Some, ◌&&◌, IfOk, IfErr};
 ghost use Rattle.std.specs.Option.{option_map};
-ghost use Rattle.cw_regex.specs.Parts.{mark, parts, ends_blank};
+ghost use Rattle.cw_regex.specs.Parts.{sign, parts, ends_blank};
 ghost use Rattle.cw_regex.specs.Grammar.{IsFaultAt};
 ghost use Rattle.cw_regex.specs.Machine.{step, start, ends_here, deepest, In, kept};
-ghost use Rattle.cw_regex.specs.Pieces.{IsBlankAt, IsMarkAt, IsWordAt};
+ghost use Rattle.cw_regex.specs.Pieces.{IsBlankAt, IsSignAt, IsWordAt};
 ghost use Rattle.cw_regex.specs.Scans.{ScanAt};
 
 use crate::phase::{Phase, ends_here, is_held, kept, start, step, step_word};
-use crate::text::{Mark, Piece, ends_blank, piece_at};
+use crate::text::{Piece, Sign, ends_blank, piece_at};
 
 /// How far a scan has come: the place, the phase, how many parentheses are open and were open at most.
 #[derive(Clone, Copy, Drop)]
@@ -59,16 +59,16 @@ fn scan_word(text: &[u8], alone: bool, scan: Scanned, end: usize) -> Result<Scan
     }
 }
 
-/// Goes over a mark.
-fn scan_mark(text: &[u8], alone: bool, scan: Scanned, mark: Mark) -> Result<Scanned, usize>
+/// Goes over a sign.
+fn scan_sign(text: &[u8], alone: bool, scan: Scanned, sign: Sign) -> Result<Scanned, usize>
     requires is { ScanAt alone text.now scan }
-    requires mark { IsMarkAt text.now scan.at mark }
+    requires sign { IsSignAt text.now scan.at sign }
     requires few { length text.now ≤ 65535 }
     ensures ok { IfOk result (λ next. ScanAt alone text.now next) }
     ensures on { IfOk result (λ next. scan.at < next.at) }
     ensures err { IfErr result (λ n. IsFaultAt (In alone) text.now n) }
 {
-    match step(alone, scan.phase, scan.depth, mark) {
+    match step(alone, scan.phase, scan.depth, sign) {
         Some((phase, depth)) => Ok(Scanned {
             at: scan.at + 1,
             phase,
@@ -91,7 +91,7 @@ fn scan_piece(text: &[u8], alone: bool, scan: Scanned) -> Result<Scanned, usize>
     match piece_at(text, scan.at) {
         Piece::Blank => scan_blank(text, alone, scan),
         Piece::Word(end) => scan_word(text, alone, scan, end),
-        Piece::Mark(mark) => scan_mark(text, alone, scan, mark),
+        Piece::Sign(sign) => scan_sign(text, alone, scan, sign),
     }
 }
 

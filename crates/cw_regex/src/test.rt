@@ -1,12 +1,12 @@
 //! The tests of literals.
 
 ghost use Rattle.std.specs.Prelude.{◌≡◌, ◌<◌, ◌≤◌, [], ◌∷◌, List, true, false, length, drop, map, IsTrue, IfOk, IfSome, IfNone};
-ghost use Rattle.cw_regex.specs.Parts.{Part, word, mark, parts};
+ghost use Rattle.cw_regex.specs.Parts.{Part, word, sign, parts};
 ghost use Rattle.cw_regex.specs.Grammar.{Name, Subject, TestForm, spelled_subject, spelled_test, spelled_more, spelled_tests};
 ghost use Rattle.cw_regex.specs.Meaning.{names_of, need_of, subject_meaning, test_meaning};
 ghost use Rattle.cw_regex.specs.Tokens.{Settled, begins_bracket};
 
-use crate::text::{Mark, Token, colon_next, token_at};
+use crate::text::{Sign, Token, colon_next, token_at};
 use crate::unknown::descriptor_number;
 use cw_rights::{Descriptor, Rights, Test, right_named};
 use std::alloc::{AllocError, Global};
@@ -42,13 +42,13 @@ fn right_after_colon(text: &[u8], at: usize, format: u8) -> (Rights, usize)
     requires { at ≤ length text.now }
     ensures within { result.1 ≤ length text.now }
     ensures on { at ≤ result.1 }
-    ensures read { (r : Name) (rest : List Part) → parts (drop at text.now) ≡ mark Mark.Colon ∷ word r.bytes ∷ rest →
+    ensures read { (r : Name) (rest : List Part) → parts (drop at text.now) ≡ sign Sign.Colon ∷ word r.bytes ∷ rest →
         result.0 ≡ need_of format r.bytes }
-    ensures rest { (r : Name) (rest : List Part) → parts (drop at text.now) ≡ mark Mark.Colon ∷ word r.bytes ∷ rest →
+    ensures rest { (r : Name) (rest : List Part) → parts (drop at text.now) ≡ sign Sign.Colon ∷ word r.bytes ∷ rest →
         parts (drop result.1 text.now) ≡ rest }
 {
     match token_at(text, at) {
-        Token::Mark { to, .. } => right_here(text, to, format),
+        Token::Sign { to, .. } => right_here(text, to, format),
         _ => (Rights(0), at),
     }
 }
@@ -90,8 +90,8 @@ pub fn test(text: &[u8], at: usize, descriptors: &[Descriptor], format: u8) -> (
         Settled t.what rest → parts (drop result.1 text.now) ≡ rest }
 {
     match token_at(text, at) {
-        Token::Mark {
-            mark: Mark::Bang,
+        Token::Sign {
+            sign: Sign::Bang,
             to,
         } => {
             let (read, end) = subject(text, to, descriptors, format);
@@ -120,11 +120,11 @@ fn after_test(text: &[u8], at: usize) -> (bool, usize)
         parts (drop result.1 text.now) ≡ rest }
 {
     match token_at(text, at) {
-        Token::Mark {
-            mark: Mark::Comma,
+        Token::Sign {
+            sign: Sign::Comma,
             to,
         } => (true, to),
-        Token::Mark { to, .. } => (false, to),
+        Token::Sign { to, .. } => (false, to),
         _ => (false, at),
     }
 }
@@ -134,12 +134,12 @@ fn bracket_at(text: &[u8], at: usize) -> Option<usize>
     requires { at ≤ length text.now }
     ensures within { IfSome result (λ to. to ≤ length text.now) }
     ensures on { IfSome result (λ to. at ≤ to) }
-    ensures some { IfSome result (λ to. parts (drop at text.now) ≡ mark Mark.BracketOpen ∷ parts (drop to text.now)) }
+    ensures some { IfSome result (λ to. parts (drop at text.now) ≡ sign Sign.BracketOpen ∷ parts (drop to text.now)) }
     ensures none { IfNone result (begins_bracket (parts (drop at text.now)) ≡ false) }
 {
     match token_at(text, at) {
-        Token::Mark {
-            mark: Mark::BracketOpen,
+        Token::Sign {
+            sign: Sign::BracketOpen,
             to,
         } => Some(to),
         _ => None,

@@ -1,9 +1,9 @@
-//! The parts of a text: words of letters, digits and `_`, and marks.
+//! The parts of a text: words of letters, digits and `_`, and signs.
 
 ghost use Rattle.std.specs.Prelude.{◌≡◌, ◌+◌, ◌-◌, ◌<◌, ◌≤◌, true, false, length, take, drop, slice_index};
 ghost use Rattle.std.specs.List.{list_all};
 ghost use Rattle.cw_rights.specs.Valid.{is_name_byte};
-ghost use Rattle.cw_regex.specs.Parts.{is_blank, mark_of, begins_word, ends_blank, parts, placed};
+ghost use Rattle.cw_regex.specs.Parts.{is_blank, sign_of, begins_word, ends_blank, parts, placed};
 ghost use Rattle.cw_regex.specs.Faults.{colon_next};
 ghost use Rattle.cw_regex.specs.Tokens.{IsToken, begins_colon};
 ghost use Rattle.cw_regex.specs.Pieces.{IsPiece};
@@ -12,7 +12,7 @@ use cw_rights::is_name_byte;
 
 /// A byte that is no blank and in no word.
 #[derive(Clone, Copy, Drop, PartialEq, Eq)]
-pub enum Mark {
+pub enum Sign {
     Dot,
     ParenOpen,
     ParenClose,
@@ -35,24 +35,24 @@ fn is_blank(byte: u8) -> bool
     byte == b' ' || byte == b'\t'
 }
 
-/// The mark that a byte is, `Other` where it is none.
-fn mark_of(byte: u8) -> Mark
-    ensures { result ≡ mark_of byte }
+/// The sign that a byte is, `Other` where it is none.
+fn sign_of(byte: u8) -> Sign
+    ensures { result ≡ sign_of byte }
 {
     match byte {
-        b'.' => Mark::Dot,
-        b'(' => Mark::ParenOpen,
-        b')' => Mark::ParenClose,
-        b'|' => Mark::Bar,
-        b'*' => Mark::Star,
-        b'+' => Mark::Plus,
-        b'?' => Mark::Question,
-        b'[' => Mark::BracketOpen,
-        b']' => Mark::BracketClose,
-        b'!' => Mark::Bang,
-        b':' => Mark::Colon,
-        b',' => Mark::Comma,
-        _ => Mark::Other,
+        b'.' => Sign::Dot,
+        b'(' => Sign::ParenOpen,
+        b')' => Sign::ParenClose,
+        b'|' => Sign::Bar,
+        b'*' => Sign::Star,
+        b'+' => Sign::Plus,
+        b'?' => Sign::Question,
+        b'[' => Sign::BracketOpen,
+        b']' => Sign::BracketClose,
+        b'!' => Sign::Bang,
+        b':' => Sign::Colon,
+        b',' => Sign::Comma,
+        _ => Sign::Other,
     }
 }
 
@@ -73,12 +73,12 @@ fn word_end(text: &[u8], at: usize) -> usize
     text.len()
 }
 
-/// What stands at a place of a text: a blank, a word up to a place, or a mark.
+/// What stands at a place of a text: a blank, a word up to a place, or a sign.
 #[derive(Clone, Copy, Drop)]
 pub enum Piece {
     Blank,
     Word(usize),
-    Mark(Mark),
+    Sign(Sign),
 }
 
 /// What stands at a place.
@@ -93,7 +93,7 @@ pub fn piece_at(text: &[u8], at: usize) -> Piece
     if is_name_byte(byte) {
         return Piece::Word(word_end(text, at));
     }
-    Piece::Mark(mark_of(byte))
+    Piece::Sign(sign_of(byte))
 }
 
 /// Whether the last byte of a text is a blank.
@@ -107,12 +107,12 @@ pub fn ends_blank(text: &[u8]) -> bool
     is_blank(text[text.len() - 1])
 }
 
-/// The next part of a text: a word from one place to another, or a mark up to a place.
+/// The next part of a text: a word from one place to another, or a sign up to a place.
 #[derive(Clone, Copy, Drop)]
 pub enum Token {
     End,
     Word { from: usize, to: usize },
-    Mark { mark: Mark, to: usize },
+    Sign { sign: Sign, to: usize },
 }
 
 /// The next part from a place on.
@@ -124,7 +124,7 @@ pub fn token_at(text: &[u8], at: usize) -> Token
         match piece_at(text, from) {
             Piece::Blank => {}
             Piece::Word(to) => return Token::Word { from, to },
-            Piece::Mark(mark) => return Token::Mark { mark, to: from + 1 },
+            Piece::Sign(sign) => return Token::Sign { sign, to: from + 1 },
         }
     }
     Token::End
@@ -138,8 +138,8 @@ pub fn colon_next(text: &[u8], at: usize) -> bool
 {
     matches!(
         token_at(text, at),
-        Token::Mark {
-            mark: Mark::Colon,
+        Token::Sign {
+            sign: Sign::Colon,
             ..
         }
     )

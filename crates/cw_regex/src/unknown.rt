@@ -5,7 +5,7 @@ ghost use Rattle.cw_regex.specs.Parts.{placed};
 ghost use Rattle.cw_regex.specs.Meaning.{is_right, names_of, number_in};
 ghost use Rattle.cw_regex.specs.Faults.{is_known, unknown_word, first_unknown, place_of};
 
-use crate::text::{Mark, Token, colon_next, token_at};
+use crate::text::{Sign, Token, colon_next, token_at};
 use cw_rights::{Descriptor, right_named};
 
 /// A name that isn't known, by its place.
@@ -92,9 +92,9 @@ fn search_token(
 {
     match token_at(text, so_far.at) {
         Token::End => Ok(None),
-        Token::Mark { mark, to } => Ok(Some(Searched {
+        Token::Sign { sign, to } => Ok(Some(Searched {
             at: to,
-            after: matches!(mark, Mark::Colon),
+            after: matches!(sign, Sign::Colon),
         })),
         Token::Word { from, to } => {
             let before = colon_next(text, to);

@@ -16,12 +16,12 @@ returns-in_ok-next-in-Word-clause-rest c i rest h = word_rest c.args.format (nam
     (take (c.in-Word.to - c.in-Word.from) (drop c.in-Word.from c.args.text.now)) (parts (drop c.in-Word.to c.args.text.now)) (parts (drop c.in_ok-next-in-Word.end c.args.text.now))
     c.in_ok-next-in-Word.ensures.rest i rest (sym c.in-Word.ensures.first ∙ h)
 
-pub returns-in_ok-next-in-Mark-clause-read : goal.returns-in_ok-next-in-Mark-clause-read
-returns-in_ok-next-in-Mark-clause-read c i rest h = dot_read c.args.format (names_in c.args.labels.now.keys) (names_of c.args.descriptors.now) (levels_of c.args.building)
-    (levels_of c.in_ok-next-in-Mark.next) c.in-Mark.mark (parts (drop c.in-Mark.to c.args.text.now)) (c.is_dot.ensures.0 c.if-is_dot.true) c.in_ok-next-in-Mark.ensures.read i rest
-    (sym c.in-Mark.ensures.1.first ∙ h)
+pub returns-in_ok-next-in-Sign-clause-read : goal.returns-in_ok-next-in-Sign-clause-read
+returns-in_ok-next-in-Sign-clause-read c i rest h = dot_read c.args.format (names_in c.args.labels.now.keys) (names_of c.args.descriptors.now) (levels_of c.args.building)
+    (levels_of c.in_ok-next-in-Sign.next) c.in-Sign.sign (parts (drop c.in-Sign.to c.args.text.now)) (c.is_dot.ensures.0 c.if-is_dot.true) c.in_ok-next-in-Sign.ensures.read i rest
+    (sym c.in-Sign.ensures.1.first ∙ h)
 
-pub returns-in_ok-next-in-Mark-clause-rest : goal.returns-in_ok-next-in-Mark-clause-rest
-returns-in_ok-next-in-Mark-clause-rest c i rest h = dot_rest c.args.format (names_in c.args.labels.now.keys) (names_of c.args.descriptors.now) c.in-Mark.mark
-    (parts (drop c.in-Mark.to c.args.text.now)) (parts (drop c.in_ok-next-in-Mark.end c.args.text.now)) (c.is_dot.ensures.0 c.if-is_dot.true) c.in_ok-next-in-Mark.ensures.rest i rest
-    (sym c.in-Mark.ensures.1.first ∙ h)
+pub returns-in_ok-next-in-Sign-clause-rest : goal.returns-in_ok-next-in-Sign-clause-rest
+returns-in_ok-next-in-Sign-clause-rest c i rest h = dot_rest c.args.format (names_in c.args.labels.now.keys) (names_of c.args.descriptors.now) c.in-Sign.sign
+    (parts (drop c.in-Sign.to c.args.text.now)) (parts (drop c.in_ok-next-in-Sign.end c.args.text.now)) (c.is_dot.ensures.0 c.if-is_dot.true) c.in_ok-next-in-Sign.ensures.rest i rest
+    (sym c.in-Sign.ensures.1.first ∙ h)
