@@ -1,4 +1,4 @@
--- The orders of a table's lists are total. The rows' own code says the same in place, since a trait cites no lemma.
+-- The orders of a table's lists are total.
 use Rattle.std.specs.Cmp.{IsTotalOrder, bool_cmp_total}
 use Rattle.std.proofs.lemmas.Cmp.{nat_cmp_total, on_total, then_total}
 use Rattle.cw_certs.specs.Ascending.{mem_cmp, live_cmp, try_cmp, at_cmp, open_cmp, into_cmp, back_cmp}

@@ -6,15 +6,14 @@ mod keys;
 mod live;
 mod lookups;
 mod moves;
-mod order;
 mod rows;
 mod strategy;
 mod table;
 
+pub use keys::{Keyed, is_below};
 pub use live::{is_live, live_at};
 pub use lookups::{after_close, after_label, back_at, into_at, open_at, try_at};
 pub use moves::Move;
-pub use order::Keyed;
 pub use rows::{AtRow, BackRow, IntoRow, OpenRow, TryRow};
 pub use strategy::{EnvCert, EnvRow, How};
 pub use table::WeaverCert;

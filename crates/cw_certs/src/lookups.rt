@@ -1,19 +1,29 @@
-//! The rows of a table that are asked for at a seam.
+//! The keys of a table's rows, and the rows that are asked for at a seam.
 
 ghost use Rattle.std.specs.Prelude.{◌≡◌};
 ghost use Rattle.cw_certs.specs.Tables.{try_at, after_at, open_at, into_at, back_at};
 
 use crate::keys::{Keyed, row_at};
 use crate::{AtRow, BackRow, IntoRow, OpenRow, TryRow, WeaverCert};
-use cw_core::{MemId, SeamId, StateId};
+use cw_core::{MemId, SeamId, StateId, StateSet};
+
+impl Keyed for (StateId, StateSet) {
+    type Key = (StateId, StateSet);
+
+    ghost key_of = { λ r. r };
+
+    fn key(&self) -> (StateId, StateSet) {
+        *self
+    }
+}
 
 impl Keyed for TryRow {
-    type Key = (SeamId, u8, MemId);
+    type Key = (SeamId, (u8, MemId));
 
-    ghost key_of = { λ r. (r.seam, r.stage, r.mem) };
+    ghost key_of = { λ r. (r.seam, (r.stage, r.mem)) };
 
-    fn key(&self) -> (SeamId, u8, MemId) {
-        (self.seam, self.stage, self.mem)
+    fn key(&self) -> (SeamId, (u8, MemId)) {
+        (self.seam, (self.stage, self.mem))
     }
 }
 
@@ -38,22 +48,22 @@ impl Keyed for OpenRow {
 }
 
 impl Keyed for IntoRow {
-    type Key = (SeamId, bool, MemId);
+    type Key = (SeamId, (bool, MemId));
 
-    ghost key_of = { λ r. (r.seam, r.split, r.mem) };
+    ghost key_of = { λ r. (r.seam, (r.split, r.mem)) };
 
-    fn key(&self) -> (SeamId, bool, MemId) {
-        (self.seam, self.split, self.mem)
+    fn key(&self) -> (SeamId, (bool, MemId)) {
+        (self.seam, (self.split, self.mem))
     }
 }
 
 impl Keyed for BackRow {
-    type Key = (SeamId, bool, MemId, StateId);
+    type Key = (SeamId, (bool, (MemId, StateId)));
 
-    ghost key_of = { λ r. (r.seam, r.split, r.mem, r.exit) };
+    ghost key_of = { λ r. (r.seam, (r.split, (r.mem, r.exit))) };
 
-    fn key(&self) -> (SeamId, bool, MemId, StateId) {
-        (self.seam, self.split, self.mem, self.exit)
+    fn key(&self) -> (SeamId, (bool, (MemId, StateId))) {
+        (self.seam, (self.split, (self.mem, self.exit)))
     }
 }
 
@@ -62,7 +72,7 @@ pub fn try_at(cert: &WeaverCert, seam: SeamId, stage: u8, mem: MemId) -> Option<
     ensures { result ≡ try_at cert.now seam.0 stage mem.0 }
 {
     cert.fact_lists_ascend();
-    row_at(cert.tries(), &(seam, stage, mem))
+    row_at(cert.tries(), &(seam, (stage, mem)))
 }
 
 /// The row of the label at a seam with this memory.
@@ -94,7 +104,7 @@ pub fn into_at(cert: &WeaverCert, seam: SeamId, split: bool, mem: MemId) -> Opti
     ensures { result ≡ into_at cert.now seam.0 split mem.0 }
 {
     cert.fact_lists_ascend();
-    row_at(cert.into_rows(), &(seam, split, mem))
+    row_at(cert.into_rows(), &(seam, (split, mem)))
 }
 
 /// The row of the return to a seam, from a plain or a split call with this memory, by the state in which the function ended.
@@ -108,5 +118,5 @@ pub fn back_at(
     ensures { result ≡ back_at cert.now seam.0 split mem.0 exit.0 }
 {
     cert.fact_lists_ascend();
-    row_at(cert.back_rows(), &(seam, split, mem, exit))
+    row_at(cert.back_rows(), &(seam, (split, (mem, exit))))
 }

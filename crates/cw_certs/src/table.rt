@@ -1,6 +1,6 @@
 //! The table of a woven program.
 
-use crate::order::ascends;
+use crate::keys::ascends;
 use crate::rows::{AtRow, BackRow, IntoRow, OpenRow, TryRow};
 use cw_core::{MemId, PosId, StateId, StateSet};
 use std::marker::Model;
