@@ -6,7 +6,7 @@ use Rattle.std.proofs.lemmas.Cmp.{nat_cmp_total, on_total, then_total}
 use Rattle.std.proofs.lemmas.Bool.Decides.{nat_tests}
 use Rattle.cw_core.specs.declared.ids.PosId.{PosId}
 use Rattle.cw_core.specs.declared.ids.StateId.{StateId}
-use Rattle.cw_certs.proofs.Found.{find_by}
+use Rattle.cw_lemmas.proofs.Found.{find_by}
 use Rattle.cw_audit_table.specs.declared.table.Group.{Group}
 use Rattle.cw_audit_table.specs.Tables.{row_of, group_of, group_at, inside_at}
 

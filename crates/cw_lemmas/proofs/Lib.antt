@@ -5,3 +5,4 @@ pub mod Numbers
 pub mod Lists
 pub mod Rising
 pub mod Texts
+pub mod Found

@@ -2,7 +2,7 @@
 use Rattle.std.proofs.Common.{◌≡◌, ◌∙◌, ap, rules, option_map}
 use Rattle.std.proofs.lemmas.List.Sorted.{answers_always}
 use Rattle.cw_audit_table.specs.Tables.{group_of}
-use Rattle.cw_certs.proofs.Found.{found, lost}
+use Rattle.cw_lemmas.proofs.Found.{found, lost}
 use Rattle.cw_audit_check.proofs.LookUps.{group_is, group_total, group_key}
 use Rattle.cw_audit_check.proofs.looked_up.group_at.Goals as goal
 

@@ -2,7 +2,7 @@
 use Rattle.std.proofs.Common.{◌≡◌, ◌∙◌, ap, rules, option_map, get_or}
 use Rattle.std.proofs.lemmas.List.{get_or_default}
 use Rattle.std.proofs.lemmas.List.Sorted.{answers_always}
-use Rattle.cw_certs.proofs.Found.{found, lost}
+use Rattle.cw_lemmas.proofs.Found.{found, lost}
 use Rattle.cw_audit_check.proofs.LookUps.{inside_is, key_total, key_of}
 use Rattle.cw_audit_check.proofs.looked_up.inside_at.Goals as goal
 

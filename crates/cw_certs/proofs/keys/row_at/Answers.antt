@@ -1,7 +1,7 @@
 -- By the order of the keys, which is total.
 use Rattle.std.proofs.Common.{◌≡◌, rules}
 use Rattle.std.proofs.lemmas.List.Sorted.{answers_always}
-use Rattle.cw_certs.proofs.Found.{found, lost}
+use Rattle.cw_lemmas.proofs.Found.{found, lost}
 use Rattle.cw_certs.proofs.keys.row_at.Goals as goal
 
 pub returns-in-Ok : goal.returns-in-Ok
