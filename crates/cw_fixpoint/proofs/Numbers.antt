@@ -1,20 +1,19 @@
 -- The number of an item in a list that ascends strictly.
-use Rattle.std.proofs.Common.{◌≡◌, ℕ, zero, suc, ◌+◌, ◌<◌, ◌≤◌, List, [], ◌∷◌, Bool, true, false, cond, Some, length, get_or, nat_lt, refl, sym, ap, ap₂, ◌∙◌, arith, inl, inr}
+use Rattle.std.proofs.Common.{◌≡◌, ℕ, zero, suc, ◌+◌, ◌<◌, List, [], ◌∷◌, Bool, true, false, cond, Some, length, get_or, refl, sym, ap, ap₂, ◌∙◌, arith, inl, inr}
 use Rattle.std.specs.Prelude.{slice_get}
 use Rattle.std.specs.FinMap.{IsAntisymmetric}
 use Rattle.std.specs.List.{Contains}
-use Rattle.std.specs.List.Sorted.{IsStrictlySortedBy, IsNonDecreasingBy, IsPartitionPoint, IsSortedBy}
+use Rattle.std.specs.List.Sorted.{IsStrictlySortedBy, IsNonDecreasingBy, IsPartitionPoint}
 use Rattle.std.specs.declared.cmp.Ordering.{Ordering}
 use Rattle.std.specs.declared.cmp.Ordering.TheVariants.{Less, Equal, Greater}
-use Rattle.std.specs.Ordering.{ordering_index, ordering_reverse, is_eq, is_lt, eq_by_cmp}
+use Rattle.std.specs.Ordering.{ordering_index, ordering_reverse, is_eq, eq_by_cmp}
 use Rattle.std.specs.Cmp.{IsTotalOrder, tied_itself}
 use Rattle.std.proofs.lemmas.Bool.{cases_lt}
-use Rattle.std.proofs.lemmas.Bool.Decides.{nat_tests}
 use Rattle.std.proofs.lemmas.Map.Keys.{Less-from_sorted}
-use Rattle.std.proofs.lemmas.List.Sorted.{searchable_from_sorted}
 use Rattle.std.proofs.lemmas.Option.{slice_get-get_or, slice_get_within, get_or_from_slice_get}
 use Rattle.cw_fixpoint.specs.Numbers.{number_in}
-use Rattle.cw_lemmas.proofs.Orders.{is_eq_equal as at_equal, not_less}
+use Rattle.cw_lemmas.proofs.Found.{none_here}
+use Rattle.cw_lemmas.proofs.Orders.{is_eq_equal as at_equal}
 
 module _ {A : Type 0} (cmp : A → A → Ordering) (total : IsTotalOrder cmp) where
   -- of two items one can't be both before and after the other
@@ -99,21 +98,6 @@ module _ {A : Type 0} (cmp : A → A → Ordering) (total : IsTotalOrder cmp) (e
       let n : length ys + 1 ≡ suc (length ys) = omega arith in
       ap (λ b. cond b 0 (number_in cmp ys x + 1)) (f 0 y (omega arith)) ∙ ap (λ m. m + 1) (none_number ys x (λ j d l. f (suc j) d (omega (arith, l)))) ∙ n
 
-  sorted_weakly : (xs : List A) → IsStrictlySortedBy cmp xs → IsSortedBy (λ a b. is_lt (cmp a b)) xs
-  sorted_weakly xs s k d l b =
-      not_less (cmp (get_or xs k d) (get_or xs (k + 1) d)) (cmp (get_or xs (k + 1) d) (get_or xs k d)) (total.antisymm (get_or xs (k + 1) d) (get_or xs k d))
-      (Less-from_sorted cmp xs k (k + 1) d s (omega (arith, l)) b)
-
   pub lost_at : (xs : List A) (x : A) (i : ℕ) → IsStrictlySortedBy cmp xs
       → (IsNonDecreasingBy (λ y. ordering_index (cmp y x)) xs → IsPartitionPoint (λ y. cmp y x ≡ Less) (λ y. cmp y x ≡ Greater) xs i) → number xs x ≡ length xs
-  lost_at xs x i s h = none_number xs x (λ j d l. by j d l (p.0 j d (omega (arith, l))) (p.1 j d))
-    where
-      p : IsPartitionPoint (λ y. cmp y x ≡ Less) (λ y. cmp y x ≡ Greater) xs i
-      p = h (searchable_from_sorted total (λ y. y) xs x (sorted_weakly xs s))
-
-      by : (j : ℕ) (d : A) → j < length xs → (j < i → cmp (get_or xs j d) x ≡ Less) → (i ≤ j → j < length xs → cmp (get_or xs j d) x ≡ Greater) → eq_by_cmp cmp (get_or xs j d) x ≡ false
-      by j d l a b = cases (nat_lt j i) refl
-        where
-          cases : (t : Bool) → nat_lt j i ≡ t → eq_by_cmp cmp (get_or xs j d) x ≡ false
-          cases true t = let lt : j < i = grind (arith, nat_tests) in ap is_eq (a lt)
-          cases false t = let le : i ≤ j = grind (arith, nat_tests) in ap is_eq (b le l)
+  lost_at xs x i s h = none_number xs x (none_here total (λ (y : A). y) x xs i s h)

@@ -38,15 +38,23 @@ module _ {A K : Type 0} {R : K → K → Ordering} (o : IsTotalOrder R) (key : A
   found xs i x s l h e =
       ap Some e ∙ sym (find_first (λ r. is_eq (R (key r) k)) xs i x l (ap is_eq (h x)) (λ j d b. ap is_eq (below _ _ (Less-from_sorted (on key R) xs j i d s b l) (h d))))
 
-  pub lost : (xs : List A) (i : ℕ) → IsStrictlySortedBy (on key R) xs → (IsNonDecreasingBy (λ y. ordering_index (R (key y) k)) xs → IsPartitionPoint (λ y. R (key y) k ≡ Less) (λ y. R (key y) k ≡ Greater) xs i) → None ≡ find (λ r. is_eq (R (key r) k)) xs
-  lost xs i s h = sym (find_none (λ r. is_eq (R (key r) k)) xs (λ j d l. by j d l (p.0 j d (omega arith)) (p.1 j d)))
+  -- where a search finds none no item has this key
+  pub none_here : (xs : List A) (i : ℕ) → IsStrictlySortedBy (on key R) xs
+      → (IsNonDecreasingBy (λ y. ordering_index (R (key y) k)) xs → IsPartitionPoint (λ y. R (key y) k ≡ Less) (λ y. R (key y) k ≡ Greater) xs i)
+      → (j : ℕ) (d : A) → j < length xs → is_eq (R (key (get_or xs j d)) k) ≡ false
+  none_here xs i s h j d l = by (p.0 j d (omega arith)) (p.1 j d)
     where
       p : IsPartitionPoint (λ y. R (key y) k ≡ Less) (λ y. R (key y) k ≡ Greater) xs i
       p = h (searchable_from_sorted o key xs k (sorted_weakly xs s))
 
-      by : (j : ℕ) (d : A) → j < length xs → (j < i → R (key (get_or xs j d)) k ≡ Less) → (i ≤ j → j < length xs → R (key (get_or xs j d)) k ≡ Greater) → is_eq (R (key (get_or xs j d)) k) ≡ false
-      by j d l a b = cases (nat_lt j i) refl
+      by : (j < i → R (key (get_or xs j d)) k ≡ Less) → (i ≤ j → j < length xs → R (key (get_or xs j d)) k ≡ Greater) → is_eq (R (key (get_or xs j d)) k) ≡ false
+      by a b = cases (nat_lt j i) refl
         where
           cases : (t : Bool) → nat_lt j i ≡ t → is_eq (R (key (get_or xs j d)) k) ≡ false
           cases true t = let lt : j < i = grind (arith, nat_tests) in ap is_eq (a lt)
           cases false t = let le : i ≤ j = grind (arith, nat_tests) in ap is_eq (b le l)
+
+  pub lost : (xs : List A) (i : ℕ) → IsStrictlySortedBy (on key R) xs
+      → (IsNonDecreasingBy (λ y. ordering_index (R (key y) k)) xs → IsPartitionPoint (λ y. R (key y) k ≡ Less) (λ y. R (key y) k ≡ Greater) xs i)
+      → None ≡ find (λ r. is_eq (R (key r) k)) xs
+  lost xs i s h = sym (find_none (λ r. is_eq (R (key r) k)) xs (none_here xs i s h))
