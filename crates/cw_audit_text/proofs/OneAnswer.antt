@@ -7,7 +7,6 @@ use Rattle.std.proofs.lemmas.Bool.{false≢true}
 use Rattle.std.proofs.lemmas.Option.{none-some, same_Some}
 use Rattle.std.proofs.lemmas.List.Elements.{All-nil, All-cons, All-head, All-tail, All-push}
 use Rattle.cw_certs.specs.declared.moves.Move.{Move}
-use Rattle.cw_io.specs.Sinks.{SureSinkState}
 use Rattle.cw_audit_table.specs.declared.table.AuditTable.{AuditTable}
 use Rattle.cw_audit_table.specs.Tables.{PlainRow, PlainGroup, Audit, audit_of}
 use Rattle.cw_text.specs.Lines.{states_line, end_line}
@@ -523,7 +522,3 @@ again_memory text t (Err (Line n)) e fits h = absurd (false≢true (ap is_ok (on
     is_ok (Ok u) = true
     is_ok (Err f) = false
 again_memory text t (Err NoMemory) e fits h = refl
-
--- what a sink in memory has, that took a whole text
-pub whole_taken : (sink : SureSinkState) (bytes text : List ℕ) → sink ≡ record { bytes = []; refused = 0 } → Some bytes ≡ Some (sink.bytes ++ text) → bytes ≡ text
-whole_taken sink bytes text made took = let e : bytes ≡ sink.bytes ++ text = cc in e ∙ ap (λ (s : SureSinkState). s.bytes ++ text) made

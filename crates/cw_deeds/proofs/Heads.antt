@@ -1,6 +1,5 @@
 -- Blocks and `for` loops by what their fields hold.
-use Rattle.std.proofs.Common.{◌≡◌, Box, Global, Option, Some, None, refl, ap, ◌∙◌, option_map, is_some}
-use Rattle.cw_syntax.specs.declared.program.Expr.{Expr}
+use Rattle.std.proofs.Common.{◌≡◌, Box, Global, refl, ap, ◌∙◌, option_map}
 use Rattle.cw_syntax.specs.declared.program.Stmt.{Stmt}
 use Rattle.cw_syntax.specs.declared.program.Head.{Head, Head', Head-init-None', Head-init-Some', out-Head}
 use Rattle.cw_syntax.specs.declared.program.What.{What}
@@ -23,7 +22,3 @@ pub for_form : (w : What) (h : Box Head Global) (b : Box Stmt Global) → w ≡ 
 for_form w h b e =
     let k = for_is h.value (statement_of b.value) in
     record { init = k.init; form_is = ap form_of e ∙ k.form_is; place = k.place }
-
-pub some_tree : (e : Option Expr) → is_some e ≡ is_some (option_map tree_of e)
-some_tree None = refl
-some_tree (Some e) = refl

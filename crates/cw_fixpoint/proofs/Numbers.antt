@@ -1,19 +1,19 @@
 -- The number of an item in a list that ascends strictly.
 use Rattle.std.proofs.Common.{◌≡◌, ℕ, zero, suc, ◌+◌, ◌<◌, List, [], ◌∷◌, Bool, true, false, cond, Some, length, get_or, refl, sym, ap, ap₂, ◌∙◌, arith, inl, inr}
-use Rattle.std.specs.Prelude.{slice_get}
-use Rattle.std.specs.FinMap.{IsAntisymmetric}
+use Rattle.std.specs.Prelude.{slice_get, slice_index}
+use Rattle.std.specs.FinMap.{IsAntisymmetric, nat_cmp-IsAntisymmetric}
 use Rattle.std.specs.List.{Contains}
 use Rattle.std.specs.List.Sorted.{IsStrictlySortedBy, IsNonDecreasingBy, IsPartitionPoint}
 use Rattle.std.specs.declared.cmp.Ordering.{Ordering}
 use Rattle.std.specs.declared.cmp.Ordering.TheVariants.{Less, Equal, Greater}
-use Rattle.std.specs.Ordering.{ordering_index, ordering_reverse, is_eq, eq_by_cmp}
-use Rattle.std.specs.Cmp.{IsTotalOrder, tied_itself}
+use Rattle.std.specs.Ordering.{ordering_index, ordering_reverse, is_eq, eq_by_cmp, nat_cmp}
+use Rattle.std.specs.Cmp.{IsTotalOrder, tied_itself, nat_cmp_total}
 use Rattle.std.proofs.lemmas.Bool.{cases_lt}
 use Rattle.std.proofs.lemmas.Map.Keys.{Less-from_sorted}
 use Rattle.std.proofs.lemmas.Option.{slice_get-get_or, slice_get_within, get_or_from_slice_get}
 use Rattle.cw_fixpoint.specs.Numbers.{number_in}
 use Rattle.cw_lemmas.proofs.Found.{none_here}
-use Rattle.cw_lemmas.proofs.Orders.{is_eq_equal as at_equal}
+use Rattle.cw_lemmas.proofs.Orders.{is_eq_equal as at_equal, less_nat}
 
 module _ {A : Type 0} (cmp : A → A → Ordering) (total : IsTotalOrder cmp) where
   -- of two items one can't be both before and after the other
@@ -101,3 +101,28 @@ module _ {A : Type 0} (cmp : A → A → Ordering) (total : IsTotalOrder cmp) (e
   pub lost_at : (xs : List A) (x : A) (i : ℕ) → IsStrictlySortedBy cmp xs
       → (IsNonDecreasingBy (λ y. ordering_index (cmp y x)) xs → IsPartitionPoint (λ y. cmp y x ≡ Less) (λ y. cmp y x ≡ Greater) xs i) → number xs x ≡ length xs
   lost_at xs x i s h = none_number xs x (none_here total (λ (y : A). y) x xs i s h)
+
+-- a list in which numbers stand in order
+module _ (es : List ℕ) (order : IsStrictlySortedBy nat_cmp es) where
+  pub stands : (e : ℕ) → Contains es e → slice_index es (number_in nat_cmp es e) ≡ e
+  stands e c = get_or_from_slice_get es (number_in nat_cmp es e) e 0 (at_number nat_cmp nat_cmp_total nat_cmp-IsAntisymmetric es e c)
+
+  pub below : (e : ℕ) → Contains es e → number_in nat_cmp es e < length es
+  below e c = slice_get_within es (number_in nat_cmp es e) e (at_number nat_cmp nat_cmp_total nat_cmp-IsAntisymmetric es e c)
+
+  less_at : (m n : ℕ) → m < n → n < length es → nat_cmp (slice_index es m) (slice_index es n) ≡ Less
+  less_at m n l b = Less-from_sorted nat_cmp es m n 0 order l b
+
+  -- items compare as their numbers do
+  pub same_order : (m n : ℕ) → m < length es → n < length es → nat_cmp (slice_index es m) (slice_index es n) ≡ nat_cmp m n
+  same_order m n lm ln =
+      elim (cases_lt m n) [
+        | inl lt ↦ less_at m n lt ln ∙ sym (less_nat m n lt)
+        | inr ge ↦ elim (cases_lt n m) [
+          | inl lt ↦
+              nat_cmp_total.antisymm (slice_index es m) (slice_index es n) ∙ ap ordering_reverse (less_at n m lt lm ∙ sym (less_nat n m lt)) ∙ sym (nat_cmp_total.antisymm m n)
+          | inr le ↦
+              let e : m ≡ n = omega (arith, ge, le) in
+              ap (λ k. nat_cmp (slice_index es m) (slice_index es k)) (sym e) ∙ tied_itself nat_cmp_total (slice_index es m) ∙ sym (tied_itself nat_cmp_total m) ∙ ap (nat_cmp m) e
+        ]
+      ]

@@ -2,6 +2,7 @@
 use Rattle.std.proofs.Common.{◌≡◌, ℕ, min, List, [], ◌∷◌, ◌++◌, zero, suc, length, take, Option, Some, None, Result, Ok, Err, refl, ap, ◌∙◌, append_assoc, arith, ◌+◌}
 use Rattle.std.proofs.Math.Seq.{take-append-add}
 use Rattle.cw_io.specs.Pieces.{Grows, Puts}
+use Rattle.cw_io.specs.Sinks.{SureSinkState}
 
 -- a front of the first of two lists
 take_within : (a b : List ℕ) (k : ℕ) → take (min k (length a)) (a ++ b) ≡ take k a
@@ -23,3 +24,7 @@ puts_both old mid new a b (Err fault) p q = (length a + q.0, rw (take-append-add
 -- a put that failed: what it took is a front of all that was still to come, too
 pub puts_first : {E F : Type 0} (old mid : Option (List ℕ)) (a b : List ℕ) (e : E) (f : F) → Puts old mid a (Err e) → Puts old mid (a ++ b) (Err f)
 puts_first old mid a b e f p = (min p.0 (length a), rw (take_within a b p.0) p.1)
+
+-- what a sink in memory has, that took a whole text
+pub whole_taken : (sink : SureSinkState) (bytes text : List ℕ) → sink ≡ record { bytes = []; refused = 0 } → Some bytes ≡ Some (sink.bytes ++ text) → bytes ≡ text
+whole_taken sink bytes text made took = let e : bytes ≡ sink.bytes ++ text = cc in e ∙ ap (λ (s : SureSinkState). s.bytes ++ text) made

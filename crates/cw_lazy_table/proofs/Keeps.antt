@@ -31,12 +31,13 @@ use Rattle.cw_lazy_table.specs.Lazy.{Means, IsLiveRow, IsTryRow, IsLabelRow, IsO
 use Rattle.cw_lazy_table.specs.Numbered.{whole, whole_placed, whole_memory, whole_pair, whole_return, lost_by, set_at, CanAsk, AreNumbered, ArePaired, AreKept}
 use Rattle.cw_lazy_table.specs.Places.{placed_cmp, placed_of, key_of, memory_of, AreOf, return_cmp, return_of}
 use Rattle.cw_lazy_table.specs.Rowing.{Memories, number, mem, live_row, try_row, at_row, open_row, into_row, back_row}
-use Rattle.cw_lazy_table.proofs.Numbering.{stands, below, set_of_call}
+use Rattle.cw_lazy_table.proofs.Numbering.{set_of_call}
 use Rattle.cw_lazy_table.proofs.Placing.{call_there}
 use Rattle.cw_lazy_table.proofs.Putting.{listed_of}
 use Rattle.cw_lazy_table.proofs.Tabled as by_promise
 use Rattle.cw_lazy_table.proofs.Wholes.{placed_within, placed_whole, memory_within, memories_whole, return_within, returns_whole}
 use Rattle.cw_lazy_table.proofs.Wholes.{number_whole, live_rows_whole, at_rows_whole, open_rows_whole, try_rows_whole, into_rows_whole, back_rows_whole}
+use Rattle.cw_fixpoint.proofs.Numbers.{stands, below}
 
 module _ (h : HeldGame) (es : List ℕ) (keys : List Key) (live : AreNumbered h es keys) where
   abbrev g : Game

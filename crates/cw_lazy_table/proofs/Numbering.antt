@@ -1,21 +1,17 @@
 -- What is live, by the numbers of promises.
 use Rattle.std.proofs.Common.{◌≡◌, ℕ, ◌+◌, ◌<◌, ◌≤◌, List, [], ◌∷◌, ◌++◌, Bool, true, false, cond, ◌||◌, Option, Some}
-use Rattle.std.proofs.Common.{None, map, filter_map, option_map, take, length, get_or, inl, inr, refl, sym, ap, ap₂, ◌∙◌, subst, arith}
+use Rattle.std.proofs.Common.{None, map, filter_map, option_map, take, length, get_or, refl, sym, ap, ap₂, ◌∙◌, subst, arith}
 use Rattle.std.specs.Prelude.{slice_get, slice_index}
 use Rattle.std.specs.List.{Contains, cons_option}
 use Rattle.std.specs.List.Sorted.{IsStrictlySortedBy}
-use Rattle.std.specs.Cmp.{nat_cmp_total, tied_itself}
-use Rattle.std.specs.FinMap.{nat_cmp-IsAntisymmetric}
-use Rattle.std.specs.Ordering.{nat_cmp, ordering_then, ordering_reverse}
+use Rattle.std.specs.Ordering.{nat_cmp, ordering_then}
 use Rattle.std.specs.declared.cmp.Ordering.TheVariants.{Less}
 use Rattle.std.proofs.lemmas.List.{map-append, length-map, get_or_default, take_more}
-use Rattle.std.proofs.lemmas.Bool.{cases_lt}
-use Rattle.std.proofs.lemmas.Map.Keys.{Less-from_sorted}
 use Rattle.std.proofs.lemmas.Option.{slice_get_within, get_or_from_slice_get}
 use Rattle.cw_fixpoint.specs.Closures.{Exactly}
 use Rattle.cw_fixpoint.specs.Members.{IsMember, first, IsPair, HaveMore, pair_cmp}
 use Rattle.cw_fixpoint.specs.Numbers.{number_in}
-use Rattle.cw_fixpoint.proofs.Numbers.{at_number}
+use Rattle.cw_fixpoint.proofs.Numbers.{stands, below, same_order}
 use Rattle.cw_game.specs.declared.spots.Spot.{Spot}
 use Rattle.cw_game.specs.Games.{Game, Config, resumed, leads_in, weavers_in}
 use Rattle.cw_game.specs.Pairs.{Called, call_in, is_call_in, is_exit_in}
@@ -38,7 +34,6 @@ use Rattle.cw_lazy_table.proofs.Finding.{of_in}
 use Rattle.cw_lazy_table.proofs.Listing.{rows_exactly, sorted_map}
 use Rattle.cw_lazy_table.proofs.Renaming.{AreNamed, named_member, member_named, named_pair, pair_named}
 use Rattle.cw_lazy_table.proofs.Returning.{alive, ended_at}
-use Rattle.cw_lemmas.proofs.Orders.{less_nat}
 
 cons_map : {A B : Type 0} (f : A → B) (o : Option A) (xs : List A) → cons_option (option_map f o) (map f xs) ≡ map f (cons_option o xs)
 cons_map f None xs = refl
@@ -54,36 +49,8 @@ read_at P es n x l e p = subst P (get_or_default es n 0 x l ∙ sym e) p
 
 -- a list in which numbers stand in order
 module _ (es : List ℕ) (order : IsStrictlySortedBy nat_cmp es) where
-  abbrev at : ℕ → ℕ
-  at n = slice_index es n
-
-  abbrev number : ℕ → ℕ
-  number e = number_in nat_cmp es e
-
-  pub stands : (e : ℕ) → Contains es e → slice_index es (number_in nat_cmp es e) ≡ e
-  stands e c = get_or_from_slice_get es (number e) e 0 (at_number nat_cmp nat_cmp_total nat_cmp-IsAntisymmetric es e c)
-
-  pub below : (e : ℕ) → Contains es e → number_in nat_cmp es e < length es
-  below e c = slice_get_within es (number e) e (at_number nat_cmp nat_cmp_total nat_cmp-IsAntisymmetric es e c)
-
-  less_at : (m n : ℕ) → m < n → n < length es → nat_cmp (at m) (at n) ≡ Less
-  less_at m n l b = Less-from_sorted nat_cmp es m n 0 order l b
-
-  -- items compare as their numbers do
-  pub same_order : (m n : ℕ) → m < length es → n < length es → nat_cmp (slice_index es m) (slice_index es n) ≡ nat_cmp m n
-  same_order m n lm ln =
-      elim (cases_lt m n) [
-        | inl lt ↦ less_at m n lt ln ∙ sym (less_nat m n lt)
-        | inr ge ↦ elim (cases_lt n m) [
-          | inl lt ↦ nat_cmp_total.antisymm (at m) (at n) ∙ ap ordering_reverse (less_at n m lt lm ∙ sym (less_nat n m lt)) ∙ sym (nat_cmp_total.antisymm m n)
-          | inr le ↦
-              let e : m ≡ n = omega (arith, ge, le) in
-              ap (λ k. nat_cmp (at m) (at k)) (sym e) ∙ tied_itself nat_cmp_total (at m) ∙ sym (tied_itself nat_cmp_total m) ∙ ap (nat_cmp m) e
-        ]
-      ]
-
   pub key_order : (x y : Key) → x.promise < length es → y.promise < length es → key_cmp (whole es x) (whole es y) ≡ key_cmp x y
-  key_order x y lx ly = ap (λ o. ordering_then (nat_cmp x.pos y.pos) (ordering_then (nat_cmp x.state y.state) o)) (same_order x.promise y.promise lx ly)
+  key_order x y lx ly = ap (λ o. ordering_then (nat_cmp x.pos y.pos) (ordering_then (nat_cmp x.state y.state) o)) (same_order es order x.promise y.promise lx ly)
 
   pub pair_order : (x y : Key × Key) → (x.0.promise < length es) × (x.1.promise < length es) → (y.0.promise < length es) × (y.1.promise < length es)
       → pair_cmp key_cmp (whole_pair es x) (whole_pair es y) ≡ pair_cmp key_cmp x y

@@ -33,7 +33,8 @@ use Rattle.cw_lazy_table.specs.Places.{placed_cmp, part_at, placed, placed_of, m
 use Rattle.cw_lazy_table.specs.Rowing.{Memories, number, mem, mem_id, mem_after, state_or, moved, going_on, refused_by, live_row, try_row, at_row, open_row, is_split, into_row, back_row}
 use Rattle.cw_lazy_table.proofs.Finding.{In, in_of, of_in}
 use Rattle.cw_lazy_table.proofs.Listing.{rows_exactly, in_map, of_map, filter_to, filter_of}
-use Rattle.cw_lazy_table.proofs.Numbering.{same_order, key_order, stands, below}
+use Rattle.cw_lazy_table.proofs.Numbering.{key_order}
+use Rattle.cw_fixpoint.proofs.Numbers.{stands, below, same_order}
 
 same_maps : {A B C : Type 0} (f : A → B) (w : A → C) (h : C → B) (xs : List A) → ((x : A) → In xs x → f x ≡ h (w x)) → map f xs ≡ map h (map w xs)
 same_maps f w h [] e = refl

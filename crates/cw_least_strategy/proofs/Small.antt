@@ -1,5 +1,5 @@
 -- Keys by the numbers of their aims.
-use Rattle.std.proofs.Common.{◌≡◌, ℕ, suc, ◌+◌, ◌<◌, ◌≤◌, List, [], ◌∷◌, ◌++◌, Bool, true, false, cond, Some, map, append_assoc, length, inl, inr, refl, sym, ap, ◌∙◌, subst, arith}
+use Rattle.std.proofs.Common.{◌≡◌, ℕ, suc, ◌+◌, ◌<◌, ◌≤◌, List, [], ◌∷◌, ◌++◌, Bool, true, false, cond, Some, map, append_assoc, length, refl, sym, ap, ◌∙◌, subst, arith}
 use Rattle.std.specs.Prelude.{slice_get, slice_index, sum_by}
 use Rattle.std.specs.FinMap.{IsAntisymmetric, nat_cmp-IsAntisymmetric}
 use Rattle.std.specs.List.{Contains, AllByRecursion}
@@ -7,20 +7,18 @@ use Rattle.std.specs.List.Sorted.{IsStrictlySortedBy}
 use Rattle.std.specs.declared.cmp.Ordering.{Ordering}
 use Rattle.std.specs.declared.cmp.Ordering.TheVariants.{Less, Equal, Greater}
 use Rattle.std.specs.Cmp.{nat_cmp_total, tied_itself, both_ways}
-use Rattle.std.specs.Ordering.{ordering_then, ordering_reverse, nat_cmp, is_eq, eq_by_cmp}
-use Rattle.std.proofs.lemmas.Bool.{cases_lt}
+use Rattle.std.specs.Ordering.{ordering_then, nat_cmp, is_eq, eq_by_cmp}
 use Rattle.std.proofs.lemmas.Bool.Decides.{nat_tests}
 use Rattle.std.proofs.lemmas.List.{length-map}
 use Rattle.std.proofs.lemmas.List.Sums.{sum_by-cons}
-use Rattle.std.proofs.lemmas.Map.Keys.{Less-from_sorted}
-use Rattle.std.proofs.lemmas.Option.{slice_get-get_or, slice_get_within, get_or_from_slice_get}
+use Rattle.std.proofs.lemmas.Option.{slice_get-get_or, get_or_from_slice_get}
 use Rattle.cw_core.specs.declared.ids.StateId.{StateId}
 use Rattle.cw_fixpoint.specs.Closures.{Reached, first, then, Exactly, HasMore}
 use Rattle.cw_fixpoint.specs.Numbers.{number_in}
-use Rattle.cw_fixpoint.proofs.Numbers.{equal_is, at_number, number_at}
+use Rattle.cw_fixpoint.proofs.Numbers.{equal_is, number_at, stands, below, same_order}
 use Rattle.cw_game.specs.Games.{Game}
 use Rattle.cw_lemmas.proofs.Lists.{contains_one, contains_map, map_contains, head_in, tail_in}
-use Rattle.cw_lemmas.proofs.Orders.{then_equal as both_equal, less_nat}
+use Rattle.cw_lemmas.proofs.Orders.{then_equal as both_equal}
 use Rattle.cw_product.specs.Product.{game_of}
 use Rattle.cw_solve.specs.Solved.{Held}
 use Rattle.cw_least_strategy.specs.declared.key.Key.{Key}
@@ -83,33 +81,12 @@ sorted_map c d f (x ∷ xs) h s = (
 
 -- aims in order
 module _ (aims : List ℕ) (order : IsStrictlySortedBy nat_cmp aims) where
-  pub stands : (e : ℕ) → Contains aims e → slice_index aims (number_in nat_cmp aims e) ≡ e
-  stands e c = get_or_from_slice_get aims (number_in nat_cmp aims e) e 0 (at_number nat_cmp nat_cmp_total nat_cmp-IsAntisymmetric aims e c)
-
-  pub below : (e : ℕ) → Contains aims e → number_in nat_cmp aims e < length aims
-  below e c = slice_get_within aims (number_in nat_cmp aims e) e (at_number nat_cmp nat_cmp_total nat_cmp-IsAntisymmetric aims e c)
-
   its_number : (n : ℕ) → n < length aims → number_in nat_cmp aims (slice_index aims n) ≡ n
   its_number n l = number_at nat_cmp nat_cmp_total nat_cmp-IsAntisymmetric aims n (slice_index aims n) order (slice_get-get_or aims n 0 l)
 
-  -- aims compare as their numbers do
-  same_order : (m n : ℕ) → m < length aims → n < length aims → nat_cmp (slice_index aims m) (slice_index aims n) ≡ nat_cmp m n
-  same_order m n lm ln =
-      elim (cases_lt m n) [
-        | inl lt ↦ Less-from_sorted nat_cmp aims m n 0 order lt ln ∙ sym (less_nat m n lt)
-        | inr ge ↦ elim (cases_lt n m) [
-          | inl lt ↦
-              nat_cmp_total.antisymm (slice_index aims m) (slice_index aims n)
-              ∙ ap ordering_reverse (Less-from_sorted nat_cmp aims n m 0 order lt lm ∙ sym (less_nat n m lt)) ∙ sym (nat_cmp_total.antisymm m n)
-          | inr le ↦
-              let e : m ≡ n = omega (arith, ge, le) in
-              ap (λ k. nat_cmp (slice_index aims m) (slice_index aims k)) (sym e) ∙ tied_itself nat_cmp_total (slice_index aims m) ∙ sym (tied_itself nat_cmp_total m) ∙ ap (nat_cmp m) e
-        ]
-      ]
-
   key_order : (x y : SmallKey) → x.aim < length aims → y.aim < length aims → key_cmp (whole aims x) (whole aims y) ≡ small_cmp x y
   key_order x y lx ly =
-      ap (λ o. ordering_then (nat_cmp x.height y.height) (ordering_then (nat_cmp x.pos y.pos) (ordering_then (nat_cmp x.state y.state) o))) (same_order x.aim y.aim lx ly)
+      ap (λ o. ordering_then (nat_cmp x.height y.height) (ordering_then (nat_cmp x.pos y.pos) (ordering_then (nat_cmp x.state y.state) o))) (same_order aims order x.aim y.aim lx ly)
 
   -- a number is that of an aim where the aim stands at it
   same_aim : (n e : ℕ) → n < length aims → is_eq (nat_cmp n (number_in nat_cmp aims e)) ≡ is_eq (nat_cmp (slice_index aims n) e)

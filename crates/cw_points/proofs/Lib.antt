@@ -5,7 +5,7 @@ pub mod Standing
 pub mod Ways
 pub mod Passing
 pub mod Walking
-mod Shapes
+pub mod Shapes
 mod Counting
 mod Drawn
 pub mod Lengths

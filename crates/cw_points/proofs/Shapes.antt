@@ -24,7 +24,7 @@ pub record IsFor (h : Head) (body : Statement) (form : Form) : Type 0 where
   pub form_is : form ≡ Fors init test step body
   pub head_is : IsHead h init test step
 
-some_tree : (e : Option Expr) → is_some e ≡ is_some (option_map tree_of e)
+pub some_tree : (e : Option Expr) → is_some e ≡ is_some (option_map tree_of e)
 some_tree None = refl
 some_tree (Some e) = refl
 

@@ -1,8 +1,7 @@
 -- Lines as they are put.
 use Rattle.std.proofs.Common.{◌≡◌, ℕ, zero, suc, ◌+◌, ◌<◌, List, [], ◌∷◌, ◌++◌, length, map, take, get_or, sym, ap, ◌∙◌, arith, append-nil, append_assoc, add-one}
 use Rattle.std.specs.List.{flat_map}
-use Rattle.std.specs.Prelude.{codes, Some}
-use Rattle.cw_io.specs.Sinks.{SureSinkState}
+use Rattle.std.specs.Prelude.{codes}
 use Rattle.std.specs.Fmt.{decimal}
 use Rattle.cw_certs.specs.Strategies.{Row, Strategy, row_of}
 use Rattle.cw_certs.specs.declared.strategy.EnvRow.{EnvRow}
@@ -80,7 +79,3 @@ pub strategy_put : (format : ℕ) (s : Strategy) (t0 t1 t2 t3 t4 t5 t6 t7 : List
 unfolding strategy_text head_line states_line end_line
 strategy_put format s t0 t1 t2 t3 t4 t5 t6 t7 h0 h1 h2 h3 h4 h5 h6 =
     rw (h6, h5, h4, h3, h2, h1, h0) (regrouped t0 (codes "capweave strategy ") (decimal format) (codes "\n") (codes "states") (decimal s.states) (row_lines format 0 s.rows) (codes "end\n"))
-
--- what a sink in memory has, that took a whole text
-pub whole_taken : (sink : SureSinkState) (bytes text : List ℕ) → sink ≡ record { bytes = []; refused = 0 } → Some bytes ≡ Some (sink.bytes ++ text) → bytes ≡ text
-whole_taken sink bytes text made took = let e : bytes ≡ sink.bytes ++ text = cc in e ∙ ap (λ (s : SureSinkState). s.bytes ++ text) made

@@ -1,8 +1,9 @@
 use Rattle.std.proofs.Common.{◌≡◌, ◌∙◌}
 use Rattle.cw_audit_table.specs.Tables.{audit_of}
 use Rattle.cw_audit_text.specs.AuditText.{audit_text}
-use Rattle.cw_audit_text.proofs.OneAnswer.{again_same, again_memory, whole_taken}
+use Rattle.cw_audit_text.proofs.OneAnswer.{again_same, again_memory}
 use Rattle.cw_audit_text.proofs.laws.read_again.Goals as goal
+use Rattle.cw_io.proofs.TwoPuts.{whole_taken}
 
 pub returns-in-Ok-clause-same : goal.returns-in-Ok-clause-same
 returns-in-Ok-clause-same c =

@@ -10,9 +10,10 @@ use Rattle.cw_resolve.specs.Scenes.{stm_in, stms_in}
 use Rattle.cw_points.specs.Points.{points_in, points_in_all}
 use Rattle.cw_scope.proofs.Pushed.{further}
 use Rattle.cw_deeds.specs.Rows.{row_of, head_rows}
-use Rattle.cw_deeds.proofs.Heads.{for_form, some_tree}
+use Rattle.cw_deeds.proofs.Heads.{for_form}
 use Rattle.cw_deeds.proofs.Laid.{both, for_rows}
 use Rattle.cw_deeds.proofs.items.+rows.Goals as goal
+use Rattle.cw_points.proofs.Shapes.{some_tree}
 
 pub put_statement-returns-in-Block : goal.put_statement-returns-in-Block
 put_statement-returns-in-Block t c =

@@ -2,8 +2,8 @@ use Rattle.std.proofs.Common.{◌≡◌, ◌∙◌}
 use Rattle.cw_certs.specs.Strategies.{strategy_of}
 use Rattle.cw_strategy_text.specs.StrategyText.{strategy_text}
 use Rattle.cw_strategy_text.proofs.OneAnswer.{again_same, again_memory}
-use Rattle.cw_strategy_text.proofs.Puts.{whole_taken}
 use Rattle.cw_strategy_text.proofs.laws.read_again.Goals as goal
+use Rattle.cw_io.proofs.TwoPuts.{whole_taken}
 
 pub returns-in-Ok-clause-same : goal.returns-in-Ok-clause-same
 returns-in-Ok-clause-same c =
