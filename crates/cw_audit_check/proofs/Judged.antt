@@ -1,5 +1,5 @@
 -- The conditions of a row, by who moves there.
-use Rattle.std.proofs.Common.{◌≡◌, ℕ, ◌<◌, Bool, true, false, Option, Some, None, option_map, nat_le, length, refl, sym, ap, subst}
+use Rattle.std.proofs.Common.{◌≡◌, ℕ, ◌<◌, Bool, true, false, Option, Some, None, option_map, nat_le, length, refl, sym, subst}
 use Rattle.std.specs.Prelude.{slice_get}
 use Rattle.std.proofs.lemmas.Option.{none-some, same_Some}
 use Rattle.std.proofs.lemmas.Bool.{ltb-true}
@@ -15,6 +15,7 @@ use Rattle.cw_product.specs.declared.turn.Turn.TheVariants as turn
 use Rattle.cw_product.specs.Moves.{pos_id, turn_in}
 use Rattle.cw_audit_table.specs.Tables.{PlainRow}
 use Rattle.cw_audit_table.specs.Conditions.{is_free, is_place}
+use Rattle.cw_audit_table.proofs.Turns.{function_in, back_in}
 
 -- what a row's place says
 pub record IsPlaced (g : Game) (r : PlainRow) : Type 0 where
@@ -30,29 +31,7 @@ placed g f r h =
     let d = and_parts (nat_le r.pos (g.exit f)) _ c.1 in
     record { position = ltb-true r.pos (length g.spots) a.0; state = ltb-true r.state g.states.count b.0; free = d.1 }
 
-abbrev function_in : Turn → ℕ
-function_in (turn.Call f split back) = f
-function_in _ = 0
-
-abbrev back_in : Turn → ℕ
-back_in (turn.Call f split back) = back.0
-back_in _ = 0
-
 module _ (g : Game) where
-
-  call_turn : (spot : Option Spot) (h : ℕ) (split : Bool) (back : PosId) → Some (turn.Call h split back) ≡ option_map (turn_in g) spot → is_free spot ≡ true
-      → (j : ℕ) × (spot ≡ Some (Call j h back.0))
-  call_turn (Some (Call j f n)) h split back e free =
-      let same = same_Some (turn.Call h split back) (turn.Call f false (pos_id n)) e in
-      (j, ap (λ (t : Turn). Some (Call j (function_in t) (back_in t))) (sym same))
-  call_turn (Some (Step n)) h split back e free = let z = same_Some _ _ e in cc
-  call_turn (Some (Branch m n)) h split back e free = let z = same_Some _ _ e in cc
-  call_turn (Some (Label j l n)) h split back e free = let z = same_Some _ _ e in cc
-  call_turn (Some (Open j d n)) h split back e free = let z = same_Some _ _ e in cc
-  call_turn (Some (Close j d n)) h split back e free = let z = same_Some _ _ e in cc
-  call_turn (Some (Exit f)) h split back e free = let z = same_Some _ _ e in cc
-  call_turn _ h split back e free = cc
-
   -- what is called is there, in either mode
   pub call_within : (size functions p : ℕ) (spot : Option Spot) (h : ℕ) (split : Bool) (back : PosId) → Some (turn.Call h split back) ≡ option_map (turn_in g) spot
       → ((s : Spot) → spot ≡ Some s → LeadsWithin size functions p s) → (h < functions) × (back.0 < size)
@@ -69,8 +48,3 @@ module _ (g : Game) where
   call_within size functions p (Some (Close j d n)) h split back e leads = let z = same_Some _ _ e in cc
   call_within size functions p (Some (Exit f)) h split back e leads = let z = same_Some _ _ e in cc
   call_within size functions p None h split back e leads = absurd (none-some _ (sym e))
-
-  -- what is called is there
-  pub call_leads : (size functions p : ℕ) (spot : Option Spot) (h : ℕ) (split : Bool) (back : PosId) → Some (turn.Call h split back) ≡ option_map (turn_in g) spot → is_free spot ≡ true
-      → ((s : Spot) → spot ≡ Some s → LeadsWithin size functions p s) → (h < functions) × (back.0 < size)
-  call_leads size functions p spot h split back e free leads = let c = call_turn spot h split back e free in leads (Call c.0 h back.0) c.1

@@ -4,3 +4,4 @@ pub mod Bounds
 pub mod Closing
 pub mod Plays
 pub mod Least
+pub mod Turns

@@ -1,5 +1,5 @@
 -- What stands where it is whose turn it is.
-use Rattle.std.proofs.Common.{◌≡◌, ℕ, ◌<◌, Bool, true, false, Option, Some, None, refl, sym, ap, []}
+use Rattle.std.proofs.Common.{◌≡◌, ℕ, true, false, Option, Some, None, refl, sym, ap, []}
 use Rattle.std.specs.Prelude.{option_map, cond, ◌||◌}
 use Rattle.std.proofs.lemmas.Option.{none-some, same_Some}
 use Rattle.cw_core.specs.declared.ids.PosId.{PosId}
@@ -9,41 +9,13 @@ use Rattle.cw_certs.specs.declared.moves.Move.TheVariants.{On, Left, Right, Open
 use Rattle.cw_game.specs.declared.spots.Spot.{Spot}
 use Rattle.cw_game.specs.declared.spots.Spot.TheVariants.{Visit, Asked, Step, Branch, Label, Open, Close, Call, SplitCall, Exit}
 use Rattle.cw_game.specs.Games.{Game, Config, leads_in, bad_in}
-use Rattle.cw_positions.specs.Closed.{LeadsWithin}
-use Rattle.cw_product.specs.declared.turn.Turn.{Turn}
 use Rattle.cw_product.specs.declared.turn.Turn.TheVariants as turn
-use Rattle.cw_product.specs.Moves.{pos_id, turn_in, next_in, pair_of}
+use Rattle.cw_product.specs.Moves.{next_in, pair_of}
 use Rattle.cw_product.specs.MovesAt.{first_move, second_move}
 use Rattle.cw_audit_table.specs.Runs.{is_step}
-use Rattle.cw_audit_table.specs.Conditions.{is_free, is_inner}
-
-abbrev function_in : Turn → ℕ
-function_in (turn.Call f split back) = f
-function_in _ = 0
-
-abbrev back_in : Turn → ℕ
-back_in (turn.Call f split back) = back.0
-back_in _ = 0
+use Rattle.cw_audit_table.specs.Conditions.{is_inner}
 
 module _ (g : Game) where
-  pub call_turn : (spot : Option Spot) (h : ℕ) (split : Bool) (back : PosId) → Some (turn.Call h split back) ≡ option_map (turn_in g) spot → is_free spot ≡ true
-      → (j : ℕ) × (spot ≡ Some (Call j h back.0))
-  call_turn (Some (Call j f n)) h split back e free =
-      let same = same_Some (turn.Call h split back) (turn.Call f false (pos_id n)) e in
-      (j, ap (λ (t : Turn). Some (Call j (function_in t) (back_in t))) (sym same))
-  call_turn (Some (Step n)) h split back e free = let z = same_Some _ _ e in cc
-  call_turn (Some (Branch m n)) h split back e free = let z = same_Some _ _ e in cc
-  call_turn (Some (Label j l n)) h split back e free = let z = same_Some _ _ e in cc
-  call_turn (Some (Open j d n)) h split back e free = let z = same_Some _ _ e in cc
-  call_turn (Some (Close j d n)) h split back e free = let z = same_Some _ _ e in cc
-  call_turn (Some (Exit f)) h split back e free = let z = same_Some _ _ e in cc
-  call_turn _ h split back e free = cc
-
-  -- what is called is there
-  pub call_leads : (size functions p : ℕ) (spot : Option Spot) (h : ℕ) (split : Bool) (back : PosId) → Some (turn.Call h split back) ≡ option_map (turn_in g) spot → is_free spot ≡ true
-      → ((s : Spot) → spot ≡ Some s → LeadsWithin size functions p s) → (h < functions) × (back.0 < size)
-  call_leads size functions p spot h split back e free leads = let c = call_turn spot h split back e free in leads (Call c.0 h back.0) c.1
-
   -- within a function, at a pair that isn't bad, the answer is where the move leads
   pub next_leads : (p x : ℕ) (spot : Option Spot) (by : Move) → is_inner spot ≡ true → bad_in g x spot ≡ false
       → next_in g p x spot by ≡ option_map pair_of (leads_in g p x [] spot by)

@@ -3,9 +3,10 @@ use Rattle.std.proofs.Common.{◌<◌, length}
 use Rattle.std.specs.Prelude.{slice_get}
 use Rattle.cw_product.specs.Product.{game_of}
 use Rattle.cw_audit_table.specs.Tables.{row_of}
-use Rattle.cw_audit_check.proofs.Judged.{placed, call_leads}
+use Rattle.cw_audit_check.proofs.Judged.{placed}
 use Rattle.cw_audit_check.proofs.rows.row_fault.Goals as goal
 use Rattle.cw_audit_check.proofs.rows.row_fault.Goals.{In-Call}
+use Rattle.cw_audit_table.proofs.Turns.{call_leads}
 
 leads : (c : In-Call) → (c.in-Call.callee < length c.args.game.now.graph.parts.items) × (c.in-Call.back.0 < length (game_of c.args.game.now).spots)
 leads c =

@@ -2,8 +2,8 @@ use Rattle.std.proofs.Common.{length}
 use Rattle.cw_product.specs.Product.{game_of}
 use Rattle.cw_audit_visits.specs.Searching.{spot_at}
 use Rattle.cw_audit_visits.proofs.Gone.{placed_position}
-use Rattle.cw_audit_visits.proofs.Turns.{call_turn, call_leads}
 use Rattle.cw_audit_visits.proofs.met.call_at.Goals as goal
+use Rattle.cw_audit_table.proofs.Turns.{call_leads, call_turn}
 
 pub turn-requires : goal.turn-requires
 turn-requires c = placed_position c.args.game.now c.args.place c.requires.fair c.requires.placed
