@@ -14,8 +14,8 @@ use Rattle.cw_text_lines.proofs.Separated.{Separates, space, lf, name_free, numb
 use Rattle.cw_text_lines.proofs.Starts.{line_end}
 use Rattle.cw_audit_text.specs.declared.text_line.TextLine.{TextLine}
 use Rattle.cw_audit_text.specs.declared.text_line.TextLine.TheVariants.{Head, States, Meets, Violates, Go, In, At, End}
-use Rattle.cw_audit_text.specs.declared.text_line.Kind.{Kind}
-use Rattle.cw_audit_text.specs.declared.text_line.Kind.TheVariants as kind
+use Rattle.cw_audit_text.specs.declared.text_line.LineKind.{LineKind}
+use Rattle.cw_audit_text.specs.declared.text_line.LineKind.TheVariants as kind
 use Rattle.cw_audit_text.specs.TextLines.{line_words, line_text, FitsLine}
 use Rattle.cw_audit_text.specs.Faults.{StartsWith}
 use Rattle.cw_audit_text.specs.Kinds.{kind_in, kind_word, rest_words, FitsKind}
@@ -41,13 +41,13 @@ fits_kind (At p x a) fits = tt
 fits_kind End fits = tt
 
 -- the kind of a word
-kind_from : List ℕ → Kind
+kind_from : List ℕ → LineKind
 kind_from word =
     cond (bytes_eq word (codes "capweave")) kind.Head (cond (bytes_eq word (codes "states")) kind.States (cond (bytes_eq word (codes "meets")) kind.Meets
     (cond (bytes_eq word (codes "violates")) kind.Violates (cond (bytes_eq word (codes "in")) kind.In (cond (bytes_eq word (codes "at")) kind.At
     (cond (bytes_eq word (codes "end")) kind.End (kind.Go (move_of word))))))))
 
-kind_back : (k : Kind) → kind_from (kind_word k) ≡ k
+kind_back : (k : LineKind) → kind_from (kind_word k) ≡ k
 unfolding kind_from move_of
 kind_back kind.Head = refl
 kind_back kind.States = refl
@@ -67,7 +67,7 @@ kind_back (kind.Go Opened) = refl
 kind_back (kind.Go Failed) = refl
 kind_back (kind.Go Stop) = refl
 
-one_kind : (a b : Kind) → kind_word a ≡ kind_word b → a ≡ b
+one_kind : (a b : LineKind) → kind_word a ≡ kind_word b → a ≡ b
 one_kind a b e = sym (kind_back a) ∙ ap kind_from e ∙ kind_back b
 
 first : List (List ℕ) → List ℕ

@@ -4,11 +4,11 @@ use Rattle.std.specs.Fmt.{decimal}
 use Rattle.cw_text.specs.Moves.{move_name, IsEnvironments}
 use Rattle.cw_audit_text.specs.declared.text_line.TextLine.{TextLine}
 use Rattle.cw_audit_text.specs.declared.text_line.TextLine.TheVariants.{Head, States, Meets, Violates, Go, In, At, End}
-use Rattle.cw_audit_text.specs.declared.text_line.Kind.{Kind}
-use Rattle.cw_audit_text.specs.declared.text_line.Kind.TheVariants as kind
+use Rattle.cw_audit_text.specs.declared.text_line.LineKind.{LineKind}
+use Rattle.cw_audit_text.specs.declared.text_line.LineKind.TheVariants as kind
 use Rattle.cw_audit_text.specs.TextLines.{FitsLine}
 
-abbrev pub kind_in : TextLine → Kind
+abbrev pub kind_in : TextLine → LineKind
 kind_in Head = kind.Head
 kind_in (States n) = kind.States
 kind_in Meets = kind.Meets
@@ -18,7 +18,7 @@ kind_in (In f q r) = kind.In
 kind_in (At p x a) = kind.At
 kind_in End = kind.End
 
-abbrev pub kind_word : Kind → List ℕ
+abbrev pub kind_word : LineKind → List ℕ
 kind_word kind.Head = codes "capweave"
 kind_word kind.States = codes "states"
 kind_word kind.Meets = codes "meets"
@@ -38,10 +38,10 @@ rest_words (In f q r) = decimal f ∷ decimal q ∷ decimal r ∷ []
 rest_words (At p x a) = decimal p ∷ decimal x ∷ decimal a ∷ []
 rest_words End = []
 
-abbrev pub FitsKind : Kind → Type 0
+abbrev pub FitsKind : LineKind → Type 0
 FitsKind (kind.Go by) = IsEnvironments by
 FitsKind k = Unit {0}
 
-pub record IsOf (k : Kind) (l : TextLine) : Type 0 where
+pub record IsOf (k : LineKind) (l : TextLine) : Type 0 where
   pub fits : FitsLine l
   pub kind : kind_in l ≡ k

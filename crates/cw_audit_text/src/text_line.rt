@@ -4,7 +4,7 @@ ghost use Rattle.std.specs.Prelude.{◌≡◌, [], IfSome};
 ghost use Rattle.cw_text.specs.Lines.{Reads};
 ghost use Rattle.cw_audit_text.specs.TextLines.{line_words, line_text, FitsLine};
 ghost use Rattle.cw_audit_text.specs.Kinds.{kind_word, rest_words, FitsKind, IsOf};
-ghost use Rattle.cw_audit_text.specs.declared.text_line.Kind.TheVariants as kind;
+ghost use Rattle.cw_audit_text.specs.declared.text_line.LineKind.TheVariants as kind;
 
 use cw_certs::Move;
 use cw_text::{Words, environments_move};
@@ -26,7 +26,7 @@ pub enum TextLine {
 
 /// What a line says, without its numbers.
 #[derive(Clone, Copy, Drop)]
-enum Kind {
+enum LineKind {
     Head,
     States,
     Meets,
@@ -59,47 +59,47 @@ fn take_line(words: &mut Words) -> Option<TextLine>
 }
 
 /// What a line says whose first word this is.
-fn kind_of(word: &[u8]) -> Option<Kind>
+fn kind_of(word: &[u8]) -> Option<LineKind>
     ensures { Reads FitsKind kind_word word.now result }
 {
     if word == b"in".as_slice() {
-        return Some(Kind::In);
+        return Some(LineKind::In);
     }
     if word == b"at".as_slice() {
-        return Some(Kind::At);
+        return Some(LineKind::At);
     }
     if word == b"capweave".as_slice() {
-        return Some(Kind::Head);
+        return Some(LineKind::Head);
     }
     if word == b"states".as_slice() {
-        return Some(Kind::States);
+        return Some(LineKind::States);
     }
     if word == b"meets".as_slice() {
-        return Some(Kind::Meets);
+        return Some(LineKind::Meets);
     }
     if word == b"violates".as_slice() {
-        return Some(Kind::Violates);
+        return Some(LineKind::Violates);
     }
     if word == b"end".as_slice() {
-        return Some(Kind::End);
+        return Some(LineKind::End);
     }
-    Some(Kind::Go(environments_move(word)?))
+    Some(LineKind::Go(environments_move(word)?))
 }
 
 /// What a line of this kind says, by the words behind its first one.
-fn read_as(kind: Kind, words: &mut Words) -> Option<TextLine>
+fn read_as(kind: LineKind, words: &mut Words) -> Option<TextLine>
     requires named { FitsKind kind }
     ensures { Reads (IsOf kind) rest_words words.old result }
 {
     match kind {
-        Kind::Head => read_head(words),
-        Kind::States => read_states(words),
-        Kind::Meets => read_meets(words),
-        Kind::Violates => read_violates(words),
-        Kind::Go(by) => read_go(by, words),
-        Kind::In => read_in(words),
-        Kind::At => read_at(words),
-        Kind::End => read_end(words),
+        LineKind::Head => read_head(words),
+        LineKind::States => read_states(words),
+        LineKind::Meets => read_meets(words),
+        LineKind::Violates => read_violates(words),
+        LineKind::Go(by) => read_go(by, words),
+        LineKind::In => read_in(words),
+        LineKind::At => read_at(words),
+        LineKind::End => read_end(words),
     }
 }
 

@@ -24,7 +24,7 @@ use Rattle.cw_solve.specs.Low.{HeightsAreLow}
 use Rattle.cw_solve.proofs.Few.{there as context_below}
 use Rattle.cw_solve.proofs.Tabling.{there}
 use Rattle.cw_lazy_table.specs.declared.key.Key.{Key}
-use Rattle.cw_lazy_table.specs.Kinds.{Kind}
+use Rattle.cw_lazy_table.specs.Kinds.{SpotKind}
 use Rattle.cw_lazy_table.specs.Kinds as kind
 use Rattle.cw_lazy_table.specs.declared.place.Placed.{Placed}
 use Rattle.cw_lazy_table.specs.Choices.{lost_in, set_in, choices, start_of}
@@ -184,8 +184,8 @@ module _ (g : Game) (functions : ℕ) (can : CanBegin g functions) (low : Height
       let memories = in_order mem_cmp mem_total mem_exact (map memory_of keys.0) in
       let ms = memories.0 in
       let are = memories_exactly g functions can keys.0 ms lives memories.1 in
-      let placed = λ (k : Kind). in_order placed_cmp placed_total placed_exact (filter_map (placed_of g k) keys.0) in
-      let exactly = λ (k : Kind). places_exactly g functions can k keys.0 (placed k).0 lives (placed k).1 in
+      let placed = λ (k : SpotKind). in_order placed_cmp placed_total placed_exact (filter_map (placed_of g k) keys.0) in
+      let exactly = λ (k : SpotKind). places_exactly g functions can k keys.0 (placed k).0 lives (placed k).1 in
       let ab = in_order (pair_cmp key_cmp) pair_total (both_exact key_cmp key_cmp key_exact key_exact) (paired (choices g) keys.0) in
       let pairs : Exactly (pair_cmp key_cmp) (IsPair (choices g) (start_of g)) ab.0 = (ab.1.0, λ (x : Key × Key). ((λ c. (pairs_are (choices g) (start_of g) keys.0 keys.1.1 x).0 ((ab.1.1 x).0 c)), (λ p. (ab.1.1 x).1 ((pairs_are (choices g) (start_of g) keys.0 keys.1.1 x).1 p)))) in
       let back = in_order return_cmp return_total (both_exact placed_cmp key_cmp placed_exact key_exact) (filter_map (return_of g) ab.0) in

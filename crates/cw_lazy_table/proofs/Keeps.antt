@@ -23,7 +23,7 @@ use Rattle.cw_product.specs.Product.{Held as HeldGame, game_of}
 use Rattle.cw_solve.specs.Contexts.{of_main}
 use Rattle.cw_solve.specs.Solved.{Held}
 use Rattle.cw_lazy_table.specs.declared.key.Key.{Key}
-use Rattle.cw_lazy_table.specs.Kinds.{Kind}
+use Rattle.cw_lazy_table.specs.Kinds.{SpotKind}
 use Rattle.cw_lazy_table.specs.Kinds as kind
 use Rattle.cw_lazy_table.specs.declared.place.Placed.{Placed}
 use Rattle.cw_lazy_table.specs.Choices.{set_in, IsReady}
@@ -50,7 +50,7 @@ module _ (h : HeldGame) (es : List ℕ) (keys : List Key) (live : AreNumbered h 
   position x c = by_promise.position h ws live.live (whole es x) (contains_map (whole es) keys x c)
 
   -- the keys at positions of a kind
-  module _ (k : Kind) (ys : List Placed) (are : Exactly placed_cmp (Contains (filter_map (placed_of g k) keys)) ys) where
+  module _ (k : SpotKind) (ys : List Placed) (are : Exactly placed_cmp (Contains (filter_map (placed_of g k) keys)) ys) where
     abbrev vs : List Placed
     vs = map (whole_placed es) ys
 

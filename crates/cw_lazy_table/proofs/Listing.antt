@@ -16,7 +16,7 @@ use Rattle.cw_game.specs.Games.{Game}
 use Rattle.cw_game.specs.Pairs.{Called, call_in}
 use Rattle.cw_solve.specs.Low.{HeightsAreLow}
 use Rattle.cw_lazy_table.specs.declared.key.Key.{Key}
-use Rattle.cw_lazy_table.specs.Kinds.{Kind}
+use Rattle.cw_lazy_table.specs.Kinds.{SpotKind}
 use Rattle.cw_lazy_table.specs.Kinds as kind
 use Rattle.cw_lazy_table.specs.declared.place.Placed.{Placed}
 use Rattle.cw_lazy_table.specs.Choices.{lost_in, set_in}
@@ -141,7 +141,7 @@ placed_exact x y e =
 
 module _ (g : Game) (functions : ℕ) (can : CanBegin g functions) where
   -- a seam's parts stand at one position each
-  abbrev pub One : Kind → Type 0
+  abbrev pub One : SpotKind → Type 0
   One k = (x y : Placed) → IsPlaced g k x → IsPlaced g k y → x.seam ≡ y.seam → x.part ≡ y.part → x.pos ≡ y.pos
 
   asked_one : One kind.Asked
@@ -181,7 +181,7 @@ module _ (g : Game) (functions : ℕ) (can : CanBegin g functions) where
       same_mode false false e = refl
 
   -- labels, opens and closes have one part
-  abbrev pub OnePart : Kind → Type 0
+  abbrev pub OnePart : SpotKind → Type 0
   OnePart k = (x y : Placed) → IsPlaced g k x → IsPlaced g k y → x.part ≡ y.part
 
   label_part : OnePart kind.Label
@@ -194,7 +194,7 @@ module _ (g : Game) (functions : ℕ) (can : CanBegin g functions) where
   close_part x y a b = (close_there (slice_get g.spots x.pos) x.seam x.part a.at).3 ∙ sym (close_there (slice_get g.spots y.pos) y.seam y.part b.at).3
 
   -- keys that are live, by what stands at their positions
-  pub places_exactly : (k : Kind) (members : List Key) (ys : List Placed)
+  pub places_exactly : (k : SpotKind) (members : List Key) (ys : List Placed)
       → ((x : Key) → (Contains members x → IsLive g x.pos x.state x.promise) × (IsLive g x.pos x.state x.promise → Contains members x))
       → Exactly placed_cmp (Contains (filter_map (placed_of g k) members)) ys → Exactly placed_cmp (IsPlaced g k) ys
   places_exactly k members ys are e =
@@ -243,7 +243,7 @@ module _ (g : Game) (functions : ℕ) (can : CanBegin g functions) where
     rest x y = ordering_then (nat_cmp x.state y.state) (ordering_then (nat_cmp x.promise y.promise) (nat_cmp x.pos y.pos))
 
     -- keys before one another have rows before one another
-    three_less : (k : Kind) → One k → (x y : Placed) → IsPlaced g k x → IsPlaced g k y → placed_cmp x y ≡ Less → three x y ≡ Less
+    three_less : (k : SpotKind) → One k → (x y : Placed) → IsPlaced g k x → IsPlaced g k y → placed_cmp x y ≡ Less → three x y ≡ Less
     three_less k one x y a b l =
         ⊎_elim
         (λ s. less_first (nat_cmp x.seam y.seam) (ordering_then (nat_cmp x.part y.part) (nat_cmp (num x) (num y))) s)
@@ -262,7 +262,7 @@ module _ (g : Game) (functions : ℕ) (can : CanBegin g functions) where
         rows_exactly placed_cmp try_cmp (IsPlaced g kind.Asked) (IsTryRow g ms) (try_row g (lost_in g) ms) xs e (λ x y a b l. three_less kind.Asked asked_one x y a b l)
         (try_to g functions can low ms are) (try_from g functions can low ms are)
 
-    at_less : (k : Kind) → One k → OnePart k → (x y : Placed) → IsPlaced g k x → IsPlaced g k y → placed_cmp x y ≡ Less → ordering_then (nat_cmp x.seam y.seam) (nat_cmp (num x) (num y)) ≡ Less
+    at_less : (k : SpotKind) → One k → OnePart k → (x y : Placed) → IsPlaced g k x → IsPlaced g k y → placed_cmp x y ≡ Less → ordering_then (nat_cmp x.seam y.seam) (nat_cmp (num x) (num y)) ≡ Less
     at_less k one part x y a b l = without (nat_cmp x.seam y.seam) (nat_cmp x.part y.part) (nat_cmp (num x) (num y)) (tied_nat x.part y.part (part x y a b)) (three_less k one x y a b l)
 
     pub labels_exactly : (xs : List Placed) → Exactly placed_cmp (IsPlaced g kind.Label) xs → Exactly at_cmp (IsLabelRow g ms) (map (at_row g ms) xs)

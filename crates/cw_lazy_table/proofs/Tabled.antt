@@ -21,7 +21,7 @@ use Rattle.cw_solve.specs.Contexts.{context}
 use Rattle.cw_solve.specs.Solved.{Held}
 use Rattle.cw_solve.proofs.Tabling.{there}
 use Rattle.cw_lazy_table.specs.declared.key.Key.{Key}
-use Rattle.cw_lazy_table.specs.Kinds.{Kind}
+use Rattle.cw_lazy_table.specs.Kinds.{SpotKind}
 use Rattle.cw_lazy_table.specs.Kinds as kind
 use Rattle.cw_lazy_table.specs.declared.place.Placed.{Placed}
 use Rattle.cw_lazy_table.specs.Choices.{lost_in, set_in, IsReady, CanFollow}
@@ -62,7 +62,7 @@ module _ (h : HeldGame) (keys : List Key) (live : AreLive h keys) where
   position x c = (range x.pos x.state x.promise ((lives x).0 c)).0
 
   -- the keys at positions of a kind
-  module _ (k : Kind) (ys : List Placed) (are : Exactly placed_cmp (Contains (filter_map (placed_of g k) keys)) ys) where
+  module _ (k : SpotKind) (ys : List Placed) (are : Exactly placed_cmp (Contains (filter_map (placed_of g k) keys)) ys) where
     pub places_are : Exactly placed_cmp (IsPlaced g k) ys
     places_are = places_exactly g functions live.begins k keys ys lives are
 

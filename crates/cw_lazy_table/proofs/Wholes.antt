@@ -23,7 +23,7 @@ use Rattle.cw_lemmas.proofs.Options.{option_map_some as mapped}
 use Rattle.cw_product.specs.Moves.{next_at, pos_id}
 use Rattle.cw_points.specs.Graphs.{seam_id}
 use Rattle.cw_lazy_table.specs.declared.key.Key.{Key}
-use Rattle.cw_lazy_table.specs.Kinds.{Kind}
+use Rattle.cw_lazy_table.specs.Kinds.{SpotKind}
 use Rattle.cw_lazy_table.specs.Kinds as kind
 use Rattle.cw_lazy_table.specs.declared.place.Placed.{Placed}
 use Rattle.cw_lazy_table.specs.Choices.{lost_in, set_in}
@@ -50,7 +50,7 @@ module _ (g : Game) (es : List ℕ) (order : IsStrictlySortedBy nat_cmp es) wher
   memory_order a b la lb = ap (λ o. ordering_then (nat_cmp a.0.0 b.0.0) o) (same_order es order a.1 b.1 la lb)
 
   -- what is placed
-  module _ (keys : List Key) (within : (k : Key) → Contains keys k → k.promise < length es) (kd : Kind) where
+  module _ (keys : List Key) (within : (k : Key) → Contains keys k → k.promise < length es) (kd : SpotKind) where
     abbrev Here : Placed → Type 0
     Here x = Contains (filter_map (placed_of g kd) keys) x
 

@@ -1,7 +1,7 @@
 -- The kinds of what has rows.
-pub data Kind : Type 0 where
-  Asked : Kind
-  Label : Kind
-  Open : Kind
-  Close : Kind
-  Call : Kind
+pub data SpotKind : Type 0 where
+  Asked : SpotKind
+  Label : SpotKind
+  Open : SpotKind
+  Close : SpotKind
+  Call : SpotKind

@@ -9,7 +9,7 @@ use Rattle.cw_game.specs.declared.spots.Spot.TheVariants as spot
 use Rattle.cw_game.specs.Games.{Game}
 use Rattle.cw_game.specs.Pairs.{Called, call_in}
 use Rattle.cw_lazy_table.specs.declared.key.Key.{Key}
-use Rattle.cw_lazy_table.specs.Kinds.{Kind}
+use Rattle.cw_lazy_table.specs.Kinds.{SpotKind}
 use Rattle.cw_lazy_table.specs.Kinds.{Asked, Label, Open, Close, Call}
 use Rattle.cw_lazy_table.specs.declared.place.ByKind.{ByKind}
 use Rattle.cw_lazy_table.specs.declared.place.Placed.{Placed}
@@ -28,7 +28,7 @@ placed_cmp x y =
     (ordering_then (nat_cmp x.part y.part) (ordering_then (nat_cmp x.state y.state) (ordering_then (nat_cmp x.promise y.promise) (nat_cmp x.pos y.pos))))
 
 -- seam and part of what stands there, where it is of this kind
-abbrev pub part_in : Kind → Spot → Option (ℕ × ℕ)
+abbrev pub part_in : SpotKind → Spot → Option (ℕ × ℕ)
 part_in Asked (spot.Asked j i a) = Some (j, i)
 part_in Label (spot.Label j l n) = Some (j, 0)
 part_in Open (spot.Open j d n) = Some (j, 0)
@@ -37,17 +37,17 @@ part_in Call (spot.Call j f n) = Some (j, 0)
 part_in Call (spot.SplitCall j f n) = Some (j, 1)
 part_in _ _ = None
 
-abbrev pub part_there : Kind → Option Spot → Option (ℕ × ℕ)
+abbrev pub part_there : SpotKind → Option Spot → Option (ℕ × ℕ)
 part_there kind None = None
 part_there kind (Some s) = part_in kind s
 
-abbrev pub part_at : Game → Kind → ℕ → Option (ℕ × ℕ)
+abbrev pub part_at : Game → SpotKind → ℕ → Option (ℕ × ℕ)
 part_at g kind p = part_there kind (slice_get g.spots p)
 
 abbrev pub placed : Key → ℕ × ℕ → Placed
 placed k at = record { seam = at.0; part = at.1; state = k.state; promise = k.promise; pos = k.pos }
 
-abbrev pub placed_of : Game → Kind → Key → Option Placed
+abbrev pub placed_of : Game → SpotKind → Key → Option Placed
 placed_of g kind k = option_map (placed k) (part_at g kind k.pos)
 
 abbrev pub key_of : Placed → Key
@@ -69,7 +69,7 @@ put_placed xs None = xs
 put_placed xs (Some x) = xs ++ x ∷ []
 
 -- the keys of a kind, in the order of rows
-abbrev pub AreOfKind : Game → Kind → List Key → List Placed → Type 0
+abbrev pub AreOfKind : Game → SpotKind → List Key → List Placed → Type 0
 AreOfKind g kind keys ys = Exactly placed_cmp (Contains (filter_map (placed_of g kind) keys)) ys
 
 -- keys by kind, as they come
@@ -89,7 +89,7 @@ pub record AreByKind (g : Game) (keys : List Key) (lists : ByKind) : Type 0 wher
   pub calls : AreOfKind g Call keys lists.calls.items
 
 -- something with rows stands at a key that is live
-pub record IsPlaced (g : Game) (kind : Kind) (x : Placed) : Type 0 where
+pub record IsPlaced (g : Game) (kind : SpotKind) (x : Placed) : Type 0 where
   pub live : IsLive g x.pos x.state x.promise
   pub at : part_at g kind x.pos ≡ Some (x.seam, x.part)
 
