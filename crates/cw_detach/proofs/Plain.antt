@@ -25,7 +25,7 @@ use Rattle.cw_detach.specs.declared.faults.ProcFault.TheVariants.{Limit, Result}
 use Rattle.cw_detach.specs.Form.{calls_one, place_if, result_of, result_in, span_of, spans, form_from, form_of, nesting, nesting_in, nesting_all}
 use Rattle.cw_detach.specs.Faults.{no_function, both, taken, result_taken, long, deep, is_shallow, text_fault, IsFirstFault, ◌or_else◌}
 
-calls_none : (source : List ℕ) (t : Tree) → calls_one source [] t ≡ false
+pub calls_none : (source : List ℕ) (t : Tree) → calls_one source [] t ≡ false
 calls_none source (Node (CallOp f) parts from to) = refl
 calls_none source (Node _ parts from to) = refl
 
@@ -64,7 +64,7 @@ form_same source file = ap (form_from source 0) (no_spans source file)
 module _ (source : List ℕ) where
   -- a rule, where the claim holds of the statements in it
   module _ (E : Expressions) (P : Place → List Lexeme → Statement → Type 0) (n : ℕ) (h : (place : Place) (ts : List Lexeme) (st : Statement) → P place ts st → nesting source [] st ≤ n) where
-    all_nest : (ts : List Lexeme) (ss : List Statement) → AreAll (P InBlock) ts ss → nesting_all source [] (statements ss) ≤ n
+    pub all_nest : (ts : List Lexeme) (ss : List Statement) → AreAll (P InBlock) ts ss → nesting_all source [] (statements ss) ≤ n
     all_nest ts [] is = omega arith
     all_nest ts (st ∷ ss) (x, y, whole, first, rest) = max-le (h InBlock x st first) (all_nest y ss rest)
 
@@ -86,7 +86,7 @@ module _ (source : List ℕ) where
     form_nests place ts Continues is = omega arith
     form_nests place ts (Returns value) is = omega arith
 
-  statement_nests : (limit n : ℕ) (place : Place) (ts : List Lexeme) (st : Statement) → IsStatement limit n place ts st → nesting source [] st ≤ n
+  pub statement_nests : (limit n : ℕ) (place : Place) (ts : List Lexeme) (st : Statement) → IsStatement limit n place ts st → nesting source [] st ≤ n
   statement_nests limit zero place ts st is = absurd is
   statement_nests limit (suc n) place ts (Stated form begin finish) (begin_is, finish_is, is) =
       form_nests (IsExpression limit) (IsStatement limit n) n (statement_nests limit n) place ts form is

@@ -6,7 +6,7 @@ use Rattle.std.proofs.lemmas.List.{append-nil, append_assoc}
 use Rattle.std.proofs.Math.Nat.{le-max_left, le-max_right, max-eq_left}
 use Rattle.cw_syntax.specs.declared.program.Name.{Name}
 use Rattle.cw_syntax.specs.declared.program.Op.TheVariants as op
-use Rattle.cw_syntax.specs.Trees.{Tree, Node, Statement, Stated, Form, Block, Declares, Evaluates, Empties, Labels, Chooses, Whiles, Does, Fors, Breaks, Continues, Returns, Perhaps, nothing, just}
+use Rattle.cw_syntax.specs.Trees.{Tree, Statement, Stated, Form, Block, Declares, Evaluates, Empties, Labels, Chooses, Whiles, Does, Fors, Breaks, Continues, Returns, Perhaps, nothing, just}
 use Rattle.cw_syntax.specs.Trees.{Statements}
 use Rattle.cw_grammar.specs.declared.words.Word.TheVariants as w
 use Rattle.cw_grammar.specs.declared.words.Lexeme.{Lexeme}
@@ -29,6 +29,7 @@ use Rattle.cw_forms.proofs.Declarations.{declaration_moves, optional_moves}
 use Rattle.cw_forms.proofs.Parts.{Part, KeptAs, Then, kept_part, part_then, part_as, stand_for_both}
 use Rattle.cw_forms.proofs.Brought.{stated, exit as exit_tree, test as test_tree, whole as whole_statement, brought_is}
 use Rattle.cw_forms.proofs.Observed.{given_pairs, declaration_pairs, declared_pairs, inner_pairs, pairs_both, one_more, called_is}
+use Rattle.cw_detach.proofs.Plain.{calls_none}
 
 -- ---- an expression has tokens
 
@@ -85,10 +86,6 @@ last_to t [] c = refl
 last_to t (y ∷ ys) c = last_to y ys c
 
 -- ---- how deep it nests
-
-pub calls_none : (source : List ℕ) (t : Tree) → calls_one source [] t ≡ false
-calls_none source (Node (op.Call f) parts from to) = refl
-calls_none source (Node _ parts from to) = refl
 
 no_arm : (n : ℕ) → max n 0 + 1 ≡ n + 1
 no_arm n = let le : 0 ≤ n = omega arith in ap (λ (j : ℕ). j + 1) (max-eq_left le)

@@ -1,23 +1,22 @@
 -- A form that is refused for its nesting is too deep for the reader.
 use Rattle.std.proofs.Common.{max}
-use Rattle.std.proofs.Common.{◌≡◌, ◌⊎◌, ℕ, zero, suc, ◌+◌, ◌≤◌, true, false, nat_le, List, [], ◌∷◌, length, Result, Ok, Err, refl, sym, ap, subst, ◌∙◌, arith}
+use Rattle.std.proofs.Common.{◌≡◌, ◌⊎◌, ℕ, ◌+◌, ◌≤◌, true, false, nat_le, List, [], ◌∷◌, length, Result, Ok, Err, refl, sym, ap, subst, ◌∙◌, arith}
 use Rattle.std.proofs.Common.{inl, inr}
 use Rattle.std.specs.List.{list_all}
 use Rattle.std.proofs.lemmas.Bool.{both_ways}
 use Rattle.std.proofs.lemmas.Bool.Decides.{nat_tests}
-use Rattle.std.proofs.Math.Nat.{le-max_left, le-max_right, max-le}
-use Rattle.cw_syntax.specs.Trees.{Statement, Stated, Form, Block, Declares, Evaluates, Empties, Labels, Chooses, Whiles, Does, Fors, Breaks, Continues, Returns, nothing, just, Definition, File}
+use Rattle.std.proofs.Math.Nat.{le-max_left, le-max_right}
+use Rattle.cw_syntax.specs.Trees.{Definition, File}
 use Rattle.cw_lex.specs.declared.tokens.Token.{Token}
 use Rattle.cw_lex.specs.Marks.{HasNoMarker}
 use Rattle.cw_lex.specs.Listed.{AreInOrder}
 use Rattle.cw_lex.specs.Tokens.{Stand, tokens_of, AreTokens}
 use Rattle.cw_lex.proofs.Ordered.{tokens_in_order}
 use Rattle.cw_grammar.specs.declared.words.Lexeme.{Lexeme}
-use Rattle.cw_grammar.specs.Lexemes.{AreAll, statements}
+use Rattle.cw_grammar.specs.Lexemes.{AreAll}
 use Rattle.cw_grammar.specs.Spelling.{lexemes_of}
 use Rattle.cw_grammar.specs.Expressions.{IsExpression, nesting_limit}
-use Rattle.cw_grammar.specs.Declarations.{Expressions}
-use Rattle.cw_grammar.specs.Statements.{Place, InBlock, BeforeElse, Elsewhere, last, IsForm, IsStatement}
+use Rattle.cw_grammar.specs.Statements.{IsStatement}
 use Rattle.cw_grammar.specs.Files.{Part as FilePart, Declares as DeclaresPart, Holds, Defines, IsPart, IsFile, IsOfGrammar, IsProgram, file_of}
 use Rattle.cw_grammar.proofs.Deeper.{all_weaker, part_deeper}
 use Rattle.cw_recogniser.specs.Language.{AreOfGrammar}
@@ -25,49 +24,21 @@ use Rattle.cw_parse.proofs.FilesComplete.{file_again, program_is_read}
 use Rattle.cw_source.specs.Read.{DerivesNone}
 use Rattle.cw_source.proofs.Lying.{lie_of}
 use Rattle.cw_parse.specs.declared.fault.ParseFault.TheVariants as parse
-use Rattle.cw_detach.specs.Form.{form_of, nesting, nesting_in, nesting_all}
+use Rattle.cw_detach.specs.Form.{form_of, nesting_all}
 use Rattle.cw_detach.specs.Faults.{is_shallow}
 use Rattle.cw_forms.specs.Moved.{Pairs}
 use Rattle.cw_forms.specs.Pieces.{lefts}
 use Rattle.cw_forms.specs.Spans.{spans_of, with_texts}
 use Rattle.cw_forms.specs.Laws.{DeepFormsAreDeep}
 use Rattle.cw_forms.proofs.Derived.{form_is, same_limit, enough}
-use Rattle.cw_forms.proofs.Formed.{calls_none}
 use Rattle.cw_forms.proofs.Lexing.{lexing}
 use Rattle.cw_forms.proofs.Markers.{no_marker}
 use Rattle.cw_forms.proofs.FilesFormed.{AreShallow, NestsAs, parts_formed}
+use Rattle.cw_detach.proofs.Plain.{all_nest, statement_nests}
 
 -- ---- what is read nests no deeper than the limit
 
 module _ (form : List ℕ) where
-  module _ (E : Expressions) (P : Place → List Lexeme → Statement → Type 0) (n : ℕ) (h : (place : Place) (ts : List Lexeme) (st : Statement) → P place ts st → nesting form [] st ≤ n) where
-    all_nest : (ts : List Lexeme) (ss : List Statement) → AreAll (P InBlock) ts ss → nesting_all form [] (statements ss) ≤ n
-    all_nest ts [] is = omega arith
-    all_nest ts (st ∷ ss) (x, y, whole, first, rest) = max-le (h InBlock x st first) (all_nest y ss rest)
-
-    form_nests : (place : Place) (ts : List Lexeme) (fm : Form) → IsForm E P place ts fm → nesting_in form [] fm ≤ suc n
-    form_nests place ts (Block kids) (inner, kids_are, (o, x, c, whole, opens, closes, all)) = rw kids_are (let p = all_nest x inner all in omega arith)
-    form_nests place ts (Declares d) is = omega arith
-    form_nests place ts (Evaluates e) is = rw (calls_none form e) (omega arith)
-    form_nests place ts Empties is = omega arith
-    form_nests place ts (Labels name mark body) (k, colon, x, whole, k_is, colon_is, name_is, mark_is, is) = let p = h (last place) x body is in omega arith
-    form_nests place ts (Chooses check arm nothing) (i, x, y, whole, place_is, i_is, test_is, is) =
-        let zero_le : 0 ≤ n = omega arith in
-        let p = max-le (h Elsewhere y arm is) zero_le in omega arith
-    form_nests place ts (Chooses check arm (just other)) (i, x, y, e, z, whole, i_is, test_is, is, e_is, other_is) =
-        let p = max-le (h BeforeElse y arm is) (h (last place) z other other_is) in omega arith
-    form_nests place ts (Whiles check body) (w, x, y, whole, w_is, test_is, is) = let p = h (last place) y body is in omega arith
-    form_nests place ts (Does body check) (d, x, w, y, c, whole, d_is, is, w_is, test_is, c_is) = let p = h Elsewhere x body is in omega arith
-    form_nests place ts (Fors init check step body) (f, o, x, y, z, v, whole, f_is, o_is, init_is, test_is, step_is, is) = let p = h (last place) v body is in omega arith
-    form_nests place ts Breaks is = omega arith
-    form_nests place ts Continues is = omega arith
-    form_nests place ts (Returns value) is = omega arith
-
-  statement_nests : (limit n : ℕ) (place : Place) (ts : List Lexeme) (st : Statement) → IsStatement limit n place ts st → nesting form [] st ≤ n
-  statement_nests limit zero place ts st is = absurd is
-  statement_nests limit (suc n) place ts (Stated fm begin finish) (begin_is, finish_is, is) =
-      form_nests (IsExpression limit) (IsStatement limit n) n (statement_nests limit n) place ts fm is
-
   abbrev Low : ℕ → List Definition → Type 0
   Low n [] = Unit {0}
   Low n (f ∷ fs) = (nesting_all form [] f.body ≤ n) × Low n fs
@@ -77,7 +48,7 @@ module _ (form : List ℕ) where
   parts_low limit (DeclaresPart d ∷ parts) ts (x, y, whole, first, rest) = parts_low limit parts y rest
   parts_low limit (Holds d ∷ parts) ts (x, y, whole, first, rest) = parts_low limit parts y rest
   parts_low limit (Defines f ∷ parts) ts (x, y, whole, (header, o, inner, c, body, all_of, is_header, named, opens, brace, all, body_is, closes), rest) =
-      (rw body_is (all_nest (IsExpression limit) (IsStatement limit limit) limit (statement_nests limit limit) inner body all), parts_low limit parts y rest)
+      (rw body_is (all_nest form (IsExpression limit) (IsStatement limit limit) limit (statement_nests form limit limit) inner body all), parts_low limit parts y rest)
 
 -- ---- how deep a form is reckoned to be
 
