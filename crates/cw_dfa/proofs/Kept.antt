@@ -88,7 +88,7 @@ module _ (rules : List PlainRule) (letters : List Letter) where
 
   -- ---- each policy state is the set of a word
 
-  longer : (w : Word) (c : Letter) → KeepsRules rules letters w → Contains letters c → Keeps (w ++ c ∷ []) → KeepsRules rules letters (w ++ c ∷ [])
+  pub longer : (w : Word) (c : Letter) → KeepsRules rules letters w → Contains letters c → Keeps (w ++ c ∷ []) → KeepsRules rules letters (w ++ c ∷ [])
   longer w c k l n = record { over = All-push (Contains letters) w c k.over l; fronts = λ m rule b. front m rule b (nat_lt (length w) m) refl }
     where
       front : (m rule : ℕ) → Breaks rules (take m (w ++ c ∷ [])) rule → (t : Bool) → nat_lt (length w) m ≡ t → ⊥
@@ -99,7 +99,7 @@ module _ (rules : List PlainRule) (letters : List Letter) where
           let few : m ≤ length w = grind (arith, nat_tests) in
           k.fronts m rule (subst (λ v. Breaks rules v rule) (take-append-le m w (c ∷ []) few) b)
 
-  nothing_kept : KeepsRules rules letters []
+  pub nothing_kept : KeepsRules rules letters []
   nothing_kept = record { over = All-nil (Contains letters); fronts = λ m rule b. b.0 (take_all m [] (omega arith)) }
 
   abbrev pub HasWord : ℕ → Type 0

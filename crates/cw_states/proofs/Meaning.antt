@@ -1,11 +1,8 @@
 -- The states are the policy's.
-use Rattle.std.proofs.Common.{◌≡◌, ℕ, ◌/◌, ◌%◌, ◌<◌, ◌≤◌, List, [], ◌∷◌, ◌++◌, Bool, true, false, Option, Some, None, length, get_or, take, nat_lt, refl, sym, ap, ap₂, ◌∙◌, subst, arith}
-use Rattle.std.proofs.Common.{length-append, is_some}
+use Rattle.std.proofs.Common.{◌≡◌, ℕ, ◌/◌, ◌%◌, ◌<◌, List, [], ◌∷◌, ◌++◌, true, Option, Some, None, length, get_or, refl, sym, ap, ap₂, ◌∙◌, subst}
+use Rattle.std.proofs.Common.{is_some}
 use Rattle.std.specs.Prelude.{slice_get, slice_index}
 use Rattle.std.specs.List.{Contains}
-use Rattle.std.proofs.lemmas.Bool.Decides.{nat_tests}
-use Rattle.std.proofs.lemmas.List.{take_all, take-append-le}
-use Rattle.std.proofs.lemmas.List.Elements.{All-nil, All-push}
 use Rattle.std.proofs.Math.Nat.{mul_comm}
 use Rattle.std.proofs.lemmas.Nat.{mul-add-lt, div-mul-add, mod-mul-add}
 use Rattle.cw_rights.specs.declared.capabilities.Caps.{Caps}
@@ -20,7 +17,7 @@ use Rattle.cw_rights.specs.Words.{Word}
 use Rattle.cw_dfa.specs.Kept.{KeepsRules}
 use Rattle.cw_dfa.specs.Positions.{IsSetOf}
 use Rattle.cw_dfa.specs.Verdicts.{IsVerdict, verdict, next_of}
-use Rattle.cw_dfa.proofs.Kept.{states_of_words}
+use Rattle.cw_dfa.proofs.Kept.{states_of_words, nothing_kept, longer}
 use Rattle.cw_dfa.proofs.Whole.{start_set, next_set, verdict_is}
 use Rattle.cw_model.specs.Boards.{is_yes, may_grant, with_opened}
 use Rattle.cw_game.specs.declared.spots.Spot.{Spot}
@@ -39,24 +36,6 @@ pub yes_is : (a : Allowed) → is_yes a ≡ true → a ≡ Yes
 yes_is Yes e = refl
 yes_is NotCapable e = cc
 yes_is BadDescriptor e = cc
-
--- ---- words that keep the rules
-
-module _ (rules : List PlainRule) (letters : List Letter) where
-  nothing_kept : KeepsRules rules letters []
-  nothing_kept = record { over = All-nil (Contains letters); fronts = λ m rule b. b.0 (take_all m [] (omega arith)) }
-
-  pub longer : (w : Word) (c : Letter) → KeepsRules rules letters w → Contains letters c → ((rule : ℕ) → Breaks rules (w ++ c ∷ []) rule → ⊥)
-      → KeepsRules rules letters (w ++ c ∷ [])
-  longer w c k l n = record { over = All-push (Contains letters) w c k.over l; fronts = λ m rule b. front m rule b (nat_lt (length w) m) refl }
-    where
-      front : (m rule : ℕ) → Breaks rules (take m (w ++ c ∷ [])) rule → (t : Bool) → nat_lt (length w) m ≡ t → ⊥
-      front m rule b true t =
-          let all : length (w ++ c ∷ []) ≤ m = let z = length-append w (c ∷ []) in let y : length w < m = grind (arith, nat_tests) in omega arith in
-          n rule (subst (λ v. Breaks rules v rule) (take_all m (w ++ c ∷ []) all) b)
-      front m rule b false t =
-          let few : m ≤ length w = grind (arith, nat_tests) in
-          k.fronts m rule (subst (λ v. Breaks rules v rule) (take-append-le m w (c ∷ []) few) b)
 
 -- ---- a verdict tells whether a word is bad
 

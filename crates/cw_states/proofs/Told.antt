@@ -11,7 +11,7 @@ use Rattle.cw_rights.specs.Policies.{PlainPolicy, PlainRule, IsBad, start_caps}
 use Rattle.cw_rights.specs.Words.{Word}
 use Rattle.cw_dfa.specs.Positions.{IsSetOf}
 use Rattle.cw_dfa.specs.Verdicts.{verdict}
-use Rattle.cw_dfa.proofs.Kept.{states_of_words}
+use Rattle.cw_dfa.proofs.Kept.{states_of_words, longer}
 use Rattle.cw_dfa.proofs.Whole.{next_set}
 use Rattle.cw_model.specs.Boards.{Problem, may_grant, with_opened}
 use Rattle.cw_game.specs.declared.spots.Spot.{Spot}
@@ -27,7 +27,7 @@ use Rattle.cw_states.specs.States.{Lists, AreLists, pair, set_at, caps_at, set_p
 use Rattle.cw_states.specs.Spots.{Have}
 use Rattle.cw_states.specs.Told.{Tells}
 use Rattle.cw_states.proofs.Letters.{letter_below}
-use Rattle.cw_states.proofs.Meaning.{longer, verdict_bad, bad_verdict, caps_is, set_is, below, begins, applied_is, opened_is}
+use Rattle.cw_states.proofs.Meaning.{verdict_bad, bad_verdict, caps_is, set_is, below, begins, applied_is, opened_is}
 use Rattle.cw_states.proofs.Places.{caps_found, number_found}
 use Rattle.cw_states.proofs.Below.{pair_below, row_below, column_below}
 use Rattle.cw_states.proofs.Broken.{violations_are_verdicts}
