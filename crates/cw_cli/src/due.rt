@@ -8,7 +8,7 @@ ghost use Rattle.cw_commands.specs.Starts.{Starts, StartsLine};
 ghost use Rattle.cw_cli.specs.Due.{IsDue};
 
 use crate::listing::listing_due;
-use crate::sampling::sample_due;
+use crate::sampling::of_none;
 use crate::weaving::weave_due;
 use cw_auditing::{audit_due, reaudit_due};
 use cw_checking::{check_due, refute_due};
@@ -20,25 +20,6 @@ use cw_playing::{play_due, run_due};
 use cw_valuing::values_due;
 use cw_worlding::world_due;
 use std::alloc::Global;
-
-/// What is due for a command without files: a sample, by its number.
-fn of_none<O: Sink, N: Sink>(
-    alloc: Global,
-    command: Command,
-    out: &mut O,
-    note: &mut N,
-) -> Result<Outcome<O, N>, NoMemory>
-    requires numbered { IsNumbered command }
-    requires sized { AreSized (quantities_of command) ([]) }
-    ensures due { IfOk result (λ outcome. IsDue command ([]) (due_of outcome)) }
-    ensures puts { Starts O.taken O.faults O.refused out.old out.new result }
-    ensures notes { StartsLine N.taken N.faults N.refused note.old note.new result }
-{
-    match command {
-        Command::Sample(number) => sample_due(alloc, number, out, note),
-        _ => unreachable!(),
-    }
-}
 
 /// What is due for a command of one file.
 fn of_one<O: Sink, N: Sink>(

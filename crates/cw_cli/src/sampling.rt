@@ -1,19 +1,22 @@
 //! What is due for `sample`.
 
-ghost use Rattle.std.specs.Prelude.{◌≡◌, ◌≤◌, length, IfOk};
+ghost use Rattle.std.specs.Prelude.{◌≡◌, ◌≤◌, length, IfOk, []};
 ghost use Rattle.cw_rights.specs.Policies.{policy_of};
 ghost use Rattle.cw_rights.specs.Valid.{IsValid};
 ghost use Rattle.cw_policy.specs.Answer.{Spells};
 ghost use Rattle.cw_sample.specs.Samples.{sample_policy, sample_source, HasSample};
+ghost use Rattle.cw_commands.specs.Commands.{quantities_of, IsNumbered};
+ghost use Rattle.cw_commands.specs.Files.{AreSized};
 ghost use Rattle.cw_commands.specs.Outcomes.{due_of};
 ghost use Rattle.cw_commands.specs.Starts.{Starts, StartsLine};
 ghost use Rattle.cw_stages.specs.Stops.{Answers, StartsText};
+ghost use Rattle.cw_cli.specs.Due.{IsDue};
 ghost use Rattle.cw_cli.specs.Sampling.{AfterPolicy, IsSampleDue};
 
 use crate::rechecking::{finished, go_through};
 use crate::telling::summary;
 use crate::weaving::weave;
-use cw_commands::Outcome;
+use cw_commands::{Command, Outcome};
 use cw_core::NoMemory;
 use cw_io::{Sink, SureSink};
 use cw_policy::read_policy;
@@ -61,7 +64,7 @@ fn sampled<O: Sink>(
 }
 
 /// What is due for `sample`, by its number, from 1 to 400: its policy and its source are woven, what is written is checked, and the numbers are told.
-pub fn sample_due<O: Sink, N: Sink>(
+fn sample_due<O: Sink, N: Sink>(
     alloc: Global,
     number: u32,
     out: &mut O,
@@ -81,5 +84,24 @@ pub fn sample_due<O: Sink, N: Sink>(
             note,
         ),
         Err(fault) => policy_refusal(&fault, note),
+    }
+}
+
+/// What is due for a command without files: a sample, by its number.
+pub(crate) fn of_none<O: Sink, N: Sink>(
+    alloc: Global,
+    command: Command,
+    out: &mut O,
+    note: &mut N,
+) -> Result<Outcome<O, N>, NoMemory>
+    requires numbered { IsNumbered command }
+    requires sized { AreSized (quantities_of command) ([]) }
+    ensures due { IfOk result (λ outcome. IsDue command ([]) (due_of outcome)) }
+    ensures puts { Starts O.taken O.faults O.refused out.old out.new result }
+    ensures notes { StartsLine N.taken N.faults N.refused note.old note.new result }
+{
+    match command {
+        Command::Sample(number) => sample_due(alloc, number, out, note),
+        _ => unreachable!(),
     }
 }
