@@ -84,7 +84,10 @@ fn put_all_labels(statements: &[Stmt], out: &mut Vec<Labelled>) -> Result<(), Al
 }
 
 /// Appends the labels of all functions, in the order of the text.
-pub(crate) fn put_function_labels(functions: &[Function], out: &mut Vec<Labelled>) -> Result<(), AllocError>
+pub(crate) fn put_function_labels(
+    functions: &[Function],
+    out: &mut Vec<Labelled>,
+) -> Result<(), AllocError>
     ensures { IfOk result (λ _. out.new.items ≡ out.old.items ++ flat_map (λ f. labels_of_all f.body) (map definition_of functions.now)) }
 {
     for function in functions {

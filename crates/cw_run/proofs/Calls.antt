@@ -242,7 +242,6 @@ module _ (names : Names) (g : Game) (t : Table) (plan : Plan) (right : AreStates
       let sees : Sees frame phase (Exit f) = subst (λ o. Sees frame phase o) (same_Some sn.0 (Exit f) (sym sn.1 ∙ es)) sn.2 in
       by (end_here f frame phase (Exit f) refl sees) waiting.0
     where
-
       by : IsEndHere frame phase → IsCallOf frame2 w
           → Step (state_of_board (board_on (frame ∷ (frame2 ∷ frames)) (k ∷ kept) caps word phase) (mems_of h (w ∷ waits))) On (spot_lines names g.policy g.main (Exit f) On)
           (place (w.back, returned g.states (kept_at w.split w.state) h.state) m) waits
