@@ -43,30 +43,20 @@ def lines_of(edit):
     return changes
 
 
-def module_of(folder, name):
-    """The module of a crate in which a type is declared, if it is one of the crate's own."""
-    for file in sorted(os.listdir(f"{folder}/src")):
-        with open(f"{folder}/src/{file}", encoding="utf-8") as source:
-            if re.search(rf"\b(?:struct|enum) {name}\b", source.read()):
-                return file[:-3]
-    return None
-
-
-def function_at(folder, file, text, at):
-    """The function around a place, as `rt check --only` names it: its module, or that of the type which it is implemented for, that type, and its name. None outside of
-    a function."""
+def function_at(file, text, at):
+    """The function around a place, as `rt check --only` takes it: the end of its name, with its module or the type which it is implemented for. None outside of a
+    function."""
     head = text[: text.find("\n", at)]
     found = list(FUNCTION.finditer(head))
     if not found or not file.startswith("src/"):
         return None
-    owner, module = "", os.path.basename(file)[:-3]
+    owner = os.path.basename(file)[:-3]
     if found[-1][1]:
         impls = list(IMPL.finditer(head[: found[-1].start()]))
         if not impls:
             return None
         owner = impls[-1][2] + (impls[-1][1] or "").split("::")[-1]
-        module = module_of(folder, impls[-1][2]) or module
-    return "::".join(word for word in ("" if module == "lib" else module, owner, found[-1][2]) if word)
+    return found[-1][2] if owner == "lib" else f"{owner}::{found[-1][2]}"
 
 
 def functions_of(folder, edit):
@@ -77,7 +67,7 @@ def functions_of(folder, edit):
             text = source.read()
         if text.count(old) != 1:
             return functions, f"its line stands {text.count(old)} times"
-        function = function_at(folder, file, text, text.index(old))
+        function = function_at(file, text, text.index(old))
         if function is None:
             return functions, "it changes no body"
         functions.add(function)
