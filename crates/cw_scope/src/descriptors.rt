@@ -13,10 +13,9 @@ ghost use Rattle.cw_scope.specs.Held.{entry_of};
 
 use crate::entries::{Entry, entries, is_declared};
 use crate::lists::{every_statement, every_whole};
-use crate::misuses::least_misuse;
+use crate::misuses::least_misuse_under;
 use crate::names::locals;
 use cw_core::NoMemory;
-use cw_resolve::Scene;
 use cw_rights::{Descriptor, Policy};
 use cw_syntax::checked::Checked;
 use cw_syntax::names::text;
@@ -135,8 +134,7 @@ fn descriptor_fault(
     let wholes = every_whole(alloc, program, &statements)?;
     let entries = entries(alloc, program)?;
     let names = locals(alloc, program, &statements)?;
-    let scene = Scene::under(alloc, checked, policy)?;
-    let place = least_misuse(alloc, &scene, &wholes)?;
+    let place = least_misuse_under(alloc, checked, policy, &wholes)?;
     let descriptors = &policy.descriptors;
     Ok(
         no_variable(first_undeclared(source, &entries, descriptors))

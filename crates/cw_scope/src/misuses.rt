@@ -5,6 +5,8 @@ ghost use Rattle.std.specs.List.{flat_map};
 ghost use Rattle.std.specs.Str.{bytes_eq};
 ghost use Rattle.cw_syntax.specs.Plans.{action_of};
 ghost use Rattle.cw_syntax.specs.Trees.{tree_of, trees_of};
+ghost use Rattle.cw_rights.specs.Policies.{policy_of};
+ghost use Rattle.cw_resolve.specs.Scenes.{scene_in};
 ghost use Rattle.cw_resolve.specs.Soonest.{soonest};
 ghost use Rattle.cw_scope.specs.Descriptors.{names_variable, first_is_variable, names_some, is_change, misuse, is_own, used};
 ghost use Rattle.cw_scope.specs.Held.{tree_at, whole_of};
@@ -12,6 +14,8 @@ ghost use Rattle.cw_scope.specs.Held.{tree_at, whole_of};
 use crate::rules::at_if;
 use crate::walks::{Whole, put_nodes, put_parts};
 use cw_resolve::{Act, Scene, action_of, descriptor_of, sooner};
+use cw_rights::Policy;
+use cw_syntax::checked::Checked;
 use cw_syntax::program::{Expr, Op};
 use std::alloc::{AllocError, Global};
 
@@ -131,14 +135,24 @@ fn misuses(scene: &Scene, nodes: &[&Expr]) -> Option<u32>
 }
 
 /// The soonest place of a misuse among these whole expressions.
-pub(crate) fn least_misuse(
-    alloc: Global,
-    scene: &Scene,
-    wholes: &[Whole],
-) -> Result<Option<u32>, AllocError>
+fn least_misuse(alloc: Global, scene: &Scene, wholes: &[Whole]) -> Result<Option<u32>, AllocError>
     ensures { IfOk result (λ place. place ≡ soonest (map (misuse scene.now) (flat_map (used scene.now) (map whole_of wholes.now)))) }
 {
     let mut all = Vec::new(alloc);
     put_all_used(scene, wholes, &mut all)?;
     Ok(misuses(scene, &all))
+}
+
+/// The soonest place of a misuse among these whole expressions of a source, under the names of a policy.
+pub(crate) fn least_misuse_under(
+    alloc: Global,
+    checked: &Checked,
+    policy: &Policy,
+    wholes: &[Whole],
+) -> Result<Option<u32>, AllocError>
+    ensures { let scene = scene_in checked.now (policy_of policy.now) in
+        IfOk result (λ place. place ≡ soonest (map (misuse scene) (flat_map (used scene) (map whole_of wholes.now)))) }
+{
+    let scene = Scene::under(alloc, checked, policy)?;
+    least_misuse(alloc, &scene, wholes)
 }

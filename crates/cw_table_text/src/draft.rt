@@ -1,8 +1,8 @@
 //! A table in the making.
 
 ghost use Rattle.std.specs.Prelude.{◌≡◌, OnOk};
-ghost use Rattle.cw_certs.specs.Ascending.{Ascends};
-ghost use Rattle.cw_table_text.specs.Working.{table_of, is_next, IsEmpty, none_from_into, none_from_opened, none_from_tries, with_row};
+ghost use Rattle.cw_certs.specs.Ascending.{Ascends, mem_cmp};
+ghost use Rattle.cw_table_text.specs.Working.{table_of, is_above, is_next, IsEmpty, none_from_into, none_from_opened, none_from_tries, with_row};
 
 use crate::keys::is_above;
 use crate::row::Row;
@@ -74,28 +74,78 @@ impl Draft {
         is_above(&self.live, pair) && self.has_none_from_tries()
     }
 
+    /// Whether a memory is above the last that the table has.
+    fn is_above_memories(&self, memory: &(StateId, StateSet)) -> bool
+        ensures { result ≡ is_above mem_cmp (table_of self.now).mems memory.now }
+    {
+        is_above(&self.mems, memory)
+    }
+
+    /// Whether a memory may stand behind the rows that the table has.
+    fn is_next_memory(&self, number: u32, memory: &(StateId, StateSet)) -> bool
+        ensures { result ≡ is_next (table_of self.now) (Row.Memory number memory.now) }
+    {
+        number as usize == self.mems.len()
+            && self.is_above_memories(memory)
+            && self.live.is_empty()
+            && self.has_none_from_tries()
+    }
+
+    /// Whether a try may stand behind them.
+    fn is_next_try(&self, row: &TryRow) -> bool
+        ensures { result ≡ is_next (table_of self.now) (Row.Try row.now) }
+    {
+        is_above(&self.tries, row) && self.ats.is_empty() && self.has_none_from_opened()
+    }
+
+    /// Whether a label may stand behind them.
+    fn is_next_at(&self, row: &AtRow) -> bool
+        ensures { result ≡ is_next (table_of self.now) (Row.At row.now) }
+    {
+        is_above(&self.ats, row) && self.has_none_from_opened()
+    }
+
+    /// Whether an open may stand behind them.
+    fn is_next_opened(&self, row: &OpenRow) -> bool
+        ensures { result ≡ is_next (table_of self.now) (Row.Opened row.now) }
+    {
+        is_above(&self.opened, row) && self.closed.is_empty() && self.has_none_from_into()
+    }
+
+    /// Whether a close may stand behind them.
+    fn is_next_closed(&self, row: &AtRow) -> bool
+        ensures { result ≡ is_next (table_of self.now) (Row.Closed row.now) }
+    {
+        is_above(&self.closed, row) && self.has_none_from_into()
+    }
+
+    /// Whether a call may stand behind them.
+    fn is_next_into(&self, row: &IntoRow) -> bool
+        ensures { result ≡ is_next (table_of self.now) (Row.Into row.now) }
+    {
+        is_above(&self.into, row) && self.back.is_empty()
+    }
+
+    /// Whether a return may stand behind them.
+    fn is_next_back(&self, row: &BackRow) -> bool
+        ensures { result ≡ is_next (table_of self.now) (Row.Back row.now) }
+    {
+        is_above(&self.back, row)
+    }
+
     /// Whether a row may stand behind those that the table has.
     pub(crate) fn is_next(&self, row: &Row) -> bool
         ensures { result ≡ is_next (table_of self.now) row.now }
     {
         match row {
-            Row::Memory(number, memory) => {
-                *number as usize == self.mems.len()
-                    && is_above(&self.mems, memory)
-                    && self.live.is_empty()
-                    && self.has_none_from_tries()
-            }
+            Row::Memory(number, memory) => self.is_next_memory(*number, memory),
             Row::Live(pair) => self.is_next_live(pair),
-            Row::Try(row) => {
-                is_above(&self.tries, row) && self.ats.is_empty() && self.has_none_from_opened()
-            }
-            Row::At(row) => is_above(&self.ats, row) && self.has_none_from_opened(),
-            Row::Opened(row) => {
-                is_above(&self.opened, row) && self.closed.is_empty() && self.has_none_from_into()
-            }
-            Row::Closed(row) => is_above(&self.closed, row) && self.has_none_from_into(),
-            Row::Into(row) => is_above(&self.into, row) && self.back.is_empty(),
-            Row::Back(row) => is_above(&self.back, row),
+            Row::Try(row) => self.is_next_try(row),
+            Row::At(row) => self.is_next_at(row),
+            Row::Opened(row) => self.is_next_opened(row),
+            Row::Closed(row) => self.is_next_closed(row),
+            Row::Into(row) => self.is_next_into(row),
+            Row::Back(row) => self.is_next_back(row),
         }
     }
 
