@@ -6,6 +6,7 @@ ghost use Rattle.cw_syntax.specs.Plans.{function_names};
 ghost use Rattle.cw_syntax.specs.Trees.{file_of};
 ghost use Rattle.cw_rights.specs.Policies.{policy_of};
 ghost use Rattle.cw_resolve.specs.Scenes.{names_of};
+ghost use Rattle.cw_resolve.specs.Own.{own_scene};
 ghost use Rattle.cw_callgraph.specs.Tabled.{AreEffectsOf};
 ghost use Rattle.cw_callgraph.specs.Fitting.{first_unlabelled, first_undefined, MayBeSplit, IsFirstForbidden, Fits, IsFitFault};
 ghost use Rattle.cw_callgraph.specs.Parts.{ArePartsOf, IsBarred};
@@ -202,6 +203,35 @@ fn first_forbidden(
     Ok(None)
 }
 
+/// What of a policy a source doesn't fit first, in the source's own scene.
+fn fault_in(
+    alloc: Global,
+    scene: &Scene,
+    policy: &Policy,
+    checked: &Checked,
+) -> Result<Option<FitFault>, NoMemory>
+    requires scene { scene.now ≡ own_scene checked.now }
+    requires labels { length (policy_of policy.now).labels ≤ 65535 }
+    requires split { length (policy_of policy.now).split ≤ 65535 }
+    requires few { length checked.now.program.functions.items ≤ 65535 }
+    ensures fits { IfOk result (λ found. IfNone found (Fits checked.now.source.now (file_of checked.now.program) (policy_of policy.now))) }
+    ensures fault { IfOk result (λ found. IfSome found (IsFitFault checked.now.source.now (file_of checked.now.program) (policy_of policy.now))) }
+{
+    let label = first_without_label(scene, &policy.labels);
+    let function = first_without_function(scene, &policy.split);
+    if let Some(fault) = missing(policy, checked, label, function) {
+        return Ok(Some(fault));
+    }
+    if policy.split.is_empty() {
+        return Ok(None);
+    }
+    let parts = parts_of(alloc, checked, policy)?;
+    match first_forbidden(alloc, scene, policy, checked, &parts, &policy.split)? {
+        None => Ok(None),
+        Some((function, place)) => Ok(Some(FitFault::NotSplittable(function, place))),
+    }
+}
+
 /// What of a policy a source doesn't fit first, or None where it fits: what `fits` answers, with the effects found out where the
 /// policy splits functions, and only there: what these functions reach, and no others.
 pub fn fit_fault(
@@ -216,17 +246,5 @@ pub fn fit_fault(
     ensures fault { IfOk result (λ found. IfSome found (IsFitFault checked.now.source.now (file_of checked.now.program) (policy_of policy.now))) }
 {
     let scene = Scene::own(alloc, checked)?;
-    let label = first_without_label(&scene, &policy.labels);
-    let function = first_without_function(&scene, &policy.split);
-    if let Some(fault) = missing(policy, checked, label, function) {
-        return Ok(Some(fault));
-    }
-    if policy.split.is_empty() {
-        return Ok(None);
-    }
-    let parts = parts_of(alloc, checked, policy)?;
-    match first_forbidden(alloc, &scene, policy, checked, &parts, &policy.split)? {
-        None => Ok(None),
-        Some((function, place)) => Ok(Some(FitFault::NotSplittable(function, place))),
-    }
+    fault_in(alloc, &scene, policy, checked)
 }

@@ -7,22 +7,22 @@ use Rattle.cw_resolve.specs.Scenes.{names_of}
 use Rattle.cw_callgraph.specs.Fitting.{first_unlabelled, first_undefined, MayBeSplit}
 use Rattle.cw_callgraph.specs.Barring.{first_without_label, first_without_function}
 use Rattle.cw_callgraph.proofs.Barred.{at_none}
-use Rattle.cw_callgraph.proofs.fit.fit_fault.Goals as goal
+use Rattle.cw_callgraph.proofs.fit.fault_in.Goals as goal
 
 pub missing-requires-clause-label : goal.missing-requires-clause-label
 missing-requires-clause-label c =
-    c.first_without_label.ensures
-    ∙ ap (λ (l : List (Vec ℕ Global)). first_without_label c.in_ok-scene.scene.names.labels (map (λ n. n.items) l)) c.deref.ensures.value
-    ∙ ap (λ (s : Scene). first_without_label s.names.labels (policy_of c.args.policy.now).labels) c.in_ok-scene.ensures.scene
+    c.first_without_label-label.ensures
+    ∙ ap (λ (l : List (Vec ℕ Global)). first_without_label c.args.scene.now.names.labels (map (λ n. n.items) l)) c.deref.ensures.value
+    ∙ ap (λ (s : Scene). first_without_label s.names.labels (policy_of c.args.policy.now).labels) c.requires.scene
 
 pub missing-requires-clause-function : goal.missing-requires-clause-function
 missing-requires-clause-function c =
-    c.first_without_function.ensures
-    ∙ ap (λ (l : List (Vec ℕ Global)). first_without_function c.in_ok-scene.scene.functions (map (λ n. n.items) l)) c.deref-2.ensures.value
-    ∙ ap (λ (s : Scene). first_without_function s.functions (policy_of c.args.policy.now).split) c.in_ok-scene.ensures.scene
+    c.first_without_function-function.ensures
+    ∙ ap (λ (l : List (Vec ℕ Global)). first_without_function c.args.scene.now.functions (map (λ n. n.items) l)) c.deref-2.ensures.value
+    ∙ ap (λ (s : Scene). first_without_function s.functions (policy_of c.args.policy.now).split) c.requires.scene
 
 pub first_forbidden-requires-clause-functions : goal.first_forbidden-requires-clause-functions
-first_forbidden-requires-clause-functions c = ap (λ (s : Scene). s.functions) c.in_ok-scene.ensures.scene
+first_forbidden-requires-clause-functions c = ap (λ (s : Scene). s.functions) c.requires.scene
 
 pub returns-in-None-clause-fits : goal.returns-in-None-clause-fits
 returns-in-None-clause-fits c =
