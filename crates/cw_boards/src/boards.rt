@@ -230,6 +230,38 @@ fn judged<'s>(
     }
 }
 
+/// The state with which a program begins, in its scene under a policy.
+fn start_state<'s>(
+    alloc: Global,
+    scene: &Scene,
+    checked: &'s Checked<'s>,
+    policy: &Policy,
+) -> Result<State<'s>, BoardFault>
+    requires valid { IsValid (policy_of policy.now) }
+    requires scene { scene.now ≡ scene_in checked.now (policy_of policy.now) }
+    ensures start { IfOk result (λ s. board_in checked.now policy.now s ≡ start_board (problem checked.now policy.now)) }
+    ensures few { IfOk result (λ _. HasFewSeams checked.now policy.now) }
+    ensures many { IfErr result (λ fault. fault ≡ BoardFault.TooManySeams → most_seams ≤ seams_before (scene_in checked.now (policy_of policy.now)) checked.now.program.functions.items) }
+{
+    if seams_before(scene, &checked.program.functions) == usize::MAX {
+        return Err(BoardFault::TooManySeams);
+    }
+    let stack = start_stack(alloc, scene, checked, policy)?;
+    let phase = begin(&stack);
+    let mut kept = VecDeque::new(alloc);
+    let mode: Option<Caps> = None;
+    if kept.push_front(mode).is_err() {
+        return Err(BoardFault::NoMemory);
+    }
+    Ok(State {
+        stack,
+        kept,
+        caps: start_caps(policy),
+        word: Vec::new(alloc),
+        phase,
+    })
+}
+
 /// The board with which a program begins under a policy: the frame of `main`, the capabilities at the start and
 /// the empty word. Of a source with 2^64 - 1 seams or more the answer is `TooManySeams`.
 pub fn board_start<'s>(
@@ -243,23 +275,7 @@ pub fn board_start<'s>(
     ensures many { IfErr result (λ fault. fault ≡ BoardFault.TooManySeams → most_seams ≤ seams_before (scene_in checked.now (policy_of policy.now)) checked.now.program.functions.items) }
 {
     let scene = Scene::under(alloc, checked, policy)?;
-    if seams_before(&scene, &checked.program.functions) == usize::MAX {
-        return Err(BoardFault::TooManySeams);
-    }
-    let stack = start_stack(alloc, &scene, checked, policy)?;
-    let phase = begin(&stack);
-    let mut kept = VecDeque::new(alloc);
-    let mode: Option<Caps> = None;
-    if kept.push_front(mode).is_err() {
-        return Err(BoardFault::NoMemory);
-    }
-    let state = State {
-        stack,
-        kept,
-        caps: start_caps(policy),
-        word: Vec::new(alloc),
-        phase,
-    };
+    let state = start_state(alloc, &scene, checked, policy)?;
     let board = judged(scene, checked, policy, state)?;
     Ok(board)
 }

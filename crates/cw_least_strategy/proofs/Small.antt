@@ -122,7 +122,7 @@ module _ (aims : List ℕ) (order : IsStrictlySortedBy nat_cmp aims) where
       ∙ ap (λ (n : ℕ). cond (eq_by_cmp key_cmp (whole aims y) k) 0 (n + 1)) (number_same ys k (λ x c. within x (tail_in y ys x c)))
 
   pub whole_small : (k : Key) → Contains aims k.aim → whole aims (small aims k) ≡ k
-  whole_small k c = ap (λ (a : ℕ). let w : Key = record { height = k.height; pos = k.pos; state = k.state; aim = a } in w) (stands k.aim c)
+  whole_small k c = ap (λ (a : ℕ). let w : Key = record { height = k.height; pos = k.pos; state = k.state; aim = a } in w) (stands aims order k.aim c)
 
 -- what is reached by small keys from a key that may be asked for
 module _ (h : Held) (aims : List ℕ) (are : AreAims h aims) (start : Key) (f : IsFollowed h start) where
