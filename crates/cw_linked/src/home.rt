@@ -63,7 +63,7 @@ fn is_home(home: &Home, place: usize) -> bool
 }
 
 /// Where the cells of the context stand that has a place. A context is looked at first.
-#[inline(never)]
+#[inline(always)]
 fn home_of(game: &Game, runs: &[Divisor], blocks: &Blocks, near: usize, place: usize) -> Home
     requires routed { AreRouted (game_of game.now) (length game.now.graph.parts.items) }
     requires runs { AreRuns (game_of game.now) (length game.now.graph.parts.items) runs.now }

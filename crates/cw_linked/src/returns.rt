@@ -122,6 +122,7 @@ pub(crate) fn ask_return(
 }
 
 /// Asks for the links that return to a cell.
+#[inline(never)]
 pub(crate) fn ask_returns(
     game: &Game,
     returns: &Rows<PosId>,

@@ -91,6 +91,7 @@ fn tie_at(
 }
 
 /// Takes what waits, the least key first, until nothing waits; a context that is needed, where there is no room for it.
+#[inline(never)]
 fn steps(
     alloc: Global,
     game: &Game,

@@ -47,7 +47,7 @@ fn ask_bound(
 }
 
 /// Asks for a cell that is no call, where the taken heights tell that it is lost. One that has its height needn't be looked at.
-#[inline(always)]
+#[inline(never)]
 pub(crate) fn ask_told(
     game: &Game,
     work: &mut Work,

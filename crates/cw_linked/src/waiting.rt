@@ -3,7 +3,7 @@
 ghost use Rattle.std.specs.Prelude.{◌≡◌, ◌<◌, ◌*◌, ◌↔◌, IsTrue, true, length, OnOk};
 ghost use Rattle.cw_links.specs.Marks.{is_marked, number};
 ghost use Rattle.cw_product.specs.Product.{game_of};
-ghost use Rattle.cw_product.specs.Moves.{IsPosition, IsState};
+ghost use Rattle.cw_product.specs.Moves.{IsState};
 ghost use Rattle.cw_product.specs.Routed.{AreRouted, IsOf};
 ghost use Rattle.cw_solve.specs.Tables.{HasCell};
 ghost use Rattle.cw_linked.specs.Blocks.{IsBlock};
@@ -132,6 +132,7 @@ pub(crate) fn ask_sources(
 }
 
 /// Asks for the pairs of the same context that lead to a cell and may change the state.
+#[inline(never)]
 pub(crate) fn ask_changes(
     game: &Game,
     changes: &Changes,

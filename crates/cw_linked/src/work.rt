@@ -131,6 +131,7 @@ pub(crate) fn cell_by(game: &Game, runs: &[Divisor], work: &Work, near: usize, p
 }
 
 /// Has the cell wait for a height, unless it has one or waits for a lower one.
+#[inline(always)]
 pub(crate) fn ask_cell(work: &mut Work, place: usize, height: u32) -> Result<(), NoMemory>
     requires long { AreLong work.old }
     requires within { place < length work.old.store.heights }

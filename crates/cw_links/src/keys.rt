@@ -71,6 +71,7 @@ impl Keys {
     }
 
     /// Has the cell wait for a height, unless it has one or waits for a lower one.
+    #[inline(always)]
     pub(crate) fn ask_cell(&mut self, cell: usize, height: u32) -> Result<(), NoMemory>
         requires within { cell < length self.old.asked }
         requires some { 0 < height }

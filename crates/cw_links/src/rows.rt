@@ -1,5 +1,5 @@
 //! Rows of values that stand one behind the other.
-ghost use Rattle.std.specs.Prelude.{◌≡◌, ◌+◌, ◌<◌, ◌≤◌, length, IfOk, OnOk};
+ghost use Rattle.std.specs.Prelude.{◌≡◌, ◌+◌, ◌<◌, length, IfOk, OnOk};
 ghost use Rattle.cw_links.specs.Flat.{row_of, row_at, AreFlat, AreRowsOf, AreRowsTo, PushesList};
 
 use crate::Chains;

@@ -105,6 +105,7 @@ impl Store {
 
     /// Has the cell at a place wait for a height, under twice that, unless it has a height or waits for a lower one. The one error is
     /// want of memory, which changes nothing.
+    #[inline(always)]
     pub fn ask_cell(&mut self, place: usize, height: u32) -> Result<(), NoMemory>
         requires within { place < length self.old.marks }
         requires some { 0 < height }
