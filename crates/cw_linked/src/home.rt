@@ -89,6 +89,20 @@ fn home_of(game: &Game, runs: &[Divisor], blocks: &Blocks, near: usize, place: u
     }
 }
 
+/// Has the context near that has a place, where it isn't near yet.
+#[inline(never)]
+fn change_home(game: &Game, runs: &[Divisor], blocks: &Blocks, home: &mut Home, place: usize)
+    requires routed { AreRouted (game_of game.now) (length game.now.graph.parts.items) }
+    requires runs { AreRuns (game_of game.now) (length game.now.graph.parts.items) runs.now }
+    requires blocks { AreBlocks (game_of game.now) blocks.now }
+    requires within { place < cells_of (game_of game.now) blocks.now.contexts.items }
+    ensures home { IsHomeOf (game_of game.now) blocks.now.contexts.items home.new }
+    ensures from { home.new.block.base ≤ place }
+    ensures before { place < home.new.past }
+{
+    *home = home_of(game, runs, blocks, home.cell.at.number(), place);
+}
+
 /// Has the context near that has a place.
 #[inline(always)]
 pub(crate) fn approach(
@@ -110,7 +124,7 @@ pub(crate) fn approach(
     if is_home(home, place) {
         return;
     }
-    *home = home_of(game, runs, blocks, home.cell.at.number(), place);
+    change_home(game, runs, blocks, home, place);
 }
 
 /// Looks at the cell at a place of the context that is near, which stays as it is.
