@@ -74,7 +74,7 @@ impl<'s> Numbers<'s> {
     }
 
     /// Where a name is kept.
-    #[inline(never)]
+    #[inline(always)]
     pub(crate) fn find(&self, name: &[u8]) -> Option<Kept>
         ensures kept { result ≡ found name.now self.now }
     {
@@ -109,7 +109,9 @@ fn find_near(all: &IndexMap<&[u8], Kept>, guesses: &[Option<Guess>], name: &[u8]
     find(all, name)
 }
 
-/// Where a name is kept.
+/// Where a name is kept, whatever stands in its slot. It stands apart, so that a name that stands in its slot is found without a call.
+#[cold]
+#[inline(never)]
 fn find(all: &IndexMap<&[u8], Kept>, name: &[u8]) -> Option<Kept>
     ensures { result ≡ found name.now all.now.entries }
 {
