@@ -24,7 +24,7 @@ use cw_resolve::Scene;
 use cw_rights::Policy;
 use cw_scope::{Placed, every_statement};
 use cw_syntax::checked::Checked;
-use std::alloc::Global;
+use std::alloc::{AllocError, Global};
 
 /// Whether a name is `main`.
 fn is_main(name: &[u8]) -> bool
@@ -172,6 +172,19 @@ fn name_fault(scene: &Scene, checked: &Checked, policy: &Policy) -> Option<ProcF
     no_function(scene, checked, &policy.detached).or(both(&policy.split, &policy.detached))
 }
 
+/// The first rule on names that is broken, by the source's scene under the policy.
+fn name_fault_under(
+    alloc: Global,
+    checked: &Checked,
+    policy: &Policy,
+) -> Result<Option<ProcFault>, AllocError>
+    requires valid { IsValid (policy_of policy.now) }
+    ensures { IfOk result (λ fault. fault ≡ name_fault checked.now.source.now (file_of checked.now.program) (policy_of policy.now)) }
+{
+    let scene = Scene::under(alloc, checked, policy)?;
+    Ok(name_fault(&scene, checked, policy))
+}
+
 /// The form of a source that was read, under a policy that detaches functions: the source with each statement `f(ARGS);` of a detached
 /// function between `{if(!fork()){` and `_exit(0);for(;;);}}`, and all else as it was.
 ///
@@ -190,8 +203,7 @@ pub fn detach(alloc: Global, checked: &Checked, policy: &Policy) -> Result<Vec<u
     ensures clear { IfOk result (λ _. IsFirstFault checked.now.source.now (file_of checked.now.program) (policy_of policy.now) None) }
     ensures fault { IfErr result (IsDetachFault checked.now.source.now (file_of checked.now.program) (policy_of policy.now)) }
 {
-    let scene = Scene::under(alloc, checked, policy)?;
-    match name_fault(&scene, checked, policy) {
+    match name_fault_under(alloc, checked, policy)? {
         None => text(alloc, checked, &policy.detached),
         Some(fault) => Err(fault),
     }
