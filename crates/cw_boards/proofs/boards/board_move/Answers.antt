@@ -17,8 +17,8 @@ returns-in-None c = λ next h.
     let m = moved_by_kind p b c.front_kind-kind.result c.args.board.state.phase c.args.by c.choice_of-choice.result c.front_kind-kind.ensures c.choice_of-choice.ensures in
     none-some next (sym (m ∙ sym c.in_ok-chosen.ensures ∙ ap (option_map (board_in c.args.checked.now c.args.policy.now)) c.in-None.is) ∙ h.1)
 
-pub returns-in_ok-after-in-Some : goal.returns-in_ok-after-in-Some
-returns-in_ok-after-in-Some c =
+pub returns : goal.returns
+returns c =
     let pol = policy_of c.args.policy.now in
     let s = scene c.args.checked.now c.args.policy.now in
     let p = problem c.args.checked.now c.args.policy.now in

@@ -4,6 +4,8 @@ use Rattle.std.specs.Result.{IfOk}
 use Rattle.cw_syntax.specs.declared.program.Function.{Function}
 use Rattle.cw_syntax.specs.Plans.{Scene}
 use Rattle.cw_syntax.specs.Frames.{pass}
+use Rattle.cw_rights.specs.Policies.{policy_of}
+use Rattle.cw_resolve.specs.Scenes.{scene_in}
 use Rattle.cw_boards.specs.Held.{stack_in, plan_by, seams_before}
 use Rattle.cw_boards.specs.Numbered.{most_seams, StackBelow}
 use Rattle.cw_boards.specs.Turns.{way_in}
@@ -15,7 +17,7 @@ pass-requires c =
     record {
       labels = subst (λ (s : Scene). length s.names.labels ≤ 65535) is c.requires.valid.few_labels;
       few = subst (λ (s : Scene). seams_before s c.deref.result.now < most_seams) is
-          (subst (λ (fs : List Function). seams_before _ fs < most_seams) (sym c.deref.ensures.value) c.requires.few);
+          (subst (λ (fs : List Function). seams_before (scene_in c.args.checked.now (policy_of c.args.policy.now)) fs < most_seams) (sym c.deref.ensures.value) c.requires.few);
       below = subst (λ (s : Scene). StackBelow most_seams (stack_in s c.args.frames)) is c.requires.below;
     }
 
