@@ -64,7 +64,7 @@ fn sampled<O: Sink>(
 }
 
 /// What is due for `sample`, by its number, from 1 to 400: its policy and its source are woven, what is written is checked, and the numbers are told.
-fn sample_due<O: Sink, N: Sink>(
+pub fn sample_due<O: Sink, N: Sink>(
     alloc: Global,
     number: u32,
     out: &mut O,
