@@ -1,25 +1,21 @@
 -- The strategy by least heights meets the conditions.
-use Rattle.std.proofs.Common.{◌≡◌, ◌⊎◌, ℕ, suc, ◌+◌, ◌-◌, ◌<◌, ◌^◌, List, [], ◌∷◌, Bool, true, false, cond, not, ◌&&◌, ◌||◌, Option, Some, None, is_some, map, filter_map}
+use Rattle.std.proofs.Common.{◌≡◌, ◌⊎◌, ℕ, suc, ◌+◌, ◌-◌, ◌<◌, ◌^◌, List, [], ◌∷◌, Bool, true, false, cond, not, ◌&&◌, ◌||◌, Option, Some, None, is_some, map}
 use Rattle.std.proofs.Common.{find, length, nat_eq, nat_lt, refl, sym, ap, ◌∙◌, subst, arith, inl, inr}
 use Rattle.std.specs.Prelude.{slice_get, option_map}
-use Rattle.std.specs.List.{Contains, cons_option, list_all, list_any, enumerate_from, range_with_len}
+use Rattle.std.specs.List.{Contains, list_all, list_any, enumerate_from, range_with_len}
 use Rattle.std.specs.List.Sorted.{IsStrictlySortedBy}
 use Rattle.std.proofs.lemmas.Bool.{lt-ltb, eq-eqb}
 use Rattle.std.proofs.lemmas.Option.{same_Some, none-some, slice_get-map, slice_get_within, get_or_from_slice_get}
-use Rattle.cw_certs.specs.declared.moves.Move.{Move}
-use Rattle.cw_certs.specs.declared.moves.Move.TheVariants.{Grant, Refuse, On, Left, Right, Opened, Failed}
 use Rattle.cw_certs.specs.Strategies.{Row, Strategy, back_of}
 use Rattle.cw_fixpoint.specs.Closures.{Reached, first, then}
 use Rattle.cw_game.specs.declared.spots.Spot.{Spot}
 use Rattle.cw_game.specs.declared.spots.Spot.TheVariants.{Visit, Asked, Step, Branch, Label, Open, Close, Call, SplitCall, Exit}
-use Rattle.cw_game.specs.Games.{Game, Promise, Holds, holds_in, bad_in, weavers_in, leads_in, returned}
+use Rattle.cw_game.specs.Games.{Game, Holds, holds_in, bad_in, weavers_in, leads_in, returned}
 use Rattle.cw_game.specs.Pairs.{has, Called, call_in, is_call_in, is_exit_in, kept_at}
 use Rattle.cw_game.specs.Conditions.{first_failing, is_state, named_by, exits_by, is_row, is_violated, is_exit, ends_well, is_row_at, stands_after, weaver_moves, environment_moves}
 use Rattle.cw_game.specs.Conditions.{callee_stands, is_back, are_backs, backs_stand, row_conditions, fault_in, all_rows, is_start, IsGoodStrategy}
 use Rattle.cw_game.proofs.Failing.{none_more, none_append, none_mapped}
 use Rattle.std.proofs.lemmas.Bool.{and_from as both}
-use Rattle.cw_product.specs.Moves.{next_in}
-use Rattle.cw_solve.specs.Asking.{holds_after, after, holds_by_moves}
 use Rattle.cw_solve.specs.Contexts.{context}
 use Rattle.cw_product.specs.Routed.{IsState, AreRouted}
 use Rattle.cw_solve.proofs.Moves.{by_moves}
@@ -31,13 +27,13 @@ use Rattle.cw_least_strategy.specs.Kept.{IsKey}
 use Rattle.cw_least_strategy.specs.Strategies.{key_cmp, below, moves, best, after_return, is_lost_after, aim_at, back_at, backs_at, Act, Bad, Out, Both, Go, Into, goes, inner, act_in, act}
 use Rattle.cw_least_strategy.specs.Strategies.{keys_in, named, number, how_by, row_at, start_key, IsLeastStrategy}
 use Rattle.cw_least_strategy.proofs.Sets.{has_set}
-use Rattle.cw_least_strategy.proofs.Lowest as lowest
 use Rattle.cw_fixpoint.proofs.Numbers.{at_number}
 use Rattle.cw_least_strategy.proofs.Keys.{key_total, key_exact, before}
 use Rattle.cw_least_strategy.proofs.Moving.{moved}
-use Rattle.cw_least_strategy.proofs.Naming.{in_range, named_lower, fails, best_taken, best_some, taken_at, backs_lower, reached_keys, start_is}
+use Rattle.cw_least_strategy.proofs.Naming.{to_kept, in_range, named_lower, fails, best_taken, taken_at, backs_lower, reached_keys, start_is}
+use Rattle.cw_least_strategy.proofs.Ways.{no_call, way_by}
 use Rattle.cw_lemmas.proofs.Lists.{map_contains as from_mapped, head_in, tail_in, in_either, contains_none}
-use Rattle.std.proofs.lemmas.Bool.{and_cases as one_fails, not-false as not_false, or_parts as both_fail}
+use Rattle.std.proofs.lemmas.Bool.{not-false as not_false, or_parts as both_fail}
 use Rattle.cw_lemmas.proofs.Numbers.{nat_eq_self as itself}
 use Rattle.cw_lemmas.proofs.Lists.{contains_map as to_mapped}
 use Rattle.std.proofs.lemmas.Map.Keys.{any_passes_from_place as any_at}
@@ -62,16 +58,6 @@ all_of : {A : Type 0} (test : A → Bool) (xs : List A) → ((x : A) → Contain
 all_of test [] h = refl
 all_of test (x ∷ xs) h = both (test x) (list_all test xs) (h x (head_in x xs)) (all_of test xs (λ y c. h y (tail_in x xs y c)))
 
-to_kept : {A B : Type 0} (f : A → Option B) (xs : List A) (x : A) (y : B) → Contains xs x → f x ≡ Some y → Contains (filter_map f xs) y
-to_kept f [] x y c e = absurd (contains_none x c)
-to_kept {A} {B} f (z ∷ zs) x y c e = by (f z) refl (in_either z zs x c) (λ d. to_kept f zs x y d e)
-  where
-    by : (o : Option B) → f z ≡ o → (z ≡ x) ⊎ Contains zs x → (Contains zs x → Contains (filter_map f zs) y) → Contains (cons_option o (filter_map f zs)) y
-    by None eo (inl s) rec = absurd (none-some y (sym eo ∙ ap f s ∙ e))
-    by (Some v) eo (inl s) rec = let w : v ≡ y = same_Some v y (sym eo ∙ ap f s ∙ e) in subst (Contains (v ∷ filter_map f zs)) w (head_in v (filter_map f zs))
-    by None eo (inr d) rec = rec d
-    by (Some v) eo (inr d) rec = tail_in v (filter_map f zs) y (rec d)
-
 -- a back that is there is found
 back_there : (backs : List (ℕ × ℕ)) (x b : ℕ) → Contains backs (x, b) → is_some (back_of backs x) ≡ true
 back_there [] x b c = absurd (contains_none (x, b) c)
@@ -85,10 +71,6 @@ back_there (y ∷ backs) x b c = by (nat_eq y.0 x) refl (in_either y backs (x, b
 
 is_same : (p q e : ℕ) → (nat_eq p p && (nat_eq q q && nat_eq e e)) ≡ true
 is_same p q e = both (nat_eq p p) (nat_eq q q && nat_eq e e) (itself p) (both (nat_eq q q) (nat_eq e e) (itself q) (itself e))
-
-after_false : (h : ℕ → ℕ → Promise → Bool) (e : Promise) (o : Option (ℕ × ℕ)) → holds_after h e o ≡ false → (r : ℕ × ℕ) × (o ≡ Some r) × (h r.0 r.1 e ≡ false)
-after_false h e None f = cc
-after_false h e (Some r) f = (r, refl, f)
 
 module _ (g : Game) (functions : ℕ) (routed : AreRouted g functions) (keys : List Key) (order : IsStrictlySortedBy key_cmp keys) (s : Strategy) (rows : s.rows ≡ map (row_at g keys) keys) where
   -- a key's row stands at its number
@@ -134,40 +116,6 @@ module _ (g : Game) (functions : ℕ) (routed : AreRouted g functions) (keys : L
         (environment_moves g s k.pos k.state k.aim spot (how_by keys a)) (callee_stands g s k.state (call_in spot) (how_by keys a))
         (backs_stand g s k.state k.aim (call_in spot) (how_by keys a)) c1 c2 c3 c4 c5 c6 c7
 
-    -- The environment has a move, where the pair isn't bad.
-    abbrev HasWay : Type 0
-    HasWay = (w : Way) × (best g k moves ≡ Some w)
-
-    leads_on : (by : Move) → Contains moves by → after g (Holds g n) k.pos k.state (has e) spot by ≡ false → HasWay
-    leads_on by c f =
-        let r = after_false (Holds g n) (has e) (next_in g k.pos k.state spot by) f in
-        let m = moved g routed.closed k.pos k.state by r.0 is.state r.1 in
-        let h = lowest.found g functions routed r.0.0 r.0.1 e m.3.4 n r.2 in
-        best_some g functions routed k is moves by (record { by = by; to = below g k r.0.0 r.0.1 k.aim }) c
-        (ap (option_map (λ r. record { by = by; to = below g k r.0 r.1 k.aim })) r.1) h.2
-
-    way_by : (o : Option Spot) → spot ≡ o → weavers_in o ≡ false → holds_by_moves g (Holds g n) k.pos k.state (has e) o ≡ false → HasWay
-    way_by (Some (Visit j x a)) es w f = cc
-    way_by (Some (Asked j x a)) es w f = elim (one_fails _ _ f) [
-      | inl h ↦ leads_on Grant (2, omega arith, refl) (ap (λ o. after g (Holds g n) k.pos k.state (has e) o Grant) es ∙ h)
-      | inr h ↦ leads_on Refuse (3, omega arith, refl) (ap (λ o. after g (Holds g n) k.pos k.state (has e) o Refuse) es ∙ h)
-    ]
-    way_by (Some (Branch l r)) es w f = elim (one_fails _ _ f) [
-      | inl h ↦ leads_on Left (5, omega arith, refl) (ap (λ o. after g (Holds g n) k.pos k.state (has e) o Left) es ∙ h)
-      | inr h ↦ leads_on Right (6, omega arith, refl) (ap (λ o. after g (Holds g n) k.pos k.state (has e) o Right) es ∙ h)
-    ]
-    way_by (Some (Open j d m)) es w f = elim (one_fails _ _ f) [
-      | inl h ↦ leads_on Opened (7, omega arith, refl) (ap (λ o. after g (Holds g n) k.pos k.state (has e) o Opened) es ∙ h)
-      | inr h ↦ leads_on Failed (8, omega arith, refl) (ap (λ o. after g (Holds g n) k.pos k.state (has e) o Failed) es ∙ h)
-    ]
-    way_by None es w f = leads_on On (4, omega arith, refl) (ap (λ o. after g (Holds g n) k.pos k.state (has e) o On) es ∙ f)
-    way_by (Some (Step m)) es w f = leads_on On (4, omega arith, refl) (ap (λ o. after g (Holds g n) k.pos k.state (has e) o On) es ∙ f)
-    way_by (Some (Label j l m)) es w f = leads_on On (4, omega arith, refl) (ap (λ o. after g (Holds g n) k.pos k.state (has e) o On) es ∙ f)
-    way_by (Some (Close j d m)) es w f = leads_on On (4, omega arith, refl) (ap (λ o. after g (Holds g n) k.pos k.state (has e) o On) es ∙ f)
-    way_by (Some (Call j x m)) es w f = leads_on On (4, omega arith, refl) (ap (λ o. after g (Holds g n) k.pos k.state (has e) o On) es ∙ f)
-    way_by (Some (SplitCall j x m)) es w f = leads_on On (4, omega arith, refl) (ap (λ o. after g (Holds g n) k.pos k.state (has e) o On) es ∙ f)
-    way_by (Some (Exit x)) es w f = leads_on On (4, omega arith, refl) (ap (λ o. after g (Holds g n) k.pos k.state (has e) o On) es ∙ f)
-
     -- at a position where the environment moves
     goes_meets : (o : Option Way) → best g k moves ≡ o → weavers_in spot ≡ false → is_call_in spot ≡ false → is_exit_in spot ≡ false
         → ((b : Key) → Contains (keys_in (goes o)) b → Contains (named g k) b) → Meets (goes o)
@@ -176,7 +124,7 @@ module _ (g : Game) (functions : ℕ) (routed : AreRouted g functions) (keys : L
         by : (b : Bool) → bad_in g k.state spot ≡ b → Meets Bad
         by true t = meets Bad (row_range Bad refl refl) t refl refl refl refl refl
         by false f =
-            let v = way_by spot refl w (by_moves g (Holds g n) k.pos k.state (has e) spot f c x ∙ fails g functions routed k is) in
+            let v = way_by g functions routed k is spot refl w (by_moves g (Holds g n) k.pos k.state (has e) spot f c x ∙ fails g functions routed k is) in
             absurd (none-some v.0 (sym none ∙ v.1))
     goes_meets (Some v) some w c x names =
         let t = taken_at g functions routed k is v (best_taken g functions routed k is moves v some) in
@@ -196,19 +144,6 @@ module _ (g : Game) (functions : ℕ) (routed : AreRouted g functions) (keys : L
         all_four false true c d w x y z = cc
         all_four false false true d w x y z = cc
         all_four false false false true w x y z = cc
-
-    no_call : (o : Option Spot) → call_in o ≡ None → is_call_in o ≡ false
-    no_call None e = refl
-    no_call (Some (Visit j x a)) e = refl
-    no_call (Some (Asked j x a)) e = refl
-    no_call (Some (Step m)) e = refl
-    no_call (Some (Branch l m)) e = refl
-    no_call (Some (Label j l m)) e = refl
-    no_call (Some (Open j d m)) e = refl
-    no_call (Some (Close j d m)) e = refl
-    no_call (Some (Exit f)) e = refl
-    no_call (Some (Call j f m)) e = cc
-    no_call (Some (SplitCall j f m)) e = cc
 
     -- at a visit
     visit_meets : (j x : ℕ) (a : _) → spot ≡ Some (Visit j x a) → ((b : Key) → Contains (keys_in (inner g k (Some (Visit j x a)))) b → Contains (named g k) b) → Meets (inner g k (Some (Visit j x a)))

@@ -6,6 +6,8 @@ pub mod AllAims
 pub mod Moving
 pub mod FewMoves
 pub mod Naming
+pub mod Ways
+pub mod Tall
 pub mod Good
 pub mod Counting
 pub mod Finding
@@ -14,5 +16,6 @@ pub mod Acting
 pub mod Made
 pub mod Tabled
 pub mod Small
+pub mod Parts
 pub mod Backs
 pub mod Existing

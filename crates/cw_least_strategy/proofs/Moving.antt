@@ -1,5 +1,5 @@
 -- Where a move leads: to a position of the same function, in a state.
-use Rattle.std.proofs.Common.{◌≡◌, ℕ, ◌+◌, [], Bool, true, false, cond, ◌||◌, Option, Some, None, refl, subst}
+use Rattle.std.proofs.Common.{◌≡◌, ℕ, ◌+◌, [], Bool, true, false, ◌||◌, Option, Some, refl, subst}
 use Rattle.std.specs.Prelude.{slice_get, Contains, option_map}
 use Rattle.std.proofs.lemmas.Option.{same_Some, none-some}
 use Rattle.cw_rights.specs.declared.capabilities.Primitive.TheVariants.{Limit, Enter, Split}

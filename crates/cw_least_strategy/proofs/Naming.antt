@@ -43,6 +43,16 @@ from_kept {A} {B} f (x ∷ xs) y c = by (f x) refl c (from_kept f xs y)
       | inr d ↦ let r = rec d in (r.0, tail_in x xs r.0 r.1, r.2)
     ]
 
+pub to_kept : {A B : Type 0} (f : A → Option B) (xs : List A) (x : A) (y : B) → Contains xs x → f x ≡ Some y → Contains (filter_map f xs) y
+to_kept f [] x y c e = absurd (contains_none x c)
+to_kept {A} {B} f (z ∷ zs) x y c e = by (f z) refl (in_either z zs x c) (λ d. to_kept f zs x y d e)
+  where
+    by : (o : Option B) → f z ≡ o → (z ≡ x) ⊎ Contains zs x → (Contains zs x → Contains (filter_map f zs) y) → Contains (cons_option o (filter_map f zs)) y
+    by None eo (inl s) rec = absurd (none-some y (sym eo ∙ ap f s ∙ e))
+    by (Some v) eo (inl s) rec = let w : v ≡ y = same_Some v y (sym eo ∙ ap f s ∙ e) in subst (Contains (v ∷ filter_map f zs)) w (head_in v (filter_map f zs))
+    by None eo (inr d) rec = rec d
+    by (Some v) eo (inr d) rec = tail_in v (filter_map f zs) y (rec d)
+
 pub in_range : (n x : ℕ) → Contains (range_with_len 0 n) x → x < n
 in_range n x (i, l, e) =
     let w = length-range_with_len 0 n in

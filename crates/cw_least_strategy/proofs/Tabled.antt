@@ -9,7 +9,7 @@ use Rattle.std.specs.Cmp.{eq_by_cmp_equiv, tied_itself}
 use Rattle.std.proofs.lemmas.Map.Keys.{IsDistinct-from_sorted}
 use Rattle.std.proofs.lemmas.Map.Made.{length-le_from_is_member, is_member-Decides}
 use Rattle.cw_certs.specs.Strategies.{Strategy}
-use Rattle.cw_fixpoint.specs.Closures.{Reached, Exactly, HasMore}
+use Rattle.cw_fixpoint.specs.Closures.{Reached, first, then, Exactly, HasMore}
 use Rattle.cw_game.specs.Games.{Game}
 use Rattle.cw_game.specs.Pairs.{all_states}
 use Rattle.cw_product.specs.Product.{Held as HeldGame, game_of}
@@ -27,7 +27,9 @@ use Rattle.cw_least_strategy.proofs.Keys.{key_total, key_exact, same_key}
 use Rattle.cw_least_strategy.proofs.Counting.{exactly_same, count_is}
 use Rattle.cw_least_strategy.proofs.Lowest as lowest
 use Rattle.cw_least_strategy.proofs.Made.{start_state}
-use Rattle.cw_least_strategy.proofs.Naming.{all_keys, start_is}
+use Rattle.cw_least_strategy.proofs.Naming.{all_keys, reached_keys, start_is}
+use Rattle.cw_least_strategy.proofs.Tall.{as_many}
+use Rattle.cw_lemmas.proofs.Lists.{head_in}
 
 decides_key : (a b : Key) → Decides (eq_by_cmp key_cmp a b) (a ≡ b)
 decides_key a b = (λ e. equal_is key_cmp key_total key_exact a b e, λ e. subst (λ y. eq_by_cmp key_cmp a y ≡ true) e (ap is_eq (tied_itself key_total a)))
@@ -110,6 +112,16 @@ module _ (h : Held) (made : IsMade h.game) where
   keys_from k st s is =
       let same : is.height ≡ st.0 = lowest.one_height g functions routed (g.entry g.main) g.states.start (all_states g) (start_state h.game made) is.height st.0 is.is_height st.1 in
       subst (λ b. AreFrom g b is.keys) (ap (start_key g) same ∙ sym st.2) is.exactly
+
+  -- a strategy has at least as many rows as the start is high
+  pub start_low : (k : Key) → IsStartKey g k → (s : Strategy) → IsLeastStrategy g s → k.height ≤ rows_of s
+  start_low k st s is =
+      let all = keys_from k st s is in
+      let are : (b : Key) → Contains is.keys b → IsKey g functions b = λ b c. reached_keys g functions routed k b (start_key_is k st) ((all.1 b).0 c) in
+      let closed : (a b : Key) → Contains is.keys a → Contains (named g a) b → Contains is.keys b = λ a b c i. (all.1 b).1 (then a b ((all.1 a).0 c) i) in
+      let low = as_many g functions routed is.keys all.0 are closed k ((all.1 k).1 (first k (head_in k []))) in
+      let count = count_is g is.keys s is.rows in
+      omega (arith, low, count)
 
   -- more keys than may be are more rows
   pub keys_many : (k : Key) → IsStartKey g k → (n : ℕ) → HasMore key_cmp (Reached (named g) (k ∷ [])) n → (s : Strategy) → IsLeastStrategy g s → n < rows_of s

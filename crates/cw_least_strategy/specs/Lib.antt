@@ -3,6 +3,7 @@ pub mod Acts
 pub mod Backs
 pub mod Heights
 pub mod Kept
+pub mod Parts
 pub mod Laws
 pub mod Small
 pub mod Strategies

@@ -3,14 +3,17 @@
 
 mod acts;
 mod aims;
+mod certificate;
 mod contexts;
 mod heights;
 pub mod key;
 pub mod laws;
 mod named;
 mod rows;
+mod strategy;
 pub mod table;
 
 pub use cw_solve::TableFault;
 pub use key::{Key, Way};
-pub use table::env_table;
+pub use strategy::{LeastRow, LeastStrategy};
+pub use table::{env_table, least_strategy};

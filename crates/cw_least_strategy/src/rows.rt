@@ -1,21 +1,22 @@
-//! The rows of a strategy.
+//! What the rows of a strategy do.
 
 ghost use Rattle.std.specs.Prelude.{◌≡◌, ◌+◌, ◌<◌, ◌≤◌, map, length, sum_by, Contains, IfOk, IfSome, IfNone};
-ghost use Rattle.cw_certs.specs.Strategies.{how_of, row_of};
+ghost use Rattle.cw_certs.specs.Strategies.{how_of};
 ghost use Rattle.cw_product.specs.Product.{game_of};
 ghost use Rattle.cw_product.specs.Routed.{AreRouted};
 ghost use Rattle.cw_least_strategy.specs.Acts.{act_of};
 ghost use Rattle.cw_least_strategy.specs.Kept.{IsKey};
-ghost use Rattle.cw_least_strategy.specs.Small.{whole, wholes, row_in, backs_for, AreRanked};
-ghost use Rattle.cw_least_strategy.specs.Strategies.{number, how_by, row_at, backs_in};
+ghost use Rattle.cw_least_strategy.specs.Small.{whole, wholes, backs_for, AreRanked};
+ghost use Rattle.cw_least_strategy.specs.Parts.{how_in};
+ghost use Rattle.cw_least_strategy.specs.Strategies.{number, act, how_by, backs_in};
 
 use crate::acts::{Act, act_at};
 use crate::aims::{small, whole};
 use crate::contexts::Entries;
 use crate::key::{Key, SmallKey};
-use cw_certs::{EnvRow, How};
+use cw_certs::How;
 use cw_core::limits::ROWS;
-use cw_core::{PosId, StateId, StateSet};
+use cw_core::{StateId, StateSet};
 use cw_fixpoint::number_of;
 use cw_solve::Solved;
 use std::alloc::{AllocError, Global};
@@ -72,8 +73,8 @@ fn how_by(alloc: Global, aims: &[StateSet], keys: &[SmallKey], act: Act) -> Resu
     }
 }
 
-/// The row of a key, whose aim may have this number: its pair, what it aims at, and how it gets there.
-fn row_at(
+/// What the row of a key does, whose aim may have this number.
+fn how_at(
     alloc: Global,
     solved: &Solved,
     entries: &Entries,
@@ -81,20 +82,14 @@ fn row_at(
     keys: &[SmallKey],
     key: &Key,
     near: u32,
-) -> Result<EnvRow, AllocError>
+) -> Result<How, AllocError>
     requires routed { AreRouted (game_of solved.now.game) (length solved.now.game.graph.parts.items) }
     requires key { IsKey (game_of solved.now.game) (length solved.now.game.graph.parts.items) key.now }
     requires ranked { AreRanked aims.now keys.now }
-    ensures { IfOk result (λ r. row_of r ≡ row_at (game_of solved.now.game) (wholes aims.now keys.now) key.now) }
+    ensures { IfOk result (λ h. how_of h ≡ how_by (wholes aims.now keys.now) (act (game_of solved.now.game) key.now)) }
 {
     let act = act_at(alloc, solved, entries, key, near)?;
-    let how = how_by(alloc, aims, keys, act)?;
-    Ok(EnvRow {
-        pos: PosId(key.pos),
-        state: StateId(key.state),
-        aim: key.aim,
-        how,
-    })
+    how_by(alloc, aims, keys, act)
 }
 
 /// How many backs a row has.
@@ -107,32 +102,32 @@ fn backs_in(how: &How) -> usize
     }
 }
 
-/// The rows of the keys; none where they and their backs are more than 65,536.
-pub(crate) fn rows_within(
+/// What the rows of the keys do; none where they and their backs are more than 65,536.
+pub(crate) fn hows_within(
     alloc: Global,
     solved: &Solved,
     entries: &Entries,
     aims: &[StateSet],
     keys: &[SmallKey],
-) -> Result<Option<Vec<EnvRow>>, AllocError>
+) -> Result<Option<Vec<How>>, AllocError>
     requires routed { AreRouted (game_of solved.now.game) (length solved.now.game.graph.parts.items) }
     requires keys { (k : SmallKey) → Contains keys.now k → IsKey (game_of solved.now.game) (length solved.now.game.graph.parts.items) (whole aims.now k) }
     requires ranked { AreRanked aims.now keys.now }
-    ensures rows { IfOk result (λ o. IfSome o (λ v. map row_of v.items ≡ map (row_in (game_of solved.now.game) aims.now keys.now) keys.now)) }
+    ensures hows { IfOk result (λ o. IfSome o (λ v. map how_of v.items ≡ map (how_in (game_of solved.now.game) aims.now keys.now) keys.now)) }
     ensures few { IfOk result (λ o. IfSome o (λ _. length keys.now + sum_by (backs_for (game_of solved.now.game) aims.now keys.now) keys.now ≤ 65536)) }
     ensures many { IfOk result (λ o. IfNone o (65536 < length keys.now + sum_by (backs_for (game_of solved.now.game) aims.now keys.now) keys.now)) }
 {
-    let mut rows = Vec::new(alloc);
+    let mut hows = Vec::with_capacity(alloc, keys.len())?;
     let mut left = ROWS - keys.len();
     for named in keys {
         let key = whole(aims, named);
-        let row = row_at(alloc, solved, entries, aims, keys, &key, named.aim)?;
-        let backs = backs_in(&row.how);
+        let how = how_at(alloc, solved, entries, aims, keys, &key, named.aim)?;
+        let backs = backs_in(&how);
         if left < backs {
             return Ok(None);
         }
         left -= backs;
-        rows.push(row)?;
+        hows.push(how)?;
     }
-    Ok(Some(rows))
+    Ok(Some(hows))
 }

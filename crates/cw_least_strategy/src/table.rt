@@ -9,14 +9,18 @@ ghost use Rattle.cw_solve.specs.Contexts.{IsHeight};
 ghost use Rattle.cw_product.specs.Made.{IsMade};
 ghost use Rattle.cw_least_strategy.specs.Acts.{IsLost, IsStartHeight, IsStartKey};
 ghost use Rattle.cw_least_strategy.specs.Backs.{BacksAscend};
+ghost use Rattle.cw_least_strategy.specs.Parts.{AreParts};
+ghost use Rattle.cw_least_strategy.specs.Small.{AreAims};
 ghost use Rattle.cw_least_strategy.specs.Strategies.{IsLeastStrategy, rows_of};
 
 use crate::aims::{aims_of, small};
+use crate::certificate::certificate;
 use crate::contexts::Entries;
-use crate::key::Key;
+use crate::key::{Key, SmallKey};
 use crate::named::Named;
-use crate::rows::rows_within;
-use cw_certs::EnvCert;
+use crate::rows::hows_within;
+use crate::strategy::LeastStrategy;
+use cw_certs::{EnvCert, How};
 use cw_core::StateSet;
 use cw_core::limits::ROWS;
 use cw_fixpoint::descended_up_to;
@@ -53,19 +57,21 @@ fn start_key(solved: &Solved) -> Key
     }
 }
 
-/// The strategy by least heights; none where its rows and their backs are more than 65,536.
-fn strategy_within(alloc: Global, solved: &Solved) -> Result<Option<EnvCert>, AllocError>
+/// All keys that the start's names, and what is done at each; none where these rows and their backs are more than 65,536.
+fn parts_within(
+    alloc: Global,
+    solved: &Solved,
+    aims: &[StateSet],
+    start: &Key,
+) -> Result<Option<(Vec<SmallKey>, Vec<How>)>, AllocError>
     requires made { IsMade solved.now.game }
-    requires lost { IsLost (game_of solved.now.game) }
-    ensures least { IfOk result (λ o. IfSome o (λ c. IsLeastStrategy (game_of solved.now.game) (strategy_of c))) }
-    ensures few { IfOk result (λ o. IfSome o (λ c. rows_of (strategy_of c) ≤ 65536)) }
+    requires aims { AreAims solved.now aims.now }
+    requires start { IsStartKey (game_of solved.now.game) start.now }
+    ensures parts { IfOk result (λ o. IfSome o (λ (keys, hows). AreParts (game_of solved.now.game) aims.now start.now keys.items hows.items)) }
     ensures many { IfOk result (λ o. IfNone o ((s : Strategy) → IsLeastStrategy (game_of solved.now.game) s → 65536 < rows_of s)) }
 {
-    let start = start_key(solved);
     let entries = Entries::make(alloc, solved)?;
-    let found = aims_of(alloc, solved)?;
-    let aims = found.as_slice();
-    let first = small(aims, &start);
+    let first = small(aims, start);
     let named = Named {
         alloc,
         solved,
@@ -74,13 +80,30 @@ fn strategy_within(alloc: Global, solved: &Solved) -> Result<Option<EnvCert>, Al
     };
     match descended_up_to(alloc, &named, &[first], ROWS)? {
         None => Ok(None),
-        Some(keys) => match rows_within(alloc, solved, &named.entries, aims, &keys)? {
+        Some(keys) => match hows_within(alloc, solved, &named.entries, aims, &keys)? {
             None => Ok(None),
-            Some(rows) => Ok(Some(EnvCert {
-                states: solved.game().states(),
-                rows,
-            })),
+            Some(hows) => Ok(Some((keys, hows))),
         },
+    }
+}
+
+/// The strategy by least heights; none where its rows and their backs are more than 65,536. It has at least as many rows as the
+/// start is high, so of a higher start no key is looked for.
+fn strategy_within(alloc: Global, solved: &Solved) -> Result<Option<LeastStrategy>, AllocError>
+    requires made { IsMade solved.now.game }
+    requires lost { IsLost (game_of solved.now.game) }
+    ensures least { IfOk result (λ o. IfSome o (λ s. IsLeastStrategy (game_of solved.now.game) s)) }
+    ensures few { IfOk result (λ o. IfSome o (λ s. rows_of s ≤ 65536)) }
+    ensures many { IfOk result (λ o. IfNone o ((s : Strategy) → IsLeastStrategy (game_of solved.now.game) s → 65536 < rows_of s)) }
+{
+    let start = start_key(solved);
+    if ROWS < start.height as usize {
+        return Ok(None);
+    }
+    let aims = aims_of(alloc, solved)?;
+    match parts_within(alloc, solved, &aims, &start)? {
+        None => Ok(None),
+        Some((keys, hows)) => Ok(Some(LeastStrategy::of(solved.game().states(), aims, keys, hows))),
     }
 }
 
@@ -92,6 +115,31 @@ fn strategy_within(alloc: Global, solved: &Solved) -> Result<Option<EnvCert>, Al
 /// they are not (`many`); that there is such a strategy is said too (`there`). NoMemory is want of memory.
 ///
 /// Public source: the environment's strategies of Harris, Jha, Reps, Anderson and Watson (2013).
+pub fn least_strategy(
+    alloc: Global,
+    game: &Game,
+    solved: &Solved,
+) -> Result<LeastStrategy, TableFault>
+    requires made { IsMade game.now }
+    requires solved { solved.now.game ≡ game.now }
+    requires lost { (n : ℕ) × IsHeight (game_of game.now) ((game_of game.now).entry (game_of game.now).main)
+        (game_of game.now).states.start (all_states (game_of game.now)) n }
+    ensures least { IfOk result (λ s. IsLeastStrategy (game_of game.now) s) }
+    ensures ascend { IfOk result (λ s. BacksAscend s) }
+    ensures good { IfOk result (λ s. IsGoodStrategy (game_of game.now) s) }
+    ensures few { IfOk result (λ s. rows_of s ≤ 65536) }
+    ensures many { IfErr result (λ fault. fault ≡ TableFault.TooManyRows → (s : Strategy) → IsLeastStrategy (game_of game.now) s → 65536 < rows_of s) }
+    ensures there { IfErr result (λ fault. fault ≡ TableFault.TooManyRows → (s : Strategy) × IsLeastStrategy (game_of game.now) s × (65536 < rows_of s)) }
+{
+    let _ = game;
+    match strategy_within(alloc, solved) {
+        Err(_) => Err(TableFault::NoMemory),
+        Ok(None) => Err(TableFault::TooManyRows),
+        Ok(Some(strategy)) => Ok(strategy),
+    }
+}
+
+/// The strategy by least heights of a solved game whose start is lost, as `least_strategy` makes it, each row with an aim of its own.
 pub fn env_table(alloc: Global, game: &Game, solved: &Solved) -> Result<EnvCert, TableFault>
     requires made { IsMade game.now }
     requires solved { solved.now.game ≡ game.now }
@@ -104,10 +152,11 @@ pub fn env_table(alloc: Global, game: &Game, solved: &Solved) -> Result<EnvCert,
     ensures many { IfErr result (λ fault. fault ≡ TableFault.TooManyRows → (s : Strategy) → IsLeastStrategy (game_of game.now) s → 65536 < rows_of s) }
     ensures there { IfErr result (λ fault. fault ≡ TableFault.TooManyRows → (s : Strategy) × IsLeastStrategy (game_of game.now) s × (65536 < rows_of s)) }
 {
-    let _ = game;
-    match strategy_within(alloc, solved) {
-        Err(_) => Err(TableFault::NoMemory),
-        Ok(None) => Err(TableFault::TooManyRows),
-        Ok(Some(strategy)) => Ok(strategy),
+    match least_strategy(alloc, game, solved) {
+        Err(fault) => Err(fault),
+        Ok(strategy) => match certificate(alloc, &strategy) {
+            Err(_) => Err(TableFault::NoMemory),
+            Ok(cert) => Ok(cert),
+        },
     }
 }

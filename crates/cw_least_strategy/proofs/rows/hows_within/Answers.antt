@@ -1,7 +1,6 @@
-use Rattle.std.proofs.Common.{rules, ◌≡◌, ℕ, ◌<◌, Some, List, length, sym, ap, subst, ◌∙◌, arith}
+use Rattle.std.proofs.Common.{◌≡◌, ℕ, ◌<◌, Some, List, length, sym, ap, subst, ◌∙◌, arith}
 use Rattle.std.specs.Prelude.{get_or, slice_get, Contains}
 use Rattle.std.proofs.lemmas.Option.{slice_get-get_or, get_or_from_slice_get}
-use Rattle.cw_certs.specs.Strategies.{Row}
 use Rattle.cw_product.specs.Product.{game_of}
 use Rattle.cw_least_strategy.specs.declared.key.Key.{Key}
 use Rattle.cw_least_strategy.specs.declared.key.SmallKey.{SmallKey}
@@ -10,7 +9,7 @@ use Rattle.cw_least_strategy.specs.Kept.{IsKey}
 use Rattle.cw_least_strategy.specs.Small.{wholes, backs_for}
 use Rattle.cw_least_strategy.specs.Strategies.{backs_in}
 use Rattle.cw_least_strategy.proofs.Finding.{sum_past}
-use Rattle.cw_least_strategy.proofs.rows.rows_within.Goals as goal
+use Rattle.cw_least_strategy.proofs.rows.hows_within.Goals as goal
 
 -- the key at a place of the loop
 abbrev key_at : List SmallKey → ℕ → SmallKey
@@ -27,8 +26,8 @@ whole-key-requires c =
     let i = c.loop-named.named-index in
     record { within = c.requires.ranked.within (key_at c.args.keys.now i) (one_of c.args.keys.now i c.loop-named-test.true) }
 
-pub row_at-requires-clause-key : goal.row_at-requires-clause-key
-row_at-requires-clause-key c =
+pub how_at-requires-clause-key : goal.how_at-requires-clause-key
+how_at-requires-clause-key c =
     let i = c.loop-named.named-index in
     subst (IsKey (game_of c.args.solved.now.game) (length c.args.solved.now.game.graph.parts.items)) (sym c.whole-key.ensures)
     (c.requires.keys (key_at c.args.keys.now i) (one_of c.args.keys.now i c.loop-named-test.true))
@@ -40,7 +39,7 @@ returns-then-left-backs-clause-many c =
     let i = c.loop-named.named-index in
     let past = sum_past w c.args.keys.now i (key_at c.args.keys.now i) (there c.args.keys.now i c.loop-named-test.true) in
     let more : c.backs_in-backs.result ≡ w (key_at c.args.keys.now i) =
-    c.backs_in-backs.ensures ∙ ap (λ (r : Row). backs_in r.how) c.in_ok-row.ensures ∙ ap (λ (k : Key). backs_of g (wholes c.args.aims.now c.args.keys.now) k) c.whole-key.ensures in
+    c.backs_in-backs.ensures ∙ ap backs_in c.in_ok-how.ensures ∙ ap (λ (k : Key). backs_of g (wholes c.args.aims.now c.args.keys.now) k) c.whole-key.ensures in
     let left = c.loop-named.invariant.left in
     let lt = c.if-left-backs.true in
     omega (arith, past, more, left, lt)
