@@ -57,7 +57,8 @@ pub whole_rows : {g : Game} {aims : List ℕ} {start : Key} {keys : List SmallKe
 whole_rows {g} {aims} {start} {keys} {hows} parts = rows_are g aims keys keys hows parts.done ∙ map_whole (row_at g (wholes aims keys)) aims keys
 
 -- and they are few
-pub few_rows : {g : Game} {aims : List ℕ} {start : Key} {keys : List SmallKey} {hows : List HowData} (states : ℕ) → AreParts g aims start keys hows → rows_of (strategy_by states aims keys hows) ≤ 65536
+pub few_rows : {g : Game} {aims : List ℕ} {start : Key} {keys : List SmallKey} {hows : List HowData} (states : ℕ) → AreParts g aims start keys hows
+    → rows_of (strategy_by states aims keys hows) ≤ 65536
 few_rows {g} {aims} {start} {keys} {hows} states parts =
     let a = count_is g (wholes aims keys) (strategy_by states aims keys hows) (whole_rows parts) in
     let b = long_whole aims keys in

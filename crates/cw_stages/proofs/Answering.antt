@@ -1,11 +1,10 @@
 -- Answers of stages, for callers: what follows from them, and how one ends a command.
-use Rattle.std.proofs.Common.{◌≡◌, ℕ, List, Option, Result, Ok, Err, sym, subst, inl, inr}
+use Rattle.std.proofs.Common.{ℕ, List, Option, Result, Ok, Err, sym, subst, inl, inr}
 use Rattle.std.specs.Prelude.{IfOk}
 use Rattle.cw_rights.specs.Policies.{PlainPolicy}
 use Rattle.cw_syntax.specs.Trees.{File}
 use Rattle.cw_policy.specs.Answer.{Spells}
 use Rattle.cw_commands.specs.declared.outcome.Outcome.{Outcome}
-use Rattle.cw_commands.specs.declared.outcome.Outcome.TheVariants.{Told as TellsData}
 use Rattle.cw_commands.specs.Outcomes.{due_of, Due}
 use Rattle.cw_commands.specs.Starts.{Begins, Starts}
 use Rattle.cw_commands.proofs.Starting.{unput}

@@ -4,7 +4,6 @@ ghost use Rattle.std.specs.Prelude.{◌≡◌, ◌≢◌, ◌≤◌, [], ℕ, Li
 ghost use Rattle.cw_core.specs.Quantities.{limit_of};
 ghost use Rattle.cw_core.specs.declared.quantity.Quantity.TheVariants.{Points};
 ghost use Rattle.cw_rights.specs.Policies.{PlainPolicy, policy_of};
-ghost use Rattle.cw_rights.specs.Valid.{IsValid};
 ghost use Rattle.cw_syntax.specs.Plans.{plan_of};
 ghost use Rattle.cw_resolve.specs.Scenes.{names_of};
 ghost use Rattle.cw_points.specs.Graphs.{IsGraph};

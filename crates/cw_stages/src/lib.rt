@@ -7,6 +7,7 @@ mod audits;
 mod ending;
 mod fitting;
 mod games;
+mod least;
 mod lines;
 mod numbers;
 mod reading;

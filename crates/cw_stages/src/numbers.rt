@@ -1,13 +1,14 @@
 //! The numbers of what `weave` makes of a policy and a source.
 
 ghost use Rattle.std.specs.Prelude.{◌≡◌, ◌≤◌, length};
-ghost use Rattle.cw_certs.specs.Strategies.{how_of, strategy_of};
+ghost use Rattle.cw_certs.specs.Strategies.{how_of};
 ghost use Rattle.cw_product.specs.Product.{game_of};
 ghost use Rattle.cw_solve.specs.Contexts.{cells_of};
 ghost use Rattle.cw_lazy_table.specs.Lazy.{table_rows};
 ghost use Rattle.cw_least_strategy.specs.Strategies.{backs_in, rows_of};
 
-use cw_certs::{EnvCert, How, WeaverCert};
+use cw_certs::{How, WeaverCert};
+use cw_least_strategy::LeastStrategy;
 use cw_product::Game;
 use cw_solve::Solved;
 
@@ -65,13 +66,13 @@ fn backs_in(how: &How) -> usize
 }
 
 /// The rows of a strategy, and the backs of each.
-pub(crate) fn strategy_rows(strategy: &EnvCert) -> u64
-    requires few { rows_of (strategy_of strategy.now) ≤ 65536 }
-    ensures { result ≡ rows_of (strategy_of strategy.now) }
+pub(crate) fn strategy_rows(strategy: &LeastStrategy) -> u64
+    requires few { rows_of strategy.now ≤ 65536 }
+    ensures { result ≡ rows_of strategy.now }
 {
-    let mut rows = strategy.rows.len();
-    for row in &strategy.rows {
-        rows += backs_in(&row.how);
+    let mut rows = strategy.count();
+    for number in 0..strategy.count() {
+        rows += backs_in(strategy.row(number).how);
     }
     rows as u64
 }

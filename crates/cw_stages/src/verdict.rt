@@ -16,6 +16,7 @@ ghost use Rattle.cw_stages.specs.Counting.{IsCounted};
 ghost use Rattle.cw_stages.specs.Stops.{Decides, Nothing, StartsVerdict};
 ghost use Rattle.cw_stages.specs.Verdicts.{AfterCells, AfterGame, StartHolds, StartIsLost};
 
+use crate::least::put_least;
 use crate::numbers::{Numbers, strategy_rows, table_rows};
 use crate::stop::Stop;
 use crate::told::{Text, Verdict};
@@ -24,12 +25,11 @@ use cw_core::Quantity;
 use cw_emit::put_woven;
 use cw_io::{Sink, Writer};
 use cw_lazy_table::weaver_table;
-use cw_least_strategy::env_table;
+use cw_least_strategy::least_strategy;
 use cw_linked::solve;
 use cw_points::marks::marks;
 use cw_product::Game;
 use cw_solve::{SolveFault, Solved, TableFault};
-use cw_strategy_text::put_strategy;
 use cw_syntax::checked::Checked;
 use std::alloc::Global;
 
@@ -108,10 +108,10 @@ fn refuted<O: Sink>(
     ensures puts { StartsVerdict O.taken O.faults O.refused out.old out.new result }
 {
     let _ = checked;
-    match env_table(alloc, game, solved) {
+    match least_strategy(alloc, game, solved) {
         Ok(strategy) => {
             let mut writer = Writer::begin(out);
-            put_strategy(&strategy, game.policy().format, &mut writer, out);
+            put_least(&strategy, game.policy().format, &mut writer, out);
             solved.fact_contexts_are_needed();
             Ok(Verdict {
                 text: Text {

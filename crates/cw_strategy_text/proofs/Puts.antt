@@ -1,7 +1,8 @@
 -- Lines as they are put.
-use Rattle.std.proofs.Common.{◌≡◌, ℕ, zero, suc, ◌+◌, ◌<◌, List, [], ◌∷◌, ◌++◌, length, map, take, get_or, sym, ap, ◌∙◌, arith, append-nil, append_assoc, add-one}
+use Rattle.std.proofs.Common.{◌≡◌, ℕ, zero, suc, ◌+◌, ◌<◌, List, [], ◌∷◌, ◌++◌, Some, length, map, take, get_or, sym, ap, ◌∙◌, arith, append-nil, append_assoc, add-one}
 use Rattle.std.specs.List.{flat_map}
-use Rattle.std.specs.Prelude.{codes}
+use Rattle.std.specs.Prelude.{codes, option_map, slice_get}
+use Rattle.std.proofs.lemmas.Option.{same_Some, none-some, slice_get-get_or, slice_get-map}
 use Rattle.std.specs.Fmt.{decimal}
 use Rattle.cw_certs.specs.Strategies.{Row, Strategy, row_of}
 use Rattle.cw_certs.specs.declared.strategy.EnvRow.{EnvRow}
@@ -18,33 +19,36 @@ pub row_line-put : (format number : ℕ) (r : Row) → row_line format number r 
 unfolding row_line
 row_line-put format number r = ap line (joined-after 32 (decimal number) (decimal r.pos ∷ decimal r.state ∷ set_text format r.aim ∷ how_words r.how))
 
-more : (format n : ℕ) (rows : List EnvRow) (i : ℕ) (x : EnvRow) → i < length rows → x ≡ get_or rows i x
-    → row_lines format n (map row_of (take (suc i) rows)) ≡ row_lines format n (map row_of (take i rows)) ++ row_line format (n + i) (row_of x)
+-- the lines of one row more
+pub more_lines : (format n : ℕ) (rows : List Row) (i : ℕ) (r : Row) → slice_get rows i ≡ Some r
+    → row_lines format n (take (suc i) rows) ≡ row_lines format n (take i rows) ++ row_line format (n + i) r
 unfolding row_lines
-more format n [] i x lt is = absurd (omega arith)
-more format n (y ∷ ys) zero x lt is =
+more_lines format n [] i r at = absurd (none-some r at)
+more_lines format n (y ∷ ys) zero r at =
     let e : n + 0 ≡ n = omega arith in
-    rw e (append-nil (row_line format n (row_of y)) ∙ ap (λ z. row_line format n (row_of z)) (sym is))
-more format n (y ∷ ys) (suc i) x lt is =
+    rw e (append-nil (row_line format n y) ∙ ap (row_line format n) (same_Some y r at))
+more_lines format n (y ∷ ys) (suc i) r at =
     let e : (n + 1) + i ≡ n + suc i = omega arith in
-    ap (λ (t : List ℕ). row_line format n (row_of y) ++ t)
-    (more format (n + 1) ys i x (omega arith) is ∙ ap (λ (k : ℕ). row_lines format (n + 1) (map row_of (take i ys)) ++ row_line format k (row_of x)) e)
-    ∙ sym (append_assoc (row_line format n (row_of y)) (row_lines format (n + 1) (map row_of (take i ys))) (row_line format (n + suc i) (row_of x)))
+    ap (λ (t : List ℕ). row_line format n y ++ t)
+    (more_lines format (n + 1) ys i r at ∙ ap (λ (k : ℕ). row_lines format (n + 1) (take i ys) ++ row_line format k r) e)
+    ∙ sym (append_assoc (row_line format n y) (row_lines format (n + 1) (take i ys)) (row_line format (n + suc i) r))
 
--- one row more
-pub rows_step : (format : ℕ) (old now new : List ℕ) (rows : List EnvRow) (i : ℕ) (x : EnvRow) → now ≡ old ++ row_lines format 0 (map row_of (take i rows))
-    → new ≡ now ++ put_line format i (row_of x) → i < length rows → x ≡ get_or rows i x
-    → new ≡ old ++ row_lines format 0 (map row_of (take (i + 1) rows))
-rows_step format old now new rows i x so_far put lt is =
+-- one row more is put
+pub lines_step : (format : ℕ) (old now new : List ℕ) (rows : List Row) (i : ℕ) (r : Row) → now ≡ old ++ row_lines format 0 (take i rows)
+    → new ≡ now ++ row_line format i r → slice_get rows i ≡ Some r → new ≡ old ++ row_lines format 0 (take (i + 1) rows)
+lines_step format old now new rows i r so_far put at =
     let e : 0 + i ≡ i = omega arith in
-    let step : row_lines format 0 (map row_of (take (i + 1) rows)) ≡ row_lines format 0 (map row_of (take i rows)) ++ put_line format i (row_of x) =
-    rw add-one (more format 0 rows i x lt is ∙ ap (λ (k : ℕ). row_lines format 0 (map row_of (take i rows)) ++ row_line format k (row_of x)) e)
-    ∙ ap (λ (t : List ℕ). row_lines format 0 (map row_of (take i rows)) ++ t) (row_line-put format i (row_of x)) in
-    put ∙ ap (λ (t : List ℕ). t ++ put_line format i (row_of x)) so_far ∙ append_assoc old (row_lines format 0 (map row_of (take i rows))) (put_line format i (row_of x))
+    let step : row_lines format 0 (take (i + 1) rows) ≡ row_lines format 0 (take i rows) ++ row_line format i r =
+    rw add-one (more_lines format 0 rows i r at ∙ ap (λ (k : ℕ). row_lines format 0 (take i rows) ++ row_line format k r) e) in
+    put ∙ ap (λ (t : List ℕ). t ++ row_line format i r) so_far ∙ append_assoc old (row_lines format 0 (take i rows)) (row_line format i r)
     ∙ ap (λ (t : List ℕ). old ++ t) (sym step)
 
+-- the row that an index reads
+pub row_read : (rows : List EnvRow) (i : ℕ) (x : EnvRow) → i < length rows → x ≡ get_or rows i x → slice_get (map row_of rows) i ≡ Some (row_of x)
+row_read rows i x lt is = slice_get-map row_of rows i ∙ ap (option_map row_of) (slice_get-get_or rows i x lt ∙ ap (λ (y : EnvRow). Some y) (sym is))
+
 -- a row's line, put piece by piece
-pub line_put : (format number : ℕ) (r : Row) (old first second third whole : List ℕ) → first ≡ old ++ decimal number
+line_put : (format number : ℕ) (r : Row) (old first second third whole : List ℕ) → first ≡ old ++ decimal number
     → second ≡ first ++ flat_map (λ (w : List ℕ). 32 ∷ w) (decimal r.pos ∷ decimal r.state ∷ set_text format r.aim ∷ [])
     → third ≡ second ++ flat_map (λ (w : List ℕ). 32 ∷ w) (how_words r.how) → whole ≡ third ++ codes "\n" → whole ≡ old ++ put_line format number r
 line_put format number r old first second third whole e f g h =
@@ -64,18 +68,32 @@ line_put format number r old first second third whole e f g h =
         ∙ ap (λ (t : List ℕ). b ++ (32 ∷ t)) (append_assoc d [] how)))
         ∙ append_assoc old n (32 ∷ (a ++ (32 ∷ (b ++ (32 ∷ (d ++ how))))))
 
+pub row_put : (format number : ℕ) (r : Row) (old first second third whole : List ℕ) → first ≡ old ++ decimal number
+    → second ≡ first ++ flat_map (λ (w : List ℕ). 32 ∷ w) (decimal r.pos ∷ decimal r.state ∷ set_text format r.aim ∷ [])
+    → third ≡ second ++ flat_map (λ (w : List ℕ). 32 ∷ w) (how_words r.how) → whole ≡ third ++ codes "\n" → whole ≡ old ++ row_line format number r
+row_put format number r old first second third whole e f g h =
+    line_put format number r old first second third whole e f g h ∙ ap (λ (t : List ℕ). old ++ t) (sym (row_line-put format number r))
+
 pub nothing_put : (format : ℕ) (text : List ℕ) → text ≡ text ++ row_lines format 0 []
 unfolding row_lines
 nothing_put format text = sym (append-nil text)
 
--- a whole text, put piece by piece
-regrouped : (t0 head format nl word states rows end : List ℕ) → (((((((t0 ++ head) ++ format) ++ (nl ++ (word ++ 32 ∷ []))) ++ states) ++ nl) ++ rows) ++ end)
-    ≡ t0 ++ (((head ++ format) ++ nl) ++ (((word ++ (32 ∷ states)) ++ nl) ++ (rows ++ end)))
-regrouped t0 head format nl word states rows end = simp append_assoc
+-- what stands before the rows, put piece by piece
+head_regrouped : (t0 head format nl word states : List ℕ) → ((((t0 ++ head) ++ format) ++ (nl ++ (word ++ 32 ∷ []))) ++ states) ++ nl
+    ≡ t0 ++ (((head ++ format) ++ nl) ++ ((word ++ (32 ∷ states)) ++ nl))
+head_regrouped t0 head format nl word states = simp append_assoc
 
-pub strategy_put : (format : ℕ) (s : Strategy) (t0 t1 t2 t3 t4 t5 t6 t7 : List ℕ) → t1 ≡ t0 ++ codes "capweave strategy " → t2 ≡ t1 ++ decimal format
-    → t3 ≡ t2 ++ codes "\nstates " → t4 ≡ t3 ++ decimal s.states → t5 ≡ t4 ++ codes "\n" → t6 ≡ t5 ++ row_lines format 0 s.rows → t7 ≡ t6 ++ codes "end\n"
-    → t7 ≡ t0 ++ strategy_text format s
-unfolding strategy_text head_line states_line end_line
-strategy_put format s t0 t1 t2 t3 t4 t5 t6 t7 h0 h1 h2 h3 h4 h5 h6 =
-    rw (h6, h5, h4, h3, h2, h1, h0) (regrouped t0 (codes "capweave strategy ") (decimal format) (codes "\n") (codes "states") (decimal s.states) (row_lines format 0 s.rows) (codes "end\n"))
+pub head_put : (format states : ℕ) (t0 t1 t2 t3 t4 t5 : List ℕ) → t1 ≡ t0 ++ codes "capweave strategy " → t2 ≡ t1 ++ decimal format → t3 ≡ t2 ++ codes "\nstates "
+    → t4 ≡ t3 ++ decimal states → t5 ≡ t4 ++ codes "\n" → t5 ≡ t0 ++ (head_line format ++ states_line states)
+unfolding head_line states_line
+head_put format states t0 t1 t2 t3 t4 t5 h0 h1 h2 h3 h4 =
+    rw (h4, h3, h2, h1, h0) (head_regrouped t0 (codes "capweave strategy ") (decimal format) (codes "\n") (codes "states") (decimal states))
+
+-- a whole text, put in its parts
+regrouped : (t0 head states rows end : List ℕ) → ((t0 ++ (head ++ states)) ++ rows) ++ end ≡ t0 ++ (head ++ (states ++ (rows ++ end)))
+regrouped t0 head states rows end = simp append_assoc
+
+pub strategy_put : (format : ℕ) (s : Strategy) (t0 t1 t2 t3 : List ℕ) → t1 ≡ t0 ++ (head_line format ++ states_line s.states) → t2 ≡ t1 ++ row_lines format 0 s.rows → t3 ≡ t2 ++ end_line
+    → t3 ≡ t0 ++ strategy_text format s
+unfolding strategy_text
+strategy_put format s t0 t1 t2 t3 h0 h1 h2 = rw (h2, h1, h0) (regrouped t0 (head_line format) (states_line s.states) (row_lines format 0 s.rows) end_line)

@@ -10,5 +10,5 @@ mod steps;
 mod wording;
 
 pub use laws::{one_answer, read_again, some_answer};
-pub use printing::{print_env, put_strategy};
+pub use printing::{print_env, put_end, put_head, put_row, put_strategy};
 pub use reading::read_env;

@@ -3,17 +3,17 @@
 ghost use Rattle.std.specs.Prelude.{◌≡◌, ◌++◌, ◌∷◌, [], codes, map};
 ghost use Rattle.std.specs.Fmt.{decimal};
 ghost use Rattle.std.specs.List.{flat_map};
-ghost use Rattle.cw_text.specs.Lines.{set_text};
+ghost use Rattle.cw_text.specs.Lines.{end_line, set_text, states_line};
 ghost use Rattle.cw_text.specs.Moves.{move_name};
 ghost use Rattle.cw_certs.specs.Strategies.{how_of, row_of, strategy_of};
 ghost use Rattle.cw_io.specs.Causes.{HasCause};
 ghost use Rattle.cw_io.specs.Pieces.{Puts};
 ghost use Rattle.cw_io.specs.Written.{Follows};
-ghost use Rattle.cw_strategy_text.specs.StrategyText.{back_word, how_words, row_lines, strategy_text};
-ghost use Rattle.cw_strategy_text.specs.Words.{backs_of, put_line};
+ghost use Rattle.cw_strategy_text.specs.StrategyText.{back_word, head_line, how_words, row_line, row_lines, strategy_text};
+ghost use Rattle.cw_strategy_text.specs.Words.{backs_of};
 
 use cw_certs::{EnvCert, EnvRow, How, Move};
-use cw_core::StateId;
+use cw_core::{PosId, StateId, StateSet};
 use cw_io::{Sink, SinkFault, Writer};
 use cw_text::{move_name, put_set};
 
@@ -36,12 +36,32 @@ pub fn put_strategy<S: Sink>(cert: &EnvCert, format: u8, writer: &mut Writer<S>,
     ensures begun { writer.new.begun ≡ writer.old.begun }
     ensures follows { Follows S.taken S.faults S.refused writer.new out.new }
 {
+    put_head(cert.states, format, writer, out);
+    put_rows(&cert.rows, format, writer, out);
+    put_end(writer, out);
+}
+
+/// Appends what stands before the rows of a strategy of so many states: the line of the format, and that of the states.
+pub fn put_head<S: Sink>(states: u16, format: u8, writer: &mut Writer<S>, out: &mut S)
+    requires follows { Follows S.taken S.faults S.refused writer.old out.old }
+    ensures text { writer.new.text ≡ writer.old.text ++ (head_line format ++ states_line states) }
+    ensures begun { writer.new.begun ≡ writer.old.begun }
+    ensures follows { Follows S.taken S.faults S.refused writer.new out.new }
+{
     writer.put(b"capweave strategy ", out);
     writer.put_number(u64::from(format), out);
     writer.put(b"\nstates ", out);
-    writer.put_number(u64::from(cert.states), out);
+    writer.put_number(u64::from(states), out);
     writer.put(b"\n", out);
-    put_rows(&cert.rows, format, writer, out);
+}
+
+/// Appends the line behind the rows.
+pub fn put_end<S: Sink>(writer: &mut Writer<S>, out: &mut S)
+    requires follows { Follows S.taken S.faults S.refused writer.old out.old }
+    ensures text { writer.new.text ≡ writer.old.text ++ end_line }
+    ensures begun { writer.new.begun ≡ writer.old.begun }
+    ensures follows { Follows S.taken S.faults S.refused writer.new out.new }
+{
     writer.put(b"end\n", out);
 }
 
@@ -53,36 +73,59 @@ fn put_rows<S: Sink>(rows: &[EnvRow], format: u8, writer: &mut Writer<S>, out: &
     ensures follows { Follows S.taken S.faults S.refused writer.new out.new }
 {
     for number in 0..rows.len() {
-        put_row(number, &rows[number], format, writer, out);
+        let row = &rows[number];
+        put_row(
+            number,
+            (row.pos, row.state),
+            &row.aim,
+            &row.how,
+            format,
+            writer,
+            out,
+        );
     }
 }
 
-/// Appends a row's line.
-fn put_row<S: Sink>(number: usize, row: &EnvRow, format: u8, writer: &mut Writer<S>, out: &mut S)
+/// Appends the line of a row: its number, the position and the state at which it stands, its aim, and what it does.
+pub fn put_row<S: Sink>(
+    number: usize,
+    at: (PosId, StateId),
+    aim: &StateSet,
+    how: &How,
+    format: u8,
+    writer: &mut Writer<S>,
+    out: &mut S,
+)
     requires follows { Follows S.taken S.faults S.refused writer.old out.old }
-    ensures text { writer.new.text ≡ writer.old.text ++ put_line format number (row_of row.now) }
+    ensures text { writer.new.text ≡ writer.old.text ++ row_line format number (record { pos = at.0.0; state = at.1.0; aim = aim.now; how = how_of how.now }) }
     ensures begun { writer.new.begun ≡ writer.old.begun }
     ensures follows { Follows S.taken S.faults S.refused writer.new out.new }
 {
     writer.put_number(number as u64, out);
-    put_place(row, format, writer, out);
-    put_how(&row.how, writer, out);
+    put_place(at, aim, format, writer, out);
+    put_how(how, writer, out);
     writer.put(b"\n", out);
 }
 
 /// Appends a row's position, state and aim, each after a space.
-fn put_place<S: Sink>(row: &EnvRow, format: u8, writer: &mut Writer<S>, out: &mut S)
+fn put_place<S: Sink>(
+    at: (PosId, StateId),
+    aim: &StateSet,
+    format: u8,
+    writer: &mut Writer<S>,
+    out: &mut S,
+)
     requires follows { Follows S.taken S.faults S.refused writer.old out.old }
-    ensures text { writer.new.text ≡ writer.old.text ++ flat_map (λ word. 32 ∷ word) (decimal row.now.pos.0 ∷ decimal row.now.state.0 ∷ set_text format row.now.aim ∷ []) }
+    ensures text { writer.new.text ≡ writer.old.text ++ flat_map (λ word. 32 ∷ word) (decimal at.0.0 ∷ decimal at.1.0 ∷ set_text format aim.now ∷ []) }
     ensures begun { writer.new.begun ≡ writer.old.begun }
     ensures follows { Follows S.taken S.faults S.refused writer.new out.new }
 {
     writer.put(b" ", out);
-    writer.put_number(u64::from(row.pos.0), out);
+    writer.put_number(u64::from(at.0.0), out);
     writer.put(b" ", out);
-    writer.put_number(u64::from(row.state.0), out);
+    writer.put_number(u64::from(at.1.0), out);
     writer.put(b" ", out);
-    put_set(&row.aim, format, writer, out);
+    put_set(aim, format, writer, out);
 }
 
 /// Appends what a row does, each word after a space.

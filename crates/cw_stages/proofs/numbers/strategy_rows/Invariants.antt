@@ -3,7 +3,7 @@ use Rattle.std.specs.Prelude.{sum_by}
 use Rattle.cw_stages.proofs.Rowed.{backs}
 use Rattle.cw_stages.proofs.numbers.strategy_rows.Given as goal
 
-abbrev pub invariant-loop-row : goal.invariant-loop-row
-invariant-loop-row l = record {
-  rows : l.rows ≡ length l.strategy.rows.items + sum_by backs (take l.row-index l.strategy.rows.items);
+abbrev pub invariant-loop-number : goal.invariant-loop-number
+invariant-loop-number l = record {
+  rows : l.rows ≡ length l.strategy.rows + sum_by backs (take l.number l.strategy.rows);
 }

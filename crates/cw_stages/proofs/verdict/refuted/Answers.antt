@@ -2,7 +2,6 @@ use Rattle.std.proofs.Common.{ℕ, List, ◌++◌, ap, sym, inl, inr, ◌∙◌}
 use Rattle.cw_rights.specs.declared.policy.Policy.{Policy}
 use Rattle.cw_rights.specs.Policies.{policy_of}
 use Rattle.cw_syntax.specs.Trees.{file_of}
-use Rattle.cw_certs.specs.Strategies.{strategy_of}
 use Rattle.cw_least_strategy.specs.Strategies.{rows_of}
 use Rattle.cw_product.specs.Product.{game_of}
 use Rattle.cw_strategy_text.specs.StrategyText.{strategy_text}
@@ -16,8 +15,8 @@ returns-in-Ok-clause-due g c =
     let file = file_of c.args.checked.now.program in
     let game = c.args.game.now in
     let whole = policy_of game.states.policy in
-    let strategy = strategy_of c.in-Ok.strategy in
-    let spelled = c.put_strategy.ensures.text ∙ ap (λ (t : List ℕ). t ++ strategy_text c.policy.result.now.format strategy) c.begin-writer.ensures.text
+    let strategy = c.in-Ok.strategy in
+    let spelled = c.put_least.ensures.text ∙ ap (λ (t : List ℕ). t ++ strategy_text c.policy.result.now.format strategy) c.begin-writer.ensures.text
     ∙ ap (λ (p : Policy). strategy_text p.format strategy) c.policy.ensures in
     let made : IsMadeStrategy (game_of game) strategy = record { is_least = c.in-Ok.ensures.least; ascend = c.in-Ok.ensures.ascend; few = c.in-Ok.ensures.few; good = c.in-Ok.ensures.good } in
     let kept : AreKept game c.args.solved.now c.make.result (rows_of strategy) = record {
@@ -30,7 +29,7 @@ returns-in-Ok-clause-due g c =
       cells = c.make.ensures.cells;
       are_rows = c.make.ensures.rows ∙ c.strategy_rows.ensures;
     } in
-    let refuted = is_refuted whole source file (game_of game) strategy c.put_strategy.new.writer.text c.requires.is_game spelled made in
+    let refuted = is_refuted whole source file (game_of game) strategy c.put_least.new.writer.text c.requires.is_game spelled made in
     inr (
       refuted.0,
       kept.are_rows ∙ ap rows_of (sym refuted.1),

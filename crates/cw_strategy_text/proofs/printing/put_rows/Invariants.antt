@@ -6,7 +6,7 @@ use Rattle.cw_strategy_text.proofs.printing.put_rows.Given as goal
 
 abbrev pub invariant-loop-number : goal.invariant-loop-number
 invariant-loop-number g l = record {
-  text : l.writer.text ≡ l.initial.writer.text ++ row_lines l.format 0 (map row_of (take l.number l.rows));
+  text : l.writer.text ≡ l.initial.writer.text ++ row_lines l.format 0 (take l.number (map row_of l.rows));
   begun : l.writer.begun ≡ l.initial.writer.begun;
   follows : Follows g.S.Sink.taken g.S.Sink.faults g.S.Sink.refused l.writer l.out;
 }
