@@ -93,7 +93,8 @@ def grouped(folder, edits):
 
 def has_own_cause(name, why):
     """Whether a function has no proof by itself: not just since one that it calls, or an answer of that one, has none."""
-    if f".{name.replace('::', '.')}.Answers." in why:
+    # A line without a reason is of a function whose own answers don't fit.
+    if not why.strip(":; ") or f".{name.replace('::', '.')}.Answers." in why:
         return True
     return any(part and not part.startswith(("it calls `", "it stands on `")) for part in why.lstrip(":; ").split("; "))
 
