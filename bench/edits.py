@@ -25,6 +25,7 @@ ROOT = os.path.dirname(os.path.dirname(os.path.abspath(__file__)))
 EDITS = f"{ROOT}/bench/edits"
 FUNCTION = re.compile(r"^( *)(?:pub(?:\([a-z]+\))? )?(?:const )?fn (\w+)", re.M)
 IMPL = re.compile(r"^impl\b(?:<.*?>)? *(?:([\w:]+)(?:<.*>)? for )?(\w+)", re.M)
+HANDED_ON = "not judged: it calls a function that another edit changes"
 UNPROVED = re.compile(r"^fn \w+::(\S+): (?:no proof|not proved)(.*)$", re.M)
 
 
@@ -91,10 +92,12 @@ def grouped(folder, edits):
     return groups, others
 
 
-def has_own_cause(name, why):
-    """Whether a function has no proof by itself: not just since one that it calls, or an answer of that one, has none."""
+def has_own_cause(name, why, alone):
+    """Whether a function has no proof by itself: not just since one that it calls, or an answer of that one, has none. Functions that call one another have their answers
+    in one file, `+NAME`, so of these it is told only where one edit is tried alone."""
+    path = name.replace("::", ".")
     # A line without a reason is of a function whose own answers don't fit.
-    if not why.strip(":; ") or f".{name.replace('::', '.')}.Answers." in why:
+    if not why.strip(":; ") or f".{path}.Answers." in why or (alone and f".{path.rpartition('.')[0]}.+" in why):
         return True
     return any(part and not part.startswith(("it calls `", "it stands on `")) for part in why.lstrip(":; ").split("; "))
 
@@ -120,14 +123,14 @@ def tried(folder, group):
             with open(path, "w", encoding="utf-8") as source:
                 source.write(text)
     unproved = UNPROVED.findall(done.stdout)
-    own, handed_on = ([name for name, why in unproved if has_own_cause(name, why) == is_own] for is_own in (True, False))
+    own, handed_on = ([name for name, why in unproved if has_own_cause(name, why, len(group) == 1) == is_own] for is_own in (True, False))
     are = lambda names, functions: any(name == function or name.endswith(f"::{function}") for name in names for function in functions)
     answer = {}
     for edit, functions in group.items():
         if are(own, functions):
             answer[edit] = "refused"
         elif are(handed_on, functions):
-            answer[edit] = "not judged: it calls a function that another edit changes"
+            answer[edit] = HANDED_ON
         elif "only=" in done.stdout:
             answer[edit] = "NOT REFUSED"
         else:
@@ -143,6 +146,9 @@ def try_quickly(copy, name):
     answers = {edit: f"left out: {why}" for edit, why in others.items()}
     for group in groups:
         answers.update(tried(folder, group))
+        for edit in group:
+            if answers[edit] == HANDED_ON:
+                answers.update(tried(folder, {edit: group[edit]}))
     for edit in edits:
         print(f"{name}/{os.path.basename(edit)}: {answers[edit]}", flush=True)
     return all(answer == "refused" for answer in answers.values())
