@@ -1,13 +1,12 @@
 -- The steps of one process as steps of the world: the environment's, and the weaver's after it.
-use Rattle.std.proofs.Common.{◌≡◌, ◌<◌, ℕ, zero, suc, List, [], ◌∷◌, ◌++◌, set, true, false, Option, Some, None, option_map, refl, sym, ap, ap₂, ◌∙◌, subst, arith}
+use Rattle.std.proofs.Common.{◌≡◌, ◌<◌, ℕ, zero, suc, List, [], ◌∷◌, ◌++◌, set, false, Option, Some, None, option_map, refl, sym, ap, ap₂, ◌∙◌, subst, arith}
 use Rattle.std.specs.Prelude.{slice_get}
 use Rattle.std.proofs.lemmas.Option.{none-some, same_Some}
 use Rattle.cw_lemmas.proofs.Lists.{get_set}
 use Rattle.cw_certs.specs.declared.moves.Move.{Move}
 use Rattle.cw_certs.specs.Tables.{Table}
 use Rattle.cw_syntax.specs.Plans.{Plan}
-use Rattle.cw_syntax.specs.Frames.{Frame}
-use Rattle.cw_model.specs.Boards.{Problem, Phase, Visit, Refused, Board, Party, Weaver, Environment, turn_of}
+use Rattle.cw_model.specs.Boards.{Problem, Board, Party, Weaver, Environment, turn_of}
 use Rattle.cw_model.specs.Laws.{party_of}
 use Rattle.cw_model.specs.Runs.{State, WovenStep}
 use Rattle.cw_model.proofs.Moving.{one_party}
@@ -16,11 +15,12 @@ use Rattle.cw_trace.specs.Traces.{Names}
 use Rattle.cw_trace.specs.Steps.{Step as RunStep, Follows, state_after, word_by as run_word, words_of as run_words}
 use Rattle.cw_run.specs.Lines.{own_of}
 use Rattle.cw_run.proofs.Runs.{own_lines, own_trace}
-use Rattle.cw_worlds.specs.Forks.{forks_in, at_fork}
+use Rattle.cw_worlds.specs.Forks.{at_fork}
 use Rattle.cw_worlds.specs.Worlds.{World, Makes, WorldStep}
-use Rattle.cw_procs.specs.Steps.{Word, is_weavers_in}
+use Rattle.cw_procs.specs.Steps.{Word}
 use Rattle.cw_procs.specs.Told.{process_lines, told}
 use Rattle.cw_procs.proofs.First.{turn_weavers, NoneBefore, AllRest, first_at, none_first}
+use Rattle.cw_procs.proofs.OneWorld.{no_fork}
 use Rattle.cw_procs.proofs.Segments.{Segment, none, then_on, one}
 
 -- replacing
@@ -40,11 +40,6 @@ get_other [] i k x z lt e = absurd (none-some z e)
 get_other (y ∷ w) zero k x z lt e = absurd (omega (arith, lt))
 get_other (y ∷ w) (suc i) zero x z lt e = e
 get_other (y ∷ w) (suc i) (suc k) x z lt e = get_other w i k x z (omega (arith, lt)) e
-
-weavers_away : (forks : List ℕ) (phase : Phase) (stack : List Frame) → is_weavers_in phase ≡ true → forks_in forks phase stack ≡ false
-weavers_away forks (Visit i a later) stack e = refl
-weavers_away forks (Refused i a later) stack e = refl
-weavers_away forks _ stack e = cc
 
 module _ (names : Names) (g : Game) (t : Table) (plan : Plan) (forks : List ℕ) where
   abbrev problem : Problem
@@ -87,7 +82,7 @@ module _ (names : Names) (g : Game) (t : Table) (plan : Plan) (forks : List ℕ)
         let turn = weavers_step s step.next step.by (run_words step.next later) h.0 e in
         let at = turn_weavers s.board.phase turn in
         let w2 = set w i step.next in
-        let move : WorldStep problem t forks w i (Makes step.by) w2 = (s, step.next, gets, weavers_away forks s.board.phase s.board.stack at, h.0, refl) in
+        let move : WorldStep problem t forks w i (Makes step.by) w2 = (s, step.next, gets, no_fork forks s.board.phase s.board.stack at, h.0, refl) in
         let first = one names problem t forks w w2 i (Makes step.by) (Some i) (first_at w i s gets at before) move refl in
         let first2 = subst (λ l. Seg w [] l w2) (told_is w s step.next step.by gets) first in
         let rest =

@@ -1,9 +1,9 @@
 -- What the loop over the steps keeps, for a program's game and a good table.
-use Rattle.std.proofs.Common.{◌≡◌, ℕ, zero, suc, ◌+◌, ◌<◌, ◌≤◌, List, [], ◌∷◌, ◌++◌, map, take, length, get_or, Bool, true, false, Option, Some, None, option_map, refl, sym, ap, ◌∙◌, subst, arith, add-one}
+use Rattle.std.proofs.Common.{◌≡◌, ℕ, zero, suc, ◌+◌, ◌<◌, ◌≤◌, List, [], ◌∷◌, ◌++◌, map, take, length, get_or, Bool, true, false, Option, Some, None, option_map, refl, sym, ap, ◌∙◌, subst, arith}
 use Rattle.std.specs.Prelude.{slice_get, count_by}
-use Rattle.std.proofs.lemmas.List.{take_all, map-append, length-map}
+use Rattle.std.proofs.lemmas.List.{take_all, take_more, map-append, length-map}
 use Rattle.std.proofs.lemmas.List.Sums.{sum_by_more, sum_by-take-le}
-use Rattle.std.proofs.lemmas.Option.{none-some, slice_get-map, slice_get_within}
+use Rattle.std.proofs.lemmas.Option.{none-some, slice_get-map, slice_get_read, slice_get_within}
 use Rattle.cw_rights.specs.declared.capabilities.Caps.{Caps}
 use Rattle.cw_rights.specs.Words.{Word as Letters}
 use Rattle.cw_rights.specs.Policies.{PlainPolicy, policy_of}
@@ -55,17 +55,7 @@ plan_here h source file = plan_of (names_of (policy_of h.states.policy)) source 
 
 -- One step more of the list.
 one_more : (steps : List StepData) (i : ℕ) (s : StepData) → i < length steps → s ≡ get_or steps i s → take (i + 1) steps ≡ take i steps ++ s ∷ []
-one_more steps i s lt is = rw add-one (more steps i s lt is)
-  where
-    more : (steps : List StepData) (i : ℕ) (s : StepData) → i < length steps → s ≡ get_or steps i s → take (suc i) steps ≡ take i steps ++ s ∷ []
-    more [] i s lt is = absurd (omega arith)
-    more (w ∷ steps) zero s lt is = ap (λ z. z ∷ []) (sym is)
-    more (w ∷ steps) (suc i) s lt is = ap (λ l. w ∷ l) (more steps i s (omega (arith, lt)) is)
-
-got : (steps : List StepData) (i : ℕ) (s : StepData) → i < length steps → s ≡ get_or steps i s → slice_get steps i ≡ Some s
-got [] i s lt is = absurd (omega arith)
-got (w ∷ steps) zero s lt is = ap Some (sym is)
-got (w ∷ steps) (suc i) s lt is = got steps i s (omega (arith, lt)) is
+one_more steps i s lt is = take_more steps i s lt ∙ ap (λ w. take i steps ++ w ∷ []) (sym is)
 
 words_taken : (steps : List StepData) (i : ℕ) → take i (map word_of steps) ≡ map word_of (take i steps)
 words_taken [] zero = refl
@@ -89,7 +79,8 @@ seam_no_fork forks (Todo (If at s t)) is j e = absurd (none-some j e)
 seam_no_fork forks (Test at true stepped s) is j e = absurd (none-some j e)
 seam_no_fork forks _ is j e = refl
 
-seen_fork : (forks : List ℕ) (i : Item) (is : Frame) (frames : List Frame) (phase : Phase) (spot : Spot) → Sees (i ∷ is) phase spot → forks_at_front forks phase ((i ∷ is) ∷ frames) ≡ is_fork_item forks i
+seen_fork : (forks : List ℕ) (i : Item) (is : Frame) (frames : List Frame) (phase : Phase) (spot : Spot) → Sees (i ∷ is) phase spot
+    → forks_at_front forks phase ((i ∷ is) ∷ frames) ≡ is_fork_item forks i
 seen_fork forks i is frames _ _ (sees_visit {j = j} e) = sym (seam_no_fork forks i is j e)
 seen_fork forks i is frames _ _ (sees_asked {j = j} e) = sym (seam_no_fork forks i is j e)
 seen_fork forks _ _ frames _ _ (sees_step quiet) = refl
@@ -101,13 +92,8 @@ seen_fork forks _ _ frames _ _ sees_call = refl
 seen_fork forks _ _ frames _ _ sees_split = refl
 seen_fork forks _ _ frames _ _ sees_end = refl
 
-first_item : Item → List Item → Item
-first_item d [] = d
-first_item d (i ∷ is) = i
-
 fronted : (i item : Item) → i ∷ [] ≡ item ∷ [] → i ≡ item
-unfolding first_item
-fronted i item e = ap (first_item i) e
+fronted i item e = cc
 
 none_front : (item : Item) → [] ≡ item ∷ [] → ⊥
 none_front item e = cc
@@ -182,7 +168,8 @@ module _ (h : Held) (source : List ℕ) (file : File) (t : Table) (names : Names
       subst (λ l. Kept [] ps l old new) (sym el) (subst (λ l. Kept [] l [] old new) (sym ep)
       (begins names g t plan of.states of.laid of.routines held holds forks safe (IsFlag h flags) flagged here old new a))
 
-  pub loop_went : (steps : List StepData) (i : ℕ) (s : StepData) (ps ps2 : List Process) (links links2 : List Link) (old mid new : List ℕ) (b : Bool) → i < length steps → s ≡ get_or steps i s → b ≡ true
+  pub loop_went : (steps : List StepData) (i : ℕ) (s : StepData) (ps ps2 : List Process) (links links2 : List Link) (old mid new : List ℕ) (b : Bool) → i < length steps
+      → s ≡ get_or steps i s → b ≡ true
       → Kept (map word_of (take i steps)) ps links old mid
       → Acted names g t held (IsFlag h flags) s.process s.fork s.by b ps ps2 links links2 mid new → Kept (map word_of (take (i + 1) steps)) ps2 links2 old new
   loop_went steps i s ps ps2 links links2 old mid new b lt is eb k a =
@@ -208,7 +195,7 @@ module _ (h : Held) (source : List ℕ) (file : File) (t : Table) (names : Names
       (subst (λ l. TellsWorld (problem_of policy source file) names t forks (map word_of steps) (BadStep i) old l) (sym a2.1)
       (bad names g t plan of.states of.laid of.routines held holds forks safe (IsFlag h flags) flagged (map word_of steps) i ps links old mid s.process s.fork s.by
       (subst (λ l. Kept l ps links old mid) (sym (words_taken steps i)) k)
-      (slice_get-map word_of steps i ∙ ap (option_map word_of) (got steps i s lt is)) a2.0))
+      (slice_get-map word_of steps i ∙ ap (option_map word_of) (slice_get_read steps (length steps) i s refl lt is)) a2.0))
 
   pub loop_done : (steps : List StepData) (i : ℕ) (ps : List Process) (links : List Link) (old new : List ℕ) (n : ℕ) → names ≡ trace_names_of source file plan → length steps ≤ i → n ≡ length ps
       → Kept (map word_of (take i steps)) ps links old new → Tells steps (Done n) old new

@@ -42,7 +42,8 @@ word_to i act = record { process = i; act = act }
 abbrev step_to : ℕ → Act → World → Step
 step_to i act next = record { process = i; act = act; next = next }
 
-no_fork : (forks : List ℕ) (phase : Phase) (stack : List Frame) → is_weavers_in phase ≡ true → forks_in forks phase stack ≡ false
+-- where the weaver moves nothing is at a fork
+pub no_fork : (forks : List ℕ) (phase : Phase) (stack : List Frame) → is_weavers_in phase ≡ true → forks_in forks phase stack ≡ false
 no_fork forks (Visit i a later) stack e = refl
 no_fork forks (Refused i a later) stack e = refl
 no_fork forks _ stack e = cc

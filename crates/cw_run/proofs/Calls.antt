@@ -27,7 +27,7 @@ use Rattle.cw_trace.specs.Traces.{Names, move_lines}
 use Rattle.cw_trace.specs.Told.{spot_lines}
 use Rattle.cw_run.specs.Walks.{Here, Wait, ret_of, config_of, mems_of, place}
 use Rattle.cw_run.proofs.Sees.{Sees, sees_visit, sees_asked, sees_step, sees_branch, sees_label, sees_open, sees_close, sees_call, sees_split, sees_end, see, below, board_on}
-use Rattle.cw_run.proofs.Sits.{IsCallOf, Waiting, Least, Sits, Stepped, arrived, told_by}
+use Rattle.cw_run.proofs.Sits.{IsCallOf, Waiting, Least, Sits, Stepped, arrived, told_by, state_of_board}
 
 module _ (names : Names) (g : Game) (t : Table) (plan : Plan) (right : AreStates g.policy g.spots g.states (Reached g.policy g.spots g.states)) (laid : IsLaidOut plan g) (has : HasRoutines plan g)
     (held : ℕ → Caps) (holds : (q : ℕ) (w : Word) (c : Caps) → Reached g.policy g.spots g.states q w c → held q ≡ c) where
@@ -36,9 +36,6 @@ module _ (names : Names) (g : Game) (t : Table) (plan : Plan) (right : AreStates
 
   abbrev Step : State → Move → List ℕ → Here → List Wait → Type 0
   Step s by lines to waits = Stepped names g t plan right laid has held holds s by lines to waits
-
-  abbrev state_of_board : Board → List ℕ → State
-  state_of_board b ms = record { board = b; mems = ms }
 
   abbrev phase_of : Bool → Phase
   phase_of true = FreeSplit

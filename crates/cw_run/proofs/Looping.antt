@@ -1,8 +1,8 @@
 -- What the loop over the tape keeps, for a program's game and a good table.
-use Rattle.std.proofs.Common.{◌≡◌, ℕ, zero, suc, ◌+◌, ◌<◌, ◌≤◌, List, [], ◌∷◌, ◌++◌, take, length, get_or, Option, Some, None, refl, sym, ap, subst, arith, add-one}
-use Rattle.std.specs.Prelude.{slice_get}
+use Rattle.std.proofs.Common.{◌≡◌, ℕ, ◌+◌, ◌<◌, ◌≤◌, List, [], ◌∷◌, ◌++◌, take, length, get_or, Option, Some, None, refl, sym, ap, ◌∙◌, subst}
 use Rattle.std.specs.List.{All}
-use Rattle.std.proofs.lemmas.List.{take_all}
+use Rattle.std.proofs.lemmas.List.{take_all, take_more}
+use Rattle.std.proofs.lemmas.Option.{slice_get_read}
 use Rattle.std.proofs.lemmas.List.Elements.{All-nil}
 use Rattle.cw_rights.specs.declared.capabilities.Caps.{Caps}
 use Rattle.cw_rights.specs.Words.{Word}
@@ -53,17 +53,7 @@ pub record LoopKeeps (names : Names) (h : Held) (t : Table) (plan : Plan) (words
   pub waiting : All (λ w. IsWait (game_of h) (wait_of w)) waits
 
 one_more : (tape : List Move) (i : ℕ) (by : Move) → i < length tape → by ≡ get_or tape i by → take (i + 1) tape ≡ take i tape ++ by ∷ []
-one_more tape i by lt is = rw add-one (more tape i by lt is)
-  where
-    more : (tape : List Move) (i : ℕ) (by : Move) → i < length tape → by ≡ get_or tape i by → take (suc i) tape ≡ take i tape ++ by ∷ []
-    more [] i by lt is = absurd (omega arith)
-    more (w ∷ tape) zero by lt is = ap (λ z. z ∷ []) (sym is)
-    more (w ∷ tape) (suc i) by lt is = ap (λ l. w ∷ l) (more tape i by (omega (arith, lt)) is)
-
-got : (tape : List Move) (i : ℕ) (by : Move) → i < length tape → by ≡ get_or tape i by → slice_get tape i ≡ Some by
-got [] i by lt is = absurd (omega arith)
-got (w ∷ tape) zero by lt is = ap Some (sym is)
-got (w ∷ tape) (suc i) by lt is = got tape i by (omega (arith, lt)) is
+one_more tape i by lt is = take_more tape i by lt ∙ ap (λ w. take i tape ++ w ∷ []) (sym is)
 
 module _ (h : Held) (source : List ℕ) (file : File) (t : Table) (names : Names) (valid : IsValid (policy_of h.states.policy))
     (lists : AreLists (uses_of (policy_of h.states.policy) h.graph.nodes.items) (lists_of h.states)) (drawn : IsGraph (names_of (policy_of h.states.policy)) source file h.graph)
@@ -112,7 +102,9 @@ module _ (h : Held) (source : List ℕ) (file : File) (t : Table) (names : Names
       let n = w.0 in
       subst (λ words. Keeps words place waits2 old new) (sym (one_more tape i by lt is))
       (record {
-        run = went names g t plan of.states of.laid of.routines held holds same refl (start_on g t plan) (take i tape) (here_of here) (innermost waits) (innermost waits2) (place_in place) old mid new by n k.run w.1 w.2;
+        run =
+            went names g t plan of.states of.laid of.routines held holds same refl (start_on g t plan) (take i tape) (here_of here) (innermost waits) (innermost waits2)
+            (place_in place) old mid new by n k.run w.1 w.2;
         there = there;
         waiting = all;
       })
@@ -131,13 +123,14 @@ module _ (h : Held) (source : List ℕ) (file : File) (t : Table) (names : Names
       let a = subst (λ z. Answered names g t held same (here_of here) by z (innermost waits) (innermost waits2) mid new) eo a0 in
       named tape (BadMove i) old new e
       (subst (λ l. Tells (problem_of policy source file) names t tape (BadMove i) old l) (sym a.1)
-      (bad_word names g t plan of.states of.laid of.routines held holds safe tape i by (here_of here) (innermost waits) old mid k.run (got tape i by lt is) a.0))
+      (bad_word names g t plan of.states of.laid of.routines held holds safe tape i by (here_of here) (innermost waits) old mid k.run (slice_get_read tape (length tape) i by refl lt is) a.0))
 
   pub loop_past : (tape : List Move) (i : ℕ) (by : Move) (p : PlaceData) (waits : List WaitData) (old new : List ℕ) → names ≡ trace_names_of source file plan → i < length tape
       → by ≡ get_or tape i by → p ≡ Over → Keeps (take i tape) p waits old new → Puts tape (BadMove i) old new
   loop_past tape i by p waits old new e lt is ep k0 =
       let k = subst (λ z. Keeps (take i tape) z waits old new) ep k0 in
-      named tape (BadMove i) old new e (past_end names g t plan of.states of.laid of.routines held holds safe tape i by (innermost waits) old new k.run (got tape i by lt is))
+      named tape (BadMove i) old new e (past_end names g t plan of.states of.laid of.routines held holds safe tape i by (innermost waits) old new k.run
+      (slice_get_read tape (length tape) i by refl lt is))
 
   all_read : (tape : List Move) (i : ℕ) (p : PlaceData) (waits : List WaitData) (old new : List ℕ) → length tape ≤ i → Keeps (take i tape) p waits old new → Keeps tape p waits old new
   all_read tape i p waits old new le k = subst (λ l. Keeps l p waits old new) (take_all i tape le) k

@@ -28,7 +28,7 @@ use Rattle.cw_trace.specs.Traces.{Names, move_lines, reached_lines, answered_lin
 use Rattle.cw_trace.specs.Lines.{try_line, stop_line}
 use Rattle.cw_run.specs.Walks.{Here, Wait, ret_of, config_of, mems_of, place}
 use Rattle.cw_run.proofs.Sees.{Sees, sees_visit, sees_asked, sees_step, sees_branch, sees_label, sees_open, sees_close, sees_call, sees_split, sees_end, see, below, board_on}
-use Rattle.cw_run.proofs.Sits.{Waiting, Least, Sits, Stepped, arrived}
+use Rattle.cw_run.proofs.Sits.{Waiting, Least, Sits, Stepped, arrived, state_of_board}
 use Rattle.cw_run.proofs.Calls.{Finishes}
 
 -- what is asked at the front
@@ -72,9 +72,6 @@ module _ (names : Names) (g : Game) (t : Table) (plan : Plan) (right : AreStates
     (held : ℕ → Caps) (holds : (q : ℕ) (w : Word) (c : Caps) → Reached g.policy g.spots g.states q w c → held q ≡ c) where
   abbrev problem : Problem
   problem = record { plan = plan; policy = g.policy }
-
-  abbrev state_of_board : Board → List ℕ → State
-  state_of_board b ms = record { board = b; mems = ms }
 
   -- The refusal, after which the weaver moves.
   pub record Refuses (s : State) (j i : ℕ) (a : Primitive) : Type 0 where

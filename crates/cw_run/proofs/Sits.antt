@@ -93,6 +93,10 @@ Waiting _ _ _ = ⊥
 abbrev pub Least : Game → Meaning
 Least g = Reached g.policy g.spots g.states
 
+-- a board with these memories
+abbrev pub state_of_board : Board → List ℕ → State
+state_of_board b ms = record { board = b; mems = ms }
+
 -- The state of a run is at this place, over these calls that wait.
 pub record Sits (plan : Plan) (g : Game) (s : State) (h : Here) (waits : List Wait) : Type 0 where
   -- by the same moves from the start
@@ -137,16 +141,14 @@ module _ (names : Names) (g : Game) (t : Table) (plan : Plan) (right : AreStates
     pub acts : move_lines names problem s.board s.board.phase by ≡ lines
     pub reaches : reached_lines names g.policy next.board next.board.phase ≡ label_of to
 
-  abbrev state_of_board : Board → List ℕ → State
-  state_of_board b ms = record { board = b; mems = ms }
-
   same_spot : (p : ℕ) (one other : Spot) → slice_get g.spots p ≡ Some one → slice_get g.spots p ≡ Some other → one ≡ other
   same_spot p one other e f = same_Some one other (sym e ∙ f)
 
   -- Within a function.
   inner_on : (frame : Frame) (frames : List Frame) (kept : List (Option Caps)) (caps : Caps) (word : Word) (phase : Phase) (h : Here) (waits : List Wait) (by : Move) (spot : Spot)
       (pair : ℕ × ℕ) (m : ℕ) → let b = board_on (frame ∷ frames) kept caps word phase in Together problem g b (config_of h waits)
-      → StandsOn (Least g) g (frame ∷ frames) kept caps word phase h.pos h.state (map ret_of waits) → Waiting frames kept waits → slice_get g.spots h.pos ≡ Some spot → is_inner spot ≡ true → weavers_in (Some spot) ≡ false → next_at g h.pos h.state by ≡ Some pair
+      → StandsOn (Least g) g (frame ∷ frames) kept caps word phase h.pos h.state (map ret_of waits) → Waiting frames kept waits → slice_get g.spots h.pos ≡ Some spot → is_inner spot ≡ true
+      → weavers_in (Some spot) ≡ false → next_at g h.pos h.state by ≡ Some pair
       → mem_after t h.mem spot by ≡ Some m → Stepped (state_of_board b (mems_of h waits)) by (spot_lines names g.policy g.main spot by) (place pair m) waits
   inner_on frame frames kept caps word phase h waits by spot pair m goes stands waiting es inner env en em =
       let rets = map ret_of waits in
@@ -185,7 +187,8 @@ module _ (names : Names) (g : Game) (t : Table) (plan : Plan) (right : AreStates
       (on s.board.stack s.board.kept s.board.caps s.board.word s.board.phase one.0 two.0 sits.goes sits.stands sits.waiting one.1 two.1))
     where
       on : (stack : List Frame) (kept : List (Option Caps)) (caps : Caps) (word : Word) (phase : Phase) (pair : ℕ × ℕ) (m : ℕ)
-          → Together problem g (board_on stack kept caps word phase) (config_of h waits) → StandsOn (Least g) g stack kept caps word phase h.pos h.state (map ret_of waits) → Waiting (below stack) kept waits → next_at g h.pos h.state by ≡ Some pair
+          → Together problem g (board_on stack kept caps word phase) (config_of h waits) → StandsOn (Least g) g stack kept caps word phase h.pos h.state (map ret_of waits)
+          → Waiting (below stack) kept waits → next_at g h.pos h.state by ≡ Some pair
           → mem_after t h.mem spot by ≡ Some m
           → Stepped (state_of_board (board_on stack kept caps word phase) (mems_of h waits)) by (spot_lines names g.policy g.main spot by) (place pair m) waits
       on [] kept caps word phase pair m goes stands waiting en em = absurd stands
