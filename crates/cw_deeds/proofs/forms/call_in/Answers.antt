@@ -1,7 +1,7 @@
 use Rattle.std.proofs.Common.{sym, ap, Some, ◌∙◌}
 use Rattle.cw_syntax.specs.Trees.{form_of}
 use Rattle.cw_value.specs.Machines.{call_from}
-use Rattle.cw_deeds.proofs.Heads.{for_form}
+use Rattle.cw_points.proofs.Shapes.{for_form}
 use Rattle.cw_deeds.proofs.forms.call_in.Goals as goal
 
 pub returns-in-For : goal.returns-in-For

@@ -1,6 +1,6 @@
 use Rattle.std.proofs.Common.{sym, ap}
 use Rattle.cw_value.specs.Deeds.{returned}
-use Rattle.cw_deeds.proofs.Heads.{for_form}
+use Rattle.cw_points.proofs.Shapes.{for_form}
 use Rattle.cw_deeds.proofs.forms.returned.Goals as goal
 
 pub returns-in-For : goal.returns-in-For

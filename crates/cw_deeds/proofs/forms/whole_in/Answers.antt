@@ -1,6 +1,6 @@
 use Rattle.std.proofs.Common.{sym, ap, Some}
 use Rattle.cw_value.specs.Machines.{whole_from}
-use Rattle.cw_deeds.proofs.Heads.{for_form}
+use Rattle.cw_points.proofs.Shapes.{for_form}
 use Rattle.cw_deeds.proofs.forms.whole_in.Goals as goal
 
 pub returns-in-For : goal.returns-in-For
