@@ -1,5 +1,5 @@
 -- A text read line by line.
-use Rattle.std.proofs.Common.{◌≡◌, ◌≢◌, ℕ, suc, ◌+◌, ◌-◌, ◌^◌, ◌<◌, ◌≤◌, ℤ, List, [], ◌∷◌, ◌++◌, length, map, Bool, true, false, Option, Some, None, refl, sym, ap, ◌∙◌, subst, arith, append-nil}
+use Rattle.std.proofs.Common.{◌≡◌, ◌≢◌, ℕ, suc, ◌+◌, ◌-◌, ◌^◌, ◌<◌, ◌≤◌, ℤ, List, [], ◌∷◌, ◌++◌, length, map, Bool, true, false, Some, None, refl, sym, ap, ◌∙◌, subst, arith, append-nil}
 use Rattle.std.proofs.Common.{length-append}
 use Rattle.std.specs.Prelude.{slice_get}
 use Rattle.std.specs.Global.{Vec}
@@ -20,7 +20,7 @@ use Rattle.cw_answers.specs.Faults.{AreAnswers, IsFault}
 use Rattle.cw_answers.specs.Reading.{name_of, by_name, is_behind, last_of, NoName, NoTry, NoCall}
 use Rattle.cw_answers.proofs.Words.{tell}
 use Rattle.cw_answers.proofs.Stages.{Names, body, lines-body, lines_fit, may_follow, nothing_follows, begins_so, not_whole, not_empty, body_front, whole_front, empty_front, sorted_push, stage_of}
-use Rattle.cw_answers.proofs.Stages.{after, lost, stage_in}
+use Rattle.cw_answers.proofs.Stages.{after, lost, stage_in, head_never}
 
 abbrev NameData : Type 0
 NameData = Vec ℕ × ℤ
@@ -46,24 +46,28 @@ names_push old new n e = ap (map name_of) e ∙ map-append name_of old (n ∷ []
 lines_push : (old new : List NameData) (n : NameData) → new ≡ old ++ n ∷ [] → map name_line (map name_of new) ≡ map name_line (map name_of old) ++ name_line (name_of n) ∷ []
 lines_push old new n e = ap (map name_line) (names_push old new n e) ∙ map-append name_line (map name_of old) (name_of n ∷ [])
 
-pub names_more : (text rest more : List ℕ) (old new : List NameData) (n : NameData) (name : List ℕ) (value : ℤ) → new ≡ old ++ n ∷ [] → n.0.items ≡ name → n.1 ≡ value → text ≡ Lines (map name_line (map name_of old)) ++ rest
+pub names_more : (text rest more : List ℕ) (old new : List NameData) (n : NameData) (name : List ℕ) (value : ℤ) → new ≡ old ++ n ∷ [] → n.0.items ≡ name → n.1 ≡ value
+    → text ≡ Lines (map name_line (map name_of old)) ++ rest
     → StartsWith FitsLine line_words rest (Name name value) more → text ≡ Lines (map name_line (map name_of new)) ++ more
 names_more text rest more old new n name value e is same h s =
     let there = subst (λ x. StartsWith FitsLine line_words rest (Name x n.1) more) (sym is) (subst (λ z. StartsWith FitsLine line_words rest (Name name z) more) (sym same) s) in
     line_more FitsLine line_words tell text rest more (map name_line (map name_of old)) (name_line (name_of n)) h there ∙ ap (λ ls. Lines ls ++ more) (sym (lines_push old new n e))
 
-pub names_fit : (old new : List NameData) (n : NameData) (name : List ℕ) (value : ℤ) → new ≡ old ++ n ∷ [] → n.0.items ≡ name → n.1 ≡ value → All FitsLine (map name_line (map name_of old)) → FitsLine (Name name value)
+pub names_fit : (old new : List NameData) (n : NameData) (name : List ℕ) (value : ℤ) → new ≡ old ++ n ∷ [] → n.0.items ≡ name → n.1 ≡ value → All FitsLine (map name_line (map name_of old))
+    → FitsLine (Name name value)
     → All FitsLine (map name_line (map name_of new))
 names_fit old new n name value e is same h f =
     subst (All FitsLine) (sym (lines_push old new n e)) (All-push FitsLine (map name_line (map name_of old)) (name_line (name_of n)) h
     (subst (λ x. FitsLine (Name x n.1)) (sym is) (subst (λ z. FitsLine (Name name z)) (sym same) f)))
 
-pub names_ascend : (old new : List NameData) (n : NameData) (name : List ℕ) → new ≡ old ++ n ∷ [] → n.0.items ≡ name → IsStrictlySortedBy by_name (map name_of old) → is_behind (last_of None (map name_of old)) name ≡ true
+pub names_ascend : (old new : List NameData) (n : NameData) (name : List ℕ) → new ≡ old ++ n ∷ [] → n.0.items ≡ name → IsStrictlySortedBy by_name (map name_of old)
+    → is_behind (last_of None (map name_of old)) name ≡ true
     → IsStrictlySortedBy by_name (map name_of new)
 names_ascend old new n name e is h b =
     subst (IsStrictlySortedBy by_name) (sym (names_push old new n e)) (sorted_push (map name_of old) (name_of n) h (ap (is_behind (last_of None (map name_of old))) is ∙ b))
 
-pub no_name : (names : Names) (text rest : List ℕ) (name : List ℕ) (value : ℤ) → StartsWith FitsLine line_words text (Name name value) rest → is_behind (last_of None names) name ≡ false → NoName names text
+pub no_name : (names : Names) (text rest : List ℕ) (name : List ℕ) (value : ℤ) → StartsWith FitsLine line_words text (Name name value) rest → is_behind (last_of None names) name ≡ false
+    → NoName names text
 no_name names text rest name value s never other z more b t =
     false≢true (sym never ∙ ap (is_behind (last_of None names)) (ap name_in (one_start FitsLine line_words tell text rest more (Name name value) (Name other z) s t).0) ∙ b)
   where
@@ -153,16 +157,13 @@ module _ (text first second third last : List ℕ) (names : Names) (tries : List
       → after (stage_of the_answers) next ≢ lost → StartsWith FitsLine line_words last next more → ⊥
   follows_none not_named not_tried not_called over next more may s = by names tries calls next tried called may not_named s
     where
-      head_never : (l : Option (List ℕ)) (ts : List Move) (cs : List ℤ) → after (stage_in l ts cs) Head ≡ lost
-      head_never l [] [] = refl
-      head_never l (t ∷ ts) [] = refl
-      head_never l ts (c ∷ cs) = refl
-
-      named_next : (ns : Names) (n : List ℕ) (v : ℤ) (t : Bool) → is_behind (last_of None ns) n ≡ t → after (stage_in (last_of None ns) [] []) (Name n v) ≢ lost → NoName ns last → StartsWith FitsLine line_words last (Name n v) more → ⊥
+      named_next : (ns : Names) (n : List ℕ) (v : ℤ) (t : Bool) → is_behind (last_of None ns) n ≡ t → after (stage_in (last_of None ns) [] []) (Name n v) ≢ lost → NoName ns last
+          → StartsWith FitsLine line_words last (Name n v) more → ⊥
       named_next ns n v true is may none s = none n v more is s
       named_next ns n v false is may none s = may (rw is refl)
 
-      by : (ns : Names) (ts : List Move) (cs : List ℤ) (next : AnswerLine) → second ≡ Lines (map Try ts) ++ third → third ≡ Lines (map Call cs) ++ last → after (stage_in (last_of None ns) ts cs) next ≢ lost
+      by : (ns : Names) (ts : List Move) (cs : List ℤ) (next : AnswerLine) → second ≡ Lines (map Try ts) ++ third → third ≡ Lines (map Call cs) ++ last
+          → after (stage_in (last_of None ns) ts cs) next ≢ lost
           → NoName ns second → StartsWith FitsLine line_words last next more → ⊥
       by ns ts cs Head t c may none s = may (head_never (last_of None ns) ts cs)
       by ns ts cs End t c may none s = over more s
@@ -173,7 +174,8 @@ module _ (text first second third last : List ℕ) (names : Names) (tries : List
       by ns (m ∷ ts) [] (Name n v) t c may none s = may refl
       by ns ts (k ∷ cs) (Name n v) t c may none s = may refl
 
-  pub fault_line : NoName names second → NoTry third → NoCall last → ((more : List ℕ) → StartsWith FitsLine line_words last End more → ⊥) → IsFault text (length names + length tries + length calls + 2)
+  pub fault_line : NoName names second → NoTry third → NoCall last → ((more : List ℕ) → StartsWith FitsLine line_words last End more → ⊥)
+      → IsFault text (length names + length tries + length calls + 2)
   fault_line not_named not_tried not_called over = record {
     before = body the_answers;
     rest = last;

@@ -134,7 +134,8 @@ unfolding IsStrictlySortedBy
 next_behind n [] s = tt
 next_behind n (m ∷ ns) s = ap is_lt s.0.0
 
-names_run : (last : Option (List ℕ)) (ns : Names) (rest : List AnswerLine) → IsStrictlySortedBy by_name ns → FirstBehind last ns → run (named last) (map name_line ns ++ rest) ≡ run (named (last_of last ns)) rest
+names_run : (last : Option (List ℕ)) (ns : Names) (rest : List AnswerLine) → IsStrictlySortedBy by_name ns → FirstBehind last ns
+    → run (named last) (map name_line ns ++ rest) ≡ run (named (last_of last ns)) rest
 unfolding IsStrictlySortedBy
 names_run last [] rest s b = refl
 names_run last (n ∷ ns) rest s b = ap (λ t. run (cond t (named (Some n.0)) lost) (map name_line ns ++ rest)) b ∙ names_run (Some n.0) ns rest s.1 (next_behind n ns s)
@@ -158,7 +159,8 @@ calls_run last (t ∷ ts) (c ∷ cs) = called_run cs
 
 body_run : (a : Answers) → AreInOrder a → run begins (body a) ≡ stage_of a
 body_run a h =
-    names_run None a.names (map Try a.tries ++ map Call a.calls) h.ascend (first a.names) ∙ tries_run (last_of None a.names) a.tries (map Call a.calls) ∙ calls_run (last_of None a.names) a.tries a.calls
+    names_run None a.names (map Try a.tries ++ map Call a.calls) h.ascend (first a.names) ∙ tries_run (last_of None a.names) a.tries (map Call a.calls)
+    ∙ calls_run (last_of None a.names) a.tries a.calls
   where
     first : (ns : Names) → FirstBehind None ns
     first [] = tt
@@ -225,7 +227,9 @@ last-push last (m ∷ ns) n = last-push (Some m.0) ns n
 longer_fits : (a : Answers) → Fits a → (next : AnswerLine) → FitsLine next → (b : Answers) → AreInOrder b → body b ≡ body a ++ next ∷ [] → Fits b
 longer_fits a fits next f b h e = record {
   in_order = h;
-  lines = subst (All FitsLine) (sym (lines-body b ∙ ap (λ ls. ls ++ End ∷ []) e)) (All-push FitsLine (body a ++ next ∷ []) End (All-push FitsLine (body a) next (front (body a) (subst (All FitsLine) (lines-body a) fits.lines)) f) tt);
+  lines =
+      subst (All FitsLine) (sym (lines-body b ∙ ap (λ ls. ls ++ End ∷ []) e))
+      (All-push FitsLine (body a ++ next ∷ []) End (All-push FitsLine (body a) next (front (body a) (subst (All FitsLine) (lines-body a) fits.lines)) f) tt);
 }
   where
     front : (ls : List AnswerLine) → All FitsLine (ls ++ End ∷ []) → All FitsLine ls
@@ -242,7 +246,15 @@ abbrev up_to_tries : Names → List Move → Answers
 up_to_tries names ts = record { names = names; tries = ts; calls = [] }
 
 call_more : (a : Answers) → Fits a → (v : ℤ) → FitsLine (Call v) → Next a (Call v)
-call_more a fits v f = inr (with_call a v, record { fits = longer_fits a fits (Call v) f (with_call a v) (record { ascend = fits.in_order.ascend; answer = fits.in_order.answer }) lines; lines = lines; stage = stage a.tries a.calls })
+call_more a fits v f =
+    inr (
+      with_call a v,
+      record {
+        fits = longer_fits a fits (Call v) f (with_call a v) (record { ascend = fits.in_order.ascend; answer = fits.in_order.answer }) lines;
+        lines = lines;
+        stage = stage a.tries a.calls;
+      },
+    )
   where
     lines : body (with_call a v) ≡ body a ++ Call v ∷ []
     lines =
@@ -255,13 +267,16 @@ call_more a fits v f = inr (with_call a v, record { fits = longer_fits a fits (C
     stage (t ∷ ts) [] = refl
     stage ts (c ∷ cs) = refl
 
-try_more : (names : Names) (ts : List Move) (cs : List ℤ) → Fits (record { names = names; tries = ts; calls = cs }) → (by : Move) → FitsLine (Try by) → after (stage_in (last_of None names) ts cs) (Try by) ≢ lost
+try_more : (names : Names) (ts : List Move) (cs : List ℤ) → Fits (record { names = names; tries = ts; calls = cs }) → (by : Move) → FitsLine (Try by)
+    → after (stage_in (last_of None names) ts cs) (Try by) ≢ lost
     → Next (record { names = names; tries = ts; calls = cs }) (Try by)
 try_more names ts (c ∷ cs) fits by f may = absurd (may refl)
 try_more names ts [] fits by f may = inr (
   up_to_tries names (ts ++ by ∷ []),
   record {
-    fits = longer_fits (up_to_tries names ts) fits (Try by) f (up_to_tries names (ts ++ by ∷ [])) (record { ascend = fits.in_order.ascend; answer = All-push IsAnswer ts by fits.in_order.answer f }) lines;
+    fits =
+        longer_fits (up_to_tries names ts) fits (Try by) f (up_to_tries names (ts ++ by ∷ []))
+        (record { ascend = fits.in_order.ascend; answer = All-push IsAnswer ts by fits.in_order.answer f }) lines;
     lines = lines;
     stage = stage ts;
   },
@@ -291,13 +306,16 @@ name_more names [] [] fits n v f may = by (is_behind (last_of None names) n) ref
     by true is = inr (
       up_to_tries (names ++ (n, v) ∷ []) [],
       record {
-        fits = longer_fits (up_to_tries names []) fits (Name n v) f (up_to_tries (names ++ (n, v) ∷ []) []) (record { ascend = sorted_push names (n, v) fits.in_order.ascend is; answer = fits.in_order.answer }) lines;
+        fits =
+            longer_fits (up_to_tries names []) fits (Name n v) f (up_to_tries (names ++ (n, v) ∷ []) [])
+            (record { ascend = sorted_push names (n, v) fits.in_order.ascend is; answer = fits.in_order.answer }) lines;
         lines = lines;
         stage = ap (λ l. named l) (last-push None names (n, v)) ∙ sym (ap (λ t. cond t (named (Some n)) lost) is);
       },
     )
 
-head_never : (last : Option (List ℕ)) (ts : List Move) (cs : List ℤ) → after (stage_in last ts cs) Head ≡ lost
+-- no head may follow
+pub head_never : (last : Option (List ℕ)) (ts : List Move) (cs : List ℤ) → after (stage_in last ts cs) Head ≡ lost
 head_never last [] [] = refl
 head_never last (t ∷ ts) [] = refl
 head_never last ts (c ∷ cs) = refl

@@ -1,13 +1,11 @@
 -- The words of a line tell it.
-use Rattle.std.proofs.Common.{◌≡◌, ◌≢◌, ◌⊎◌, ℕ, cond, eqb, ℤ, pos, negsuc, w64, FitsSigned, to_z, of_z, subst, ◌++◌, List, [], ◌∷◌, length, get_or, Bool, true, false, refl, sym, ap, ◌∙◌, inl, inr, arith}
+use Rattle.std.proofs.Common.{◌≡◌, ◌≢◌, ◌⊎◌, ℕ, cond, eqb, ℤ, pos, negsuc, w64, FitsSigned, to_z, of_z, subst, ◌++◌, List, [], ◌∷◌, length, get_or, Bool, true, false, refl, sym, ap, ◌∙◌}
+use Rattle.std.proofs.Common.{inl, inr, arith}
 use Rattle.std.specs.Prelude.{codes, bytes_eq, IsTrue}
 use Rattle.std.specs.List.{All, list_all}
-use Rattle.std.specs.Char.{is_ascii_digit}
 use Rattle.std.specs.Fmt.{signed_decimal}
 use Rattle.std.proofs.Math.Facts.{to_z-of_z}
 use Rattle.std.proofs.lemmas.Bool.{false≢true, and_parts, and_from}
-use Rattle.std.proofs.lemmas.List.Elements.{All-nil}
-use Rattle.cw_core.specs.Ranges.{is_spelling_byte}
 use Rattle.cw_certs.specs.declared.moves.Move.{Move}
 use Rattle.cw_certs.specs.declared.moves.Move.TheVariants.{Skip, Try, Grant, Refuse, On, Left, Right, Opened, Failed, Stop}
 use Rattle.cw_rights.specs.Valid.{is_name, is_name_start, is_name_byte}
@@ -19,16 +17,13 @@ use Rattle.cw_text.proofs.Free.{free_from_test}
 use Rattle.cw_text_lines.specs.Lines.{StartsWith, Tell, AreTold}
 use Rattle.cw_text_lines.proofs.Starts.{starts_like, starts_unlike, starts_nowhere}
 use Rattle.cw_text_lines.proofs.Telling.{words_or_not, same_by, told_by}
-use Rattle.cw_text_lines.proofs.Separated.{more_free}
+use Rattle.cw_text_lines.proofs.Separated.{Separates, space as plain_space, lf as plain_lf, name_free as key_free, move_free, one_free, more_free}
 use Rattle.cw_value.specs.Shown.{IsAnswer}
 use Rattle.cw_answers.specs.AnswerLines as line
 use Rattle.cw_answers.specs.AnswerLines.{AnswerLine, line_words, FitsValue, FitsLine}
 use Rattle.cw_answers.proofs.Numbers.{value_free, value_from, value_back, value_or_not}
 
 -- ---- words without a mark
-
-key_free : (mark : ℕ) → is_spelling_byte mark ≡ false → (key : List ℕ) → list_all is_spelling_byte key ≡ true → IsFree mark key
-key_free mark differs key all = free_from_test is_spelling_byte mark key differs all
 
 name_bytes : (name : List ℕ) → IsTrue (is_name name) → list_all is_name_byte name ≡ true
 name_bytes [] named = absurd (false≢true named)
@@ -42,9 +37,9 @@ name_bytes (b ∷ rest) named =
 name_free : (mark : ℕ) → is_name_byte mark ≡ false → (name : List ℕ) → IsTrue (is_name name) → IsFree mark name
 name_free mark differs name named = free_from_test is_name_byte mark name differs (name_bytes name named)
 
-answer_free : (mark : ℕ) → is_spelling_byte mark ≡ false → (by : Move) → IsAnswer by → IsFree mark (move_name by)
-answer_free mark s Grant fits = key_free mark s (codes "grant") refl
-answer_free mark s Refuse fits = key_free mark s (codes "refuse") refl
+answer_free : (mark : ℕ) → Separates mark → (by : Move) → IsAnswer by → IsFree mark (move_name by)
+answer_free mark s Grant fits = move_free mark s Grant fits
+answer_free mark s Refuse fits = move_free mark s Refuse fits
 answer_free mark s Skip fits = absurd fits
 answer_free mark s Try fits = absurd fits
 answer_free mark s On fits = absurd fits
@@ -56,32 +51,29 @@ answer_free mark s Stop fits = absurd fits
 
 -- a mark that stands in no word
 record Parts (mark : ℕ) : Type 0 where
-  digit : is_ascii_digit mark ≡ false
+  plain : Separates mark
   sign : eqb 45 mark ≡ false
-  spelling : is_spelling_byte mark ≡ false
   name : is_name_byte mark ≡ false
-
-none_free : (mark : ℕ) → All (IsFree mark) []
-none_free mark = All-nil (IsFree mark)
 
 line_free : (mark : ℕ) → Parts mark → (l : AnswerLine) → FitsLine l → All (IsFree mark) (line_words l)
 line_free mark p line.Head fits =
-    more_free mark (codes "capweave") (codes "answers" ∷ codes "1" ∷ []) (key_free mark p.spelling (codes "capweave") refl)
-    (more_free mark (codes "answers") (codes "1" ∷ []) (key_free mark p.spelling (codes "answers") refl) (more_free mark (codes "1") [] (key_free mark p.spelling (codes "1") refl) (none_free mark)))
+    more_free mark (codes "capweave") (codes "answers" ∷ codes "1" ∷ []) (key_free mark p.plain (codes "capweave") refl)
+    (more_free mark (codes "answers") (codes "1" ∷ []) (key_free mark p.plain (codes "answers") refl) (one_free mark (codes "1") (key_free mark p.plain (codes "1") refl)))
 line_free mark p (line.Name name value) fits =
-    more_free mark (codes "name") (name ∷ signed_decimal value ∷ []) (key_free mark p.spelling (codes "name") refl)
-    (more_free mark name (signed_decimal value ∷ []) (name_free mark p.name name fits.0) (more_free mark (signed_decimal value) [] (value_free mark p.digit p.sign value fits.1) (none_free mark)))
+    more_free mark (codes "name") (name ∷ signed_decimal value ∷ []) (key_free mark p.plain (codes "name") refl)
+    (more_free mark name (signed_decimal value ∷ []) (name_free mark p.name name fits.0) (one_free mark (signed_decimal value) (value_free mark p.plain.digit p.sign value fits.1)))
 line_free mark p (line.Try by) fits =
-    more_free mark (codes "try") (move_name by ∷ []) (key_free mark p.spelling (codes "try") refl) (more_free mark (move_name by) [] (answer_free mark p.spelling by fits) (none_free mark))
+    more_free mark (codes "try") (move_name by ∷ []) (key_free mark p.plain (codes "try") refl) (one_free mark (move_name by) (answer_free mark p.plain by fits))
 line_free mark p (line.Call value) fits =
-    more_free mark (codes "call") (signed_decimal value ∷ []) (key_free mark p.spelling (codes "call") refl) (more_free mark (signed_decimal value) [] (value_free mark p.digit p.sign value fits) (none_free mark))
-line_free mark p line.End fits = more_free mark (codes "end") [] (key_free mark p.spelling (codes "end") refl) (none_free mark)
+    more_free mark (codes "call") (signed_decimal value ∷ []) (key_free mark p.plain (codes "call") refl)
+    (one_free mark (signed_decimal value) (value_free mark p.plain.digit p.sign value fits))
+line_free mark p line.End fits = one_free mark (codes "end") (key_free mark p.plain (codes "end") refl)
 
 space : Parts 32
-space = record { digit = refl; sign = refl; spelling = refl; name = refl }
+space = record { plain = plain_space; sign = refl; name = refl }
 
 lf : Parts 10
-lf = record { digit = refl; sign = refl; spelling = refl; name = refl }
+lf = record { plain = plain_lf; sign = refl; name = refl }
 
 some_words : (l : AnswerLine) → line_words l ≢ []
 some_words line.Head e = omega (arith, ap length e)
@@ -144,7 +136,8 @@ pub said : (text front rest : List ℕ) (words : List (List ℕ)) (l shown : Ans
     → StartsWith FitsLine line_words text shown rest
 said text front rest words l shown e w fits is same = subst (λ l. StartsWith FitsLine line_words text l rest) (sym same) (starts_like FitsLine line_words tell text front rest l e fits (is ∙ w))
 
-pub not_said : (text front rest more : List ℕ) (words : List (List ℕ)) (l : AnswerLine) → text ≡ front ++ (10 ∷ rest) → IsFree 10 front → words ≡ words_of 32 front → (FitsLine l → line_words l ≢ words)
+pub not_said : (text front rest more : List ℕ) (words : List (List ℕ)) (l : AnswerLine) → text ≡ front ++ (10 ∷ rest) → IsFree 10 front → words ≡ words_of 32 front
+    → (FitsLine l → line_words l ≢ words)
     → StartsWith FitsLine line_words text l more → ⊥
 not_said text front rest more words l e free w differ = starts_unlike FitsLine line_words tell text front rest more l e free (λ fits is. differ fits (is ∙ sym w))
 
@@ -152,7 +145,8 @@ pub nothing_said : (text : List ℕ) → IsFree 10 text → (l : AnswerLine) (mo
 nothing_said text free l more = starts_nowhere FitsLine line_words tell text free l more
 
 -- a line of a whole text of its own
-pub not_text : (text front rest more word : List ℕ) (l : AnswerLine) → text ≡ front ++ (10 ∷ rest) → IsFree 10 front → joined 32 (line_words l) ≡ word → front ≢ word → StartsWith FitsLine line_words text l more → ⊥
+pub not_text : (text front rest more word : List ℕ) (l : AnswerLine) → text ≡ front ++ (10 ∷ rest) → IsFree 10 front → joined 32 (line_words l) ≡ word → front ≢ word
+    → StartsWith FitsLine line_words text l more → ⊥
 not_text text front rest more word l e free is differs =
     starts_unlike FitsLine line_words tell text front rest more l e free (λ fits w. differs (sym (joined-words 32 front) ∙ ap (joined 32) (sym w) ∙ is))
 

@@ -1,19 +1,16 @@
 -- A step's words tell it.
 use Rattle.std.proofs.Common.{◌≡◌, ◌⊎◌, ℕ, ◌^◌, ◌<◌, cond, List, [], ◌∷◌, length, get_or, Bool, true, false, None, refl, sym, ap, ap₂, ◌∙◌, inl, inr, arith}
 use Rattle.std.specs.Prelude.{codes, bytes_eq}
-use Rattle.std.specs.List.{All, list_all}
-use Rattle.std.specs.Char.{is_ascii_digit}
+use Rattle.std.specs.List.{All}
 use Rattle.std.specs.Fmt.{decimal}
 use Rattle.std.specs.Str.Parse.{digits_value}
 use Rattle.std.proofs.lemmas.Fmt.{decimal_is_IsNumeral}
-use Rattle.std.proofs.lemmas.List.Elements.{All-nil, All-cons}
-use Rattle.cw_core.specs.Ranges.{is_spelling_byte}
 use Rattle.cw_certs.specs.declared.moves.Move.{Move}
 use Rattle.cw_certs.specs.declared.moves.Move.TheVariants.{Skip, Try, Grant, Refuse, On, Left, Right, Opened, Failed, Stop}
 use Rattle.cw_text.specs.Lines.{IsFree, Reads}
 use Rattle.cw_text.proofs.Names.{move_of}
-use Rattle.cw_text.proofs.Free.{free_from_test, decimal_free}
 use Rattle.cw_text_lines.specs.Lines.{Tell, AreTold}
+use Rattle.cw_text_lines.proofs.Separated.{Separates, space, lf, name_free, number_free, move_free, one_free, more_free}
 use Rattle.cw_text_lines.proofs.Telling.{words_or_not, below_or_not, same_by, told_by}
 use Rattle.cw_steps.specs.declared.step.Step.{Step}
 use Rattle.cw_steps.specs.Steps.{act_word, FitsAct, step_words, FitsStep}
@@ -21,26 +18,14 @@ use Rattle.cw_text.proofs.SomeAnswer.{environments_or_not}
 
 -- ---- words without a mark
 
-name_free : (mark : ℕ) → is_spelling_byte mark ≡ false → (name : List ℕ) → list_all is_spelling_byte name ≡ true → IsFree mark name
-name_free mark differs name all = free_from_test is_spelling_byte mark name differs all
-
-act_free : (mark : ℕ) → is_spelling_byte mark ≡ false → (fork : Bool) (by : Move) → FitsAct fork by → IsFree mark (act_word fork by)
+act_free : (mark : ℕ) → Separates mark → (fork : Bool) (by : Move) → FitsAct fork by → IsFree mark (act_word fork by)
 act_free mark s true by fits = name_free mark s (codes "fork") refl
-act_free mark s false Grant fits = name_free mark s (codes "grant") refl
-act_free mark s false Refuse fits = name_free mark s (codes "refuse") refl
-act_free mark s false On fits = name_free mark s (codes "on") refl
-act_free mark s false Left fits = name_free mark s (codes "left") refl
-act_free mark s false Right fits = name_free mark s (codes "right") refl
-act_free mark s false Opened fits = name_free mark s (codes "opened") refl
-act_free mark s false Failed fits = name_free mark s (codes "failed") refl
-act_free mark s false Skip fits = absurd fits
-act_free mark s false Try fits = absurd fits
-act_free mark s false Stop fits = absurd fits
+act_free mark s false by fits = move_free mark s by fits
 
-step_free : (mark : ℕ) → is_ascii_digit mark ≡ false → is_spelling_byte mark ≡ false → (s : Step) → FitsStep s → All (IsFree mark) (step_words s)
-step_free mark digit letter s fits =
-    All-cons (IsFree mark) (decimal s.process) (act_word s.fork s.by ∷ []) (decimal_free mark s.process digit (let small = fits.process in omega (arith, small)))
-    (All-cons (IsFree mark) (act_word s.fork s.by) [] (act_free mark letter s.fork s.by fits.act) (All-nil (IsFree mark)))
+step_free : (mark : ℕ) → Separates mark → (s : Step) → FitsStep s → All (IsFree mark) (step_words s)
+step_free mark separates s fits =
+    more_free mark (decimal s.process) (act_word s.fork s.by ∷ []) (number_free mark separates s.process fits.process)
+    (one_free mark (act_word s.fork s.by) (act_free mark separates s.fork s.by fits.act))
 
 -- ---- a step from its words
 
@@ -98,8 +83,8 @@ step_or_not s = go (below_or_not s.process (2 ^ 32)) (act_or_not s.fork s.by)
 pub tell : Tell FitsStep step_words
 tell = record {
   some = λ s e. omega (arith, ap length e);
-  spaceless = step_free 32 refl refl;
-  one_line = step_free 10 refl refl;
+  spaceless = step_free 32 space;
+  one_line = step_free 10 lf;
   same = same_by FitsStep step_words step_of step_back;
 }
 
