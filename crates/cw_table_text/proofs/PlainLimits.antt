@@ -19,29 +19,31 @@ use Rattle.std.proofs.lemmas.Bool.{and_parts as both_pass}
 cat : (a b : List ℕ) → IsFree 10 a → IsFree 10 b → IsFree 10 (a ++ b)
 cat a b p q = All-append (λ (x : ℕ). eqb x 10 ≡ false) a b p q
 
-digit_free : (name : List ℕ) (n : ℕ) → n < 3 → name ≡ (48 + n) ∷ [] → IsFree 10 name
-digit_free name zero lt e = subst (IsFree 10) (sym e) (free_from_test (λ b. ltb 44 b) 10 (48 ∷ []) refl refl)
-digit_free name (suc zero) lt e = subst (IsFree 10) (sym e) (free_from_test (λ b. ltb 44 b) 10 (49 ∷ []) refl refl)
-digit_free name (suc (suc zero)) lt e = subst (IsFree 10) (sym e) (free_from_test (λ b. ltb 44 b) 10 (50 ∷ []) refl refl)
-digit_free name (suc (suc (suc n))) lt e = absurd (omega (arith, lt))
-
-pub start_passes : (b : ℕ) → is_name_start b ≡ true → is_name_byte b ≡ true
+start_passes : (b : ℕ) → is_name_start b ≡ true → is_name_byte b ≡ true
 start_passes b e = rw e refl
 
-letters_free : (name : List ℕ) → is_name name ≡ true → IsFree 10 name
-letters_free [] e = absurd (cc)
-letters_free (b ∷ name) e =
-    let p = both_pass (is_name_start b) (list_all is_name_byte name) e in
-    free_from_test is_name_byte 10 (b ∷ name) refl (rw (start_passes b p.0, p.1) refl)
+-- a mark that stands in no name, below the digits
+module _ (mark : ℕ) (unnamed : is_name_byte mark ≡ false) (low : ltb 47 mark ≡ false) where
+  digit_free : (name : List ℕ) (n : ℕ) → n < 3 → name ≡ (48 + n) ∷ [] → IsFree mark name
+  digit_free name zero lt e = subst (IsFree mark) (sym e) (free_from_test (λ b. ltb 47 b) mark (48 ∷ []) low refl)
+  digit_free name (suc zero) lt e = subst (IsFree mark) (sym e) (free_from_test (λ b. ltb 47 b) mark (49 ∷ []) low refl)
+  digit_free name (suc (suc zero)) lt e = subst (IsFree mark) (sym e) (free_from_test (λ b. ltb 47 b) mark (50 ∷ []) low refl)
+  digit_free name (suc (suc (suc n))) lt e = absurd (omega (arith, lt))
 
-name_free : (name : List ℕ) → IsDescriptorName name → IsFree 10 name
-name_free name (inl e) = letters_free name e
-name_free name (inr d) = digit_free name d.0 d.1.0 d.1.1
+  letters_free : (name : List ℕ) → is_name name ≡ true → IsFree mark name
+  letters_free [] e = absurd (cc)
+  letters_free (b ∷ name) e =
+      let p = both_pass (is_name_start b) (list_all is_name_byte name) e in
+      free_from_test is_name_byte mark (b ∷ name) unnamed (rw (start_passes b p.0, p.1) refl)
 
-named_free : (ds : List PlainDescriptor) (k : ℕ) → All IsValidDescriptor ds → IsFree 10 (name_if (slice_get ds k))
-named_free [] k all = All-nil (λ (x : ℕ). eqb x 10 ≡ false)
-named_free (d ∷ ds) zero all = name_free d.name (All-head IsValidDescriptor d ds all).name
-named_free (d ∷ ds) (suc k) all = named_free ds k (All-tail IsValidDescriptor d ds all)
+  name_free : (name : List ℕ) → IsDescriptorName name → IsFree mark name
+  name_free name (inl e) = letters_free name e
+  name_free name (inr d) = digit_free name d.0 d.1.0 d.1.1
+
+  pub named_free : (ds : List PlainDescriptor) (k : ℕ) → All IsValidDescriptor ds → IsFree mark (name_if (slice_get ds k))
+  named_free [] k all = All-nil (λ (x : ℕ). eqb x mark ≡ false)
+  named_free (d ∷ ds) zero all = name_free d.name (All-head IsValidDescriptor d ds all).name
+  named_free (d ∷ ds) (suc k) all = named_free ds k (All-tail IsValidDescriptor d ds all)
 
 mask_free : (set : ℕ) → set ≤ all_rights → IsFree 10 (hexadecimal set)
 unfolding set_text
@@ -52,7 +54,7 @@ word_free policy index limit valid small keep =
     let name : List ℕ = descriptor_name policy limit.descriptor in
     let mask : List ℕ = hexadecimal limit.keep.0 in
     let index_is = decimal_free 10 index refl small in
-    let name_is = named_free policy.descriptors limit.descriptor valid.descriptors in
+    let name_is = named_free 10 refl refl policy.descriptors limit.descriptor valid.descriptors in
     let mask_is = mask_free limit.keep.0 keep in
     let comma = free_from_test (λ b. ltb 31 b) 10 (codes ",") refl refl in
     let nothing : IsFree 10 [] = All-nil (λ (x : ℕ). eqb x 10 ≡ false) in
