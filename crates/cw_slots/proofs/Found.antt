@@ -1,11 +1,7 @@
--- A value by its name, and a place in a list by what stands there.
-use Rattle.std.proofs.Common.{◌≡◌, ℕ, ◌+◌, ◌<◌, ◌≤◌, ℤ, List, ◌∷◌, Vec, Bool, true, false, cond, Option, Some, None, map, drop, length, get_or, ap, sym, ◌∙◌, find, option_map, position, Global}
+-- A value by its name.
+use Rattle.std.proofs.Common.{◌≡◌, ℕ, ◌+◌, ◌<◌, ◌≤◌, ℤ, List, ◌∷◌, Vec, Bool, true, false, cond, Option, Some, None, map, drop, length, get_or, ap, sym, ◌∙◌, find, option_map, Global}
 use Rattle.std.specs.Str.{bytes_eq}
-use Rattle.std.proofs.lemmas.List.{at_drop_more, at_drop_all, get_or_default}
-use Rattle.cw_resolve.proofs.Places.{Seeks, seeks_found}
-
-pub seeks_here : {X : Type 0} (q : X → Bool) (xs : List X) (i : ℕ) (d : X) → i < length xs → q (get_or xs i d) ≡ true → Seeks q xs i → Some i ≡ position q xs
-seeks_here q xs i d within passes before = seeks_found q xs i (get_or xs i d) within (get_or_default xs i d (get_or xs i d) within) passes before
+use Rattle.std.proofs.lemmas.List.{at_drop_more, at_drop_all}
 
 abbrev pub plain_pair : Vec ℕ Global × ℤ → List ℕ × ℤ
 plain_pair g = (g.0.items, g.1)
