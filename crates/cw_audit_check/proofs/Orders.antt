@@ -6,13 +6,14 @@ use Rattle.std.specs.List.Sorted.{IsStrictlySortedBy}
 use Rattle.std.specs.Cmp.{IsTotalOrder}
 use Rattle.std.specs.Ordering.{ordering_then, nat_cmp}
 use Rattle.std.specs.declared.cmp.Ordering.TheVariants.{Less}
-use Rattle.std.proofs.lemmas.Cmp.{nat_cmp_total, on_total, then_total}
+use Rattle.std.proofs.lemmas.Cmp.{on_total}
 use Rattle.std.proofs.lemmas.Bool.Decides.{nat_tests}
 use Rattle.cw_lemmas.proofs.Rising.{Rises, ascends_from}
 use Rattle.cw_game.proofs.Goods.{taken, none_first}
 use Rattle.std.proofs.lemmas.Bool.{and_parts}
 use Rattle.cw_audit_check.specs.Checks.{row_cmp, group_cmp, IsInRange, AreInRange}
 use Rattle.cw_audit_table.proofs.Closing.{places_at}
+use Rattle.cw_audit_check.proofs.LookUps.{key_of as row_key, key_total, group_key, group_total as group_key_total}
 use Rattle.std.specs.Prelude.{slice_get}
 use Rattle.std.proofs.lemmas.Option.{none-some, same_Some, slice_get-map}
 use Rattle.std.proofs.lemmas.Bool.{ltb-true}
@@ -86,10 +87,10 @@ abbrev pub no_row : ARow
 no_row = (record { 0 = 0 }, record { 0 = 0 }, 0)
 
 row_total : IsTotalOrder row_cmp
-row_total = then_total (on_total (λ (r : ARow). r.0.0) nat_cmp_total) (on_total (λ (r : ARow). r.1.0) nat_cmp_total)
+row_total = on_total row_key key_total
 
 group_total : IsTotalOrder group_cmp
-group_total = then_total (on_total (λ (r : Group). r.function) nat_cmp_total) (on_total (λ (r : Group). r.entered.0) nat_cmp_total)
+group_total = on_total group_key group_key_total
 
 -- Where the first condition fails nowhere, each row and each group comes after the one before it.
 after_less : (a b p x : ℕ) → (nat_lt a p || (nat_eq a p && nat_lt b x)) ≡ true → ordering_then (nat_cmp a p) (nat_cmp b x) ≡ Less

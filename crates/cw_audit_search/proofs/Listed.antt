@@ -18,7 +18,7 @@ use Rattle.cw_audit_table.specs.Conditions.{is_before, is_within, has_within, is
 use Rattle.cw_audit_table.specs.Conditions.{is_zero, is_mains, begins, is_inner, takes, moves_on, comes_back, enters, calls_on, IsGoodAudit, EndAlone}
 use Rattle.cw_audit_table.specs.Stated.{IsAttained, IsStated}
 use Rattle.cw_audit_table.proofs.Bounds.{IsClosedBy}
-use Rattle.cw_audit_table.proofs.Closing.{group_found, row_found}
+use Rattle.cw_audit_table.proofs.Closing.{group_found, row_found, before_lower}
 use Rattle.cw_audit_table.proofs.Least.{attained_stated}
 use Rattle.cw_audit_search.specs.Searches.{Found}
 use Rattle.cw_audit_search.specs.Sound.{IsFair, IsSound, IsPlace}
@@ -152,7 +152,7 @@ module _ (g : Game) (functions : ℕ) (fair : IsFair g functions) (s : Found) (s
         let first = l.groups.some i grp e in
         let w = row_of i 0 grp first.0 e first.1 in
         let entry : IsRowBelow s D grp.function grp.entered grp.reach (skipped g (g.entry grp.function)) grp.entered 0
-        = (w.0, sound.begun grp.function grp.entered first.0.pos first.0.state first.0.inside w.1, lower D (grp.reach + 0) (grp.reach + first.0.inside) (omega arith) w.2) in
+        = (w.0, sound.begun grp.function grp.entered first.0.pos first.0.state first.0.inside w.1, before_lower g D (grp.reach + 0) (grp.reach + first.0.inside) (omega arith) w.2) in
         both (not (is_mains g grp) || nat_eq grp.reach 0) _
         (implied (is_mains g grp) (nat_eq grp.reach 0) (λ mains.
         let k = and_parts (nat_eq grp.function g.main) (nat_eq grp.entered g.states.start) mains in
@@ -160,10 +160,6 @@ module _ (g : Game) (functions : ℕ) (fair : IsFair g functions) (s : Found) (s
         let w2 = subst (λ q. s.reach g.main q ≡ Some grp.reach) (eqb-true grp.entered g.states.start k.1) w1 in
         eq-eqb grp.reach 0 (sym (same_Some 0 grp.reach (sym sound.main ∙ w2)))))
         (ap is_zero (in_group i grp grp.reach (skipped g (g.entry grp.function)) grp.entered 0 e entry))
-      where
-        lower : (D : Option ℕ) (m n : ℕ) → m ≤ n → is_before D n ≡ true → is_before D m ≡ true
-        lower None m n le h = refl
-        lower (Some T) m n le h = lt-ltb (cut m) T (let k = ltb-true (cut n) T h in omega (arith, k, le))
 
     -- The table that lists it is good.
     pub listing_good : IsGoodAudit g functions t
