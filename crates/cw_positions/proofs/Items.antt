@@ -10,8 +10,8 @@ use Rattle.cw_rights.specs.Policies.{PlainPolicy}
 use Rattle.cw_certs.specs.declared.moves.Move.{Move}
 use Rattle.cw_certs.specs.declared.moves.Move.TheVariants.{Skip, Try, Grant, Refuse, On, Left, Right, Opened, Failed, Stop}
 use Rattle.cw_syntax.specs.Trees.{File}
-use Rattle.cw_syntax.specs.Plans.{Stm, Plain, Break, Continue, Return, Open, Close, Call, Group, Label, If, While, Do, For, Stms, end, then, Routine, Plan, plan_of}
-use Rattle.cw_syntax.specs.Frames.{Item, Test, End, Frame, Way, pass, front, init_if, after_if, start_stack}
+use Rattle.cw_syntax.specs.Plans.{Open, Close, Call, Label, Routine, Plan, plan_of}
+use Rattle.cw_syntax.specs.Frames.{Item, End, Frame, Way, pass, front, start_stack}
 use Rattle.cw_syntax.specs.Frames.{On as OnWay, Left as LeftWay, Right as RightWay, Opened as OpenedWay, Failed as FailedWay}
 use Rattle.cw_syntax.specs.Runnable.{IsRunnable}
 use Rattle.cw_resolve.specs.Scenes.{names_of}
@@ -27,9 +27,10 @@ use Rattle.cw_points.specs.declared.graph.Point.TheVariants as point
 use Rattle.cw_points.specs.declared.graph.Node.{Node}
 use Rattle.cw_points.specs.declared.graph.Part.{Part}
 use Rattle.cw_points.specs.declared.graph.Graph.{Graph}
-use Rattle.cw_points.specs.Points.{points_in, points_in_all, points_of, points_from, points, count, count_all, count_from, one_if, one_if_some}
+use Rattle.cw_points.specs.Points.{points_in_all, points_of, points_from, points, count_from}
 use Rattle.cw_points.specs.Graphs.{nodes, IsGraph}
 use Rattle.cw_points.specs.Walks.{Stand, stand, first_of, second_of, called, returned, leads, goes}
+use Rattle.cw_points.proofs.Held.{points_length_all}
 use Rattle.cw_points.proofs.Placed.{IsPart}
 use Rattle.cw_points.proofs.Laying.{placed_program}
 use Rattle.cw_points.proofs.Ways.{StackAt, Tied}
@@ -238,34 +239,6 @@ module _ (g : Graph) (policy : PlainPolicy) where
       nat_cases (suc m) (suc n) = elim (nat_cases m n) [ inl e ↦ inl (ap suc e) | inr l ↦ inr (⊎_elim (λ y. inl (omega (arith, y))) (λ y. inr (omega (arith, y))) l) ]
 
 -- ---- as many items as points
-
-init_length : (init : Option ℕ) (rest : Frame) → length (init_if init rest) ≡ one_if_some init + length rest
-init_length None rest = omega arith
-init_length (Some a) rest = omega arith
-
-after_length : (stepped : Bool) (a : ℕ) (rest : Frame) → length (after_if stepped a rest) ≡ one_if stepped + length rest
-after_length true a rest = omega arith
-after_length false a rest = omega arith
-
-mutual
-  points_length : (s : Stm) → length (points_in s) ≡ count s
-  points_length (Plain a) = refl
-  points_length (Break a) = refl
-  points_length (Continue a) = refl
-  points_length (Return a) = refl
-  points_length (Open a j d) = refl
-  points_length (Close a j d) = refl
-  points_length (Call a j callee) = refl
-  points_length (Group ss) = points_length_all ss
-  points_length (Label a mark j l s) = ap suc (points_length s)
-  points_length (If a s t) = ap suc (length-append (points_in s) (points_in t) ∙ omega (arith, points_length s, points_length t))
-  points_length (While a s) = ap suc (points_length s)
-  points_length (Do a s) = length-append (points_in s) (Test a true false s ∷ []) ∙ omega (arith, points_length s)
-  points_length (For a init decided stepped s) = init_length init (Test a decided stepped s ∷ after_if stepped a (points_in s)) ∙ ap (λ k. one_if_some init + suc k) (after_length stepped a (points_in s) ∙ ap (λ k. one_if stepped + k) (points_length s))
-
-  points_length_all : (ss : Stms) → length (points_in_all ss) ≡ count_all ss
-  points_length_all end = refl
-  points_length_all (then s ss) = length-append (points_in s) (points_in_all ss) ∙ omega (arith, points_length s, points_length_all ss)
 
 items_from : (f : ℕ) (rs : List Routine) → length (points_from f rs) ≡ count_from rs
 items_from f [] = refl
