@@ -14,11 +14,11 @@ use Rattle.cw_certs.specs.declared.rows.IntoRow.{IntoRow}
 use Rattle.cw_certs.specs.declared.rows.BackRow.{BackRow}
 use Rattle.cw_certs.specs.Tables.{Table}
 use Rattle.cw_game.specs.Games.{Game}
-use Rattle.cw_game.specs.Conditions.{fault_at, in_range, ranges, is_header, is_state, is_set, is_position, is_memory, is_memory_if, is_seam, is_stage, IsGoodTable}
-use Rattle.cw_game.specs.Conditions.{is_mem_row, is_live_row, is_try_row, is_at_row, is_open_row, is_into_row, is_back_row, InMems, InLive, InTries, InAts, InOpened, InClosed, InInto, InBack}
+use Rattle.cw_game.specs.Conditions.{fault_at, ranges, is_header, is_state, is_set, is_position, is_memory, is_memory_if, is_seam, is_stage, IsGoodTable}
+use Rattle.cw_game.specs.Conditions.{is_mem_row, is_live_row, is_try_row, is_at_row, is_open_row, is_into_row, is_back_row, InMems}
 use Rattle.std.proofs.lemmas.Bool.{and_parts}
 use Rattle.cw_lemmas.proofs.Lists.{all_append}
-use Rattle.cw_game.proofs.Goods.{taken, none_first, all_in}
+use Rattle.cw_game.proofs.Goods.{InRange, taken, none_first, in_ranges}
 use Rattle.cw_lazy_table.specs.Lazy.{table_rows}
 use Rattle.cw_product.specs.Product.{Held, game_of}
 use Rattle.cw_table_text.specs.declared.row.Row.TheVariants as row
@@ -69,47 +69,10 @@ rows_are_all t =
 
 -- ---- what the first condition asks of each list
 
-pub record InRange (g : Game) (t : Table) : Type 0 where
-  pub mems : list_all (is_mem_row g) t.mems ≡ true
-  pub live : list_all (is_live_row g t) t.live ≡ true
-  pub tries : list_all (is_try_row g t) t.tries ≡ true
-  pub ats : list_all (is_at_row g t) t.ats ≡ true
-  pub opened : list_all (is_open_row g t) t.opened ≡ true
-  pub closed : list_all (is_at_row g t) t.closed ≡ true
-  pub into : list_all (is_into_row g t) t.into ≡ true
-  pub back : list_all (is_back_row g t) t.back ≡ true
-
-in_ranges : (g : Game) (t : Table) → IsGoodTable g t → (is_header g t ≡ true) × InRange g t
-in_ranges g t good =
-    let mems = in_range InMems (is_mem_row g) t.mems in
-    let live = in_range InLive (is_live_row g t) t.live in
-    let tries = in_range InTries (is_try_row g t) t.tries in
-    let ats = in_range InAts (is_at_row g t) t.ats in
-    let opened = in_range InOpened (is_open_row g t) t.opened in
-    let closed = in_range InClosed (is_at_row g t) t.closed in
-    let into = in_range InInto (is_into_row g t) t.into in
-    let back = in_range InBack (is_back_row g t) t.back in
+header_and_ranges : (g : Game) (t : Table) → IsGoodTable g t → (is_header g t ≡ true) × InRange g t
+header_and_ranges g t good =
     let first = taken (is_header g t) _ (fault_at InMems 0 1) good in
-    let eight = none_first (ranges g t) _ first.1 in
-    let seven = none_first (mems ++ live ++ tries ++ ats ++ opened ++ closed ++ into) back eight.0 in
-    let six = none_first (mems ++ live ++ tries ++ ats ++ opened ++ closed) into seven.0 in
-    let five = none_first (mems ++ live ++ tries ++ ats ++ opened) closed six.0 in
-    let four = none_first (mems ++ live ++ tries ++ ats) opened five.0 in
-    let three = none_first (mems ++ live ++ tries) ats four.0 in
-    let two = none_first (mems ++ live) tries three.0 in
-    let one = none_first mems live two.0 in (
-      first.0,
-      record {
-        mems = all_in InMems (is_mem_row g) 0 t.mems one.0;
-        live = all_in InLive (is_live_row g t) 0 t.live one.1;
-        tries = all_in InTries (is_try_row g t) 0 t.tries two.1;
-        ats = all_in InAts (is_at_row g t) 0 t.ats three.1;
-        opened = all_in InOpened (is_open_row g t) 0 t.opened four.1;
-        closed = all_in InClosed (is_at_row g t) 0 t.closed five.1;
-        into = all_in InInto (is_into_row g t) 0 t.into six.1;
-        back = all_in InBack (is_back_row g t) 0 t.back seven.1;
-      },
-    )
+    (first.0, in_ranges g t (none_first (ranges g t) _ first.1).0)
 
 module _ (h : Held) (t : Table) (is : IsGameMade h) (few : length t.mems ≤ 65536) where
   abbrev g : Game
@@ -202,7 +165,7 @@ module _ (h : Held) (t : Table) (is : IsGameMade h) (few : length t.mems ≤ 655
 pub tables_have_texts : TablesHaveTexts
 tables_have_texts h t is good ascends rows =
     let g = game_of h in
-    let r = in_ranges g t good in
+    let r = header_and_ranges g t good in
     let head = and_parts (nat_eq t.states g.states.count) (is_memory t t.start) r.0 in
     let mems : length t.mems ≤ 65536 = omega (arith, rows) in
     let start = ltb-true t.start.0 (length t.mems) head.1 in

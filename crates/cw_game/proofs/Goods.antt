@@ -59,6 +59,45 @@ all_in part test n (r ∷ rows) h =
     let k = taken (test r) (first_failing (map (λ r. (fault_at part r.0 1, test r.1)) (enumerate_from (n + 1) rows))) (fault_at part n 1) h in
     both (test r) (list_all test rows) k.0 (all_in part test (n + 1) rows k.1)
 
+-- the rows of each list are in range
+pub record InRange (g : Game) (t : Table) : Type 0 where
+  pub mems : list_all (is_mem_row g) t.mems ≡ true
+  pub live : list_all (is_live_row g t) t.live ≡ true
+  pub tries : list_all (is_try_row g t) t.tries ≡ true
+  pub ats : list_all (is_at_row g t) t.ats ≡ true
+  pub opened : list_all (is_open_row g t) t.opened ≡ true
+  pub closed : list_all (is_at_row g t) t.closed ≡ true
+  pub into : list_all (is_into_row g t) t.into ≡ true
+  pub back : list_all (is_back_row g t) t.back ≡ true
+
+pub in_ranges : (g : Game) (t : Table) → first_failing (ranges g t) ≡ None → InRange g t
+in_ranges g t h =
+    let mems = in_range InMems (is_mem_row g) t.mems in
+    let live = in_range InLive (is_live_row g t) t.live in
+    let tries = in_range InTries (is_try_row g t) t.tries in
+    let ats = in_range InAts (is_at_row g t) t.ats in
+    let opened = in_range InOpened (is_open_row g t) t.opened in
+    let closed = in_range InClosed (is_at_row g t) t.closed in
+    let into = in_range InInto (is_into_row g t) t.into in
+    let back = in_range InBack (is_back_row g t) t.back in
+    let seven = none_first (mems ++ live ++ tries ++ ats ++ opened ++ closed ++ into) back h in
+    let six = none_first (mems ++ live ++ tries ++ ats ++ opened ++ closed) into seven.0 in
+    let five = none_first (mems ++ live ++ tries ++ ats ++ opened) closed six.0 in
+    let four = none_first (mems ++ live ++ tries ++ ats) opened five.0 in
+    let three = none_first (mems ++ live ++ tries) ats four.0 in
+    let two = none_first (mems ++ live) tries three.0 in
+    let one = none_first mems live two.0 in
+    record {
+      mems = all_in InMems (is_mem_row g) 0 t.mems one.0;
+      live = all_in InLive (is_live_row g t) 0 t.live one.1;
+      tries = all_in InTries (is_try_row g t) 0 t.tries two.1;
+      ats = all_in InAts (is_at_row g t) 0 t.ats three.1;
+      opened = all_in InOpened (is_open_row g t) 0 t.opened four.1;
+      closed = all_in InClosed (is_at_row g t) 0 t.closed five.1;
+      into = all_in InInto (is_into_row g t) 0 t.into six.1;
+      back = all_in InBack (is_back_row g t) 0 t.back seven.1;
+    }
+
 some_at : {A : Type 0} (xs : List A) (i : ℕ) → nat_lt i (length xs) ≡ true → (x : A) × (slice_get xs i ≡ Some x)
 some_at [] i h = let lt : i < 0 = ltb-true i 0 h in absurd (omega (arith, lt))
 some_at (x ∷ xs) zero h = (x, refl)
@@ -194,43 +233,13 @@ module _ (g : Game) (t : Table) where
       (row_good r.0.0 r.1.0 m.0 (slice_get t.mems r.1.0) m.1 w.0 (unmapped (λ c. fault_at InLive n c) (live_by g t r.0.0 r.1.0 (slice_get t.mems r.1.0)) k.0))
       (rows_good (n + 1) rows l.1 k.1)
 
-  live_in_range : first_failing (ranges g t) ≡ None → list_all (is_live_row g t) t.live ≡ true
-  live_in_range h =
-      let k7 = none_first (in_range InMems (is_mem_row g) t.mems
-      ++ in_range InLive (is_live_row g t) t.live
-      ++ in_range InTries (is_try_row g t) t.tries
-      ++ in_range InAts (is_at_row g t) t.ats
-      ++ in_range InOpened (is_open_row g t) t.opened
-      ++ in_range InClosed (is_at_row g t) t.closed
-      ++ in_range InInto (is_into_row g t) t.into) (in_range InBack (is_back_row g t) t.back) h in
-      let k6 = none_first (in_range InMems (is_mem_row g) t.mems
-      ++ in_range InLive (is_live_row g t) t.live
-      ++ in_range InTries (is_try_row g t) t.tries
-      ++ in_range InAts (is_at_row g t) t.ats
-      ++ in_range InOpened (is_open_row g t) t.opened
-      ++ in_range InClosed (is_at_row g t) t.closed) (in_range InInto (is_into_row g t) t.into) k7.0 in
-      let k5 = none_first (in_range InMems (is_mem_row g) t.mems
-      ++ in_range InLive (is_live_row g t) t.live
-      ++ in_range InTries (is_try_row g t) t.tries
-      ++ in_range InAts (is_at_row g t) t.ats
-      ++ in_range InOpened (is_open_row g t) t.opened) (in_range InClosed (is_at_row g t) t.closed) k6.0 in
-      let k4 = none_first (in_range InMems (is_mem_row g) t.mems
-      ++ in_range InLive (is_live_row g t) t.live
-      ++ in_range InTries (is_try_row g t) t.tries
-      ++ in_range InAts (is_at_row g t) t.ats) (in_range InOpened (is_open_row g t) t.opened) k5.0 in
-      let k3 =
-      none_first (in_range InMems (is_mem_row g) t.mems ++ in_range InLive (is_live_row g t) t.live ++ in_range InTries (is_try_row g t) t.tries) (in_range InAts (is_at_row g t) t.ats) k4.0 in
-      let k2 = none_first (in_range InMems (is_mem_row g) t.mems ++ in_range InLive (is_live_row g t) t.live) (in_range InTries (is_try_row g t) t.tries) k3.0 in
-      let l = none_first (in_range InMems (is_mem_row g) t.mems) (in_range InLive (is_live_row g t) t.live) k2.0 in
-      all_in InLive (is_live_row g t) 0 t.live l.1
-
   -- A good table is closed.
   pub good_closed : IsGoodTable g t → is_closed_table g t ≡ true
   good_closed h =
       let k = taken (is_header g t) _ (fault_at InMems 0 1) h in
       let r = none_first (ranges g t) ((fault_at InLive 0 2, begins g t) ∷ live_rows g t (enumerate_from 0 t.live)) k.1 in
       let b = taken (begins g t) _ (fault_at InLive 0 2) r.1 in
-      both (begins g t) (rows_ok g t t.live) b.0 (rows_good 0 t.live (live_in_range r.0) b.1)
+      both (begins g t) (rows_ok g t t.live) b.0 (rows_good 0 t.live (in_ranges g t r.0).live b.1)
 
 module _ (g : Game) (s : Strategy) where
   stands_at : (row p q e : ℕ) (r : Row) → slice_get s.rows row ≡ Some r → (nat_eq r.pos p && (nat_eq r.state q && nat_eq r.aim e)) ≡ true → IsAt s row p q e

@@ -1,5 +1,6 @@
 -- The first condition that fails of a list's rows, and of several lists.
-use Rattle.std.proofs.Common.{◌≡◌, ℕ, zero, suc, ◌+◌, ◌<◌, List, [], ◌∷◌, ◌++◌, map, length, Bool, true, false, cond, not, Option, Some, None, option_map, nat_lt, refl, sym, ap, ap₂, ◌∙◌, subst, arith}
+use Rattle.std.proofs.Common.{◌≡◌, ℕ, zero, suc, ◌+◌, ◌<◌, List, [], ◌∷◌, ◌++◌, map, length, Bool, true, false, cond, not, Option, Some, None, option_map, nat_lt, refl, sym, ap, ap₂, ◌∙◌}
+use Rattle.std.proofs.Common.{subst, arith}
 use Rattle.std.specs.Option.{option_or}
 use Rattle.std.specs.List.{enumerate_from, list_all, position_or_len}
 use Rattle.std.specs.Prelude.{position, slice_get}
@@ -8,13 +9,12 @@ use Rattle.std.proofs.lemmas.Bool.{ltb-true}
 use Rattle.cw_core.specs.declared.ids.StateId.{StateId}
 use Rattle.cw_certs.specs.Tables.{Table}
 use Rattle.cw_game.specs.Games.{Game}
-use Rattle.cw_game.specs.Conditions.{first_failing, Part, InMems, InLive, InTries, InAts, InOpened, InClosed, InInto, InBack, TableFault, fault_at, in_range, ranges, is_mem_row, is_live_row, is_try_row, is_at_row, is_open_row, is_into_row, is_back_row}
+use Rattle.cw_game.specs.Conditions.{first_failing, Part, TableFault, fault_at, in_range, is_mem_row}
 use Rattle.cw_game.proofs.Failing.{first_append}
 use Rattle.cw_wcheck.specs.declared.fault.BadRow.{BadRow}
 use Rattle.cw_wcheck.specs.Checking.{table_of, told}
 use Rattle.cw_wcheck.specs.Working.{MeanStates}
 use Rattle.cw_lemmas.proofs.Truths.{and_first as first_part, and_second as second_part}
-use Rattle.cw_game.proofs.Goods.{all_in as none_in}
 
 pub map_or : {A B : Type 0} (f : A → B) (o p : Option A) → option_map f (option_or o p) ≡ option_or (option_map f o) (option_map f p)
 map_or f None p = refl
@@ -84,36 +84,6 @@ told_ranges mems live tries ats opened closed into back a b c d e f g h pa pb pc
     told-append (mems ++ live ++ tries ++ ats ++ opened ++ closed ++ into) back _ h seven ph
 
 -- Where no row is out of range.
-none_or : {A : Type 0} (o p : Option A) → option_or o p ≡ None → (o ≡ None) × (p ≡ None)
-none_or None p h = (refl, h)
-none_or (Some x) p h = cc
-
-none_first : {A : Type 0} (xs ys : List (A × Bool)) → first_failing (xs ++ ys) ≡ None → first_failing xs ≡ None
-none_first xs ys h = (none_or (first_failing xs) (first_failing ys) (sym (first_append xs ys) ∙ h)).0
-
-none_later : {A : Type 0} (xs ys : List (A × Bool)) → first_failing (xs ++ ys) ≡ None → first_failing ys ≡ None
-none_later xs ys h = (none_or (first_failing xs) (first_failing ys) (sym (first_append xs ys) ∙ h)).1
-
--- the memories and the live rows are in range
-pub in_range_all : (g : Game) (t : Table) → first_failing (ranges g t) ≡ None → (list_all (is_mem_row g) t.mems ≡ true) × (list_all (is_live_row g t) t.live ≡ true)
-in_range_all g t h =
-    let mems = in_range InMems (is_mem_row g) t.mems in
-    let live = in_range InLive (is_live_row g t) t.live in
-    let tries = in_range InTries (is_try_row g t) t.tries in
-    let ats = in_range InAts (is_at_row g t) t.ats in
-    let opened = in_range InOpened (is_open_row g t) t.opened in
-    let closed = in_range InClosed (is_at_row g t) t.closed in
-    let into = in_range InInto (is_into_row g t) t.into in
-    let back = in_range InBack (is_back_row g t) t.back in
-    let seven = none_first (mems ++ live ++ tries ++ ats ++ opened ++ closed ++ into) back h in
-    let six = none_first (mems ++ live ++ tries ++ ats ++ opened ++ closed) into seven in
-    let five = none_first (mems ++ live ++ tries ++ ats ++ opened) closed six in
-    let four = none_first (mems ++ live ++ tries ++ ats) opened five in
-    let three = none_first (mems ++ live ++ tries) ats four in
-    let two = none_first (mems ++ live) tries three in
-    let one = none_first mems live two in
-    (none_in InMems (is_mem_row g) 0 t.mems one, none_in InLive (is_live_row g t) 0 t.live (none_later mems live two))
-
 pub mean_states : (g : Game) (t : Table) → list_all (is_mem_row g) t.mems ≡ true → MeanStates g t
 mean_states g t h = record { each = among t.mems h }
   where

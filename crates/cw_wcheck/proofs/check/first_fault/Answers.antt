@@ -2,7 +2,8 @@
 use Rattle.std.proofs.Common.{option_map, sym, ap, ◌∙◌}
 use Rattle.cw_product.specs.Product.{game_of}
 use Rattle.cw_wcheck.specs.Checking.{told}
-use Rattle.cw_wcheck.proofs.Faults.{in_range_all, mean_states}
+use Rattle.cw_game.proofs.Goods.{in_ranges}
+use Rattle.cw_wcheck.proofs.Faults.{mean_states}
 use Rattle.cw_wcheck.proofs.Lives.{all_positions, all_ranges, fault_in_ranges, fault_at_start, fault_in_rows}
 use Rattle.cw_wcheck.proofs.check.first_fault.Goals as goal
 
@@ -17,12 +18,12 @@ returns-then-not-begins c =
 pub row_fault-requires-clause-mems : goal.row_fault-requires-clause-mems
 row_fault-requires-clause-mems c =
     let none = all_ranges (game_of c.args.game.now) c.args.cert.now c.range_fault.result c.range_fault.ensures c.in_default.is in
-    mean_states (game_of c.args.game.now) c.args.cert.now (in_range_all (game_of c.args.game.now) c.args.cert.now none).0
+    mean_states (game_of c.args.game.now) c.args.cert.now (in_ranges (game_of c.args.game.now) c.args.cert.now none).mems
 
 pub row_fault-requires-clause-positions : goal.row_fault-requires-clause-positions
 row_fault-requires-clause-positions c =
     let none = all_ranges (game_of c.args.game.now) c.args.cert.now c.range_fault.result c.range_fault.ensures c.in_default.is in
-    all_positions (game_of c.args.game.now) c.args.cert.now (in_range_all (game_of c.args.game.now) c.args.cert.now none).1
+    all_positions (game_of c.args.game.now) c.args.cert.now (in_ranges (game_of c.args.game.now) c.args.cert.now none).live
 
 pub returns : goal.returns
 returns c =
