@@ -1,6 +1,5 @@
 -- Where the moves that a strategy names lead.
-use Rattle.std.proofs.Common.{◌≡◌, ℕ, ◌+◌, List, [], ◌∷◌, Bool, true, false, cond, Option, Some, None, option_map, nat_eq, refl, ap}
-use Rattle.std.proofs.lemmas.Nat.Bits.{bit_at-zero}
+use Rattle.std.proofs.Common.{◌≡◌, ℕ, ◌+◌, List, [], ◌∷◌, Bool, true, false, cond, Option, Some, None, option_map, refl}
 use Rattle.cw_rights.specs.declared.capabilities.Primitive.{Primitive}
 use Rattle.cw_rights.specs.declared.capabilities.Primitive.TheVariants.{Split}
 use Rattle.cw_certs.specs.declared.moves.Move.{Move}
@@ -8,12 +7,8 @@ use Rattle.cw_certs.specs.declared.moves.Move.TheVariants.{Skip, Try, Grant, Ref
 use Rattle.cw_game.specs.declared.spots.Spot.{Spot}
 use Rattle.cw_game.specs.declared.spots.Spot.TheVariants.{Visit as VisitSpot, Asked as AskedSpot, Call as CallSpot, SplitCall, Exit}
 use Rattle.cw_game.specs.Games.{Game, refuses_in, Ret, Config, at_pair, past_asked, leads_in, bad_in, weavers_in}
-use Rattle.cw_game.specs.Pairs.{has, is_call_in, is_exit_in}
+use Rattle.cw_game.specs.Pairs.{is_call_in, is_exit_in}
 use Rattle.cw_game.specs.Closed.{CallsIn}
-
--- a set without members
-pub empty : (q : ℕ) → has 0 q ≡ false
-empty q = ap (λ b. nat_eq b 1) (bit_at-zero q)
 
 module _ (g : Game) where
   -- what is neither a call nor an exit leads to the same pair over any returns
@@ -21,11 +16,14 @@ module _ (g : Game) where
   if_over true c rets = refl
   if_over false c rets = refl
 
-  granted_over : (p q : ℕ) (rets : List Ret) (a : Primitive) → option_map (λ (c : Config). at_pair c.pos c.state rets) (cond (g.states.may_grant q a) (Some (past_asked g p q a [])) None) ≡ cond (g.states.may_grant q a) (Some (past_asked g p q a rets)) None
+  granted_over : (p q : ℕ) (rets : List Ret) (a : Primitive)
+      → option_map (λ (c : Config). at_pair c.pos c.state rets) (cond (g.states.may_grant q a) (Some (past_asked g p q a [])) None)
+      ≡ cond (g.states.may_grant q a) (Some (past_asked g p q a rets)) None
   granted_over p q rets Split = if_over (g.states.may_grant q Split) (at_pair (p + 2) q []) rets
   granted_over p q rets a = if_over (g.states.may_grant q a) (at_pair (p + 1) (g.states.granted q a) []) rets
 
-  pub local_over : (p q : ℕ) (rets : List Ret) (spot : Option Spot) (by : Move) → is_call_in spot ≡ false → is_exit_in spot ≡ false → option_map (λ (c : Config). at_pair c.pos c.state rets) (leads_in g p q [] spot by) ≡ leads_in g p q rets spot by
+  pub local_over : (p q : ℕ) (rets : List Ret) (spot : Option Spot) (by : Move) → is_call_in spot ≡ false → is_exit_in spot ≡ false
+      → option_map (λ (c : Config). at_pair c.pos c.state rets) (leads_in g p q [] spot by) ≡ leads_in g p q rets spot by
   local_over p q rets (Some (AskedSpot j i a)) Grant c e = granted_over p q rets a
   local_over p q rets (Some (AskedSpot j i a)) Refuse c e = if_over (refuses_in g q a) (at_pair (p + 1) q []) rets
   local_over p q rets (Some (CallSpot j f n)) by c e = cc
@@ -43,11 +41,13 @@ module _ (g : Game) where
   local_over p q rets _ Stop c e = refl
 
   -- a call leads to its callee
-  pub calls_to : (p q f n : ℕ) (kept : Option ℕ) (rets : List Ret) (spot : Option Spot) → CallsIn q spot f n kept → (leads_in g p q rets spot On ≡ Some (at_pair (g.entry f) q (record { back = n; kept = kept } ∷ rets))) × (is_call_in spot ≡ true) × (bad_in g q spot ≡ false)
+  pub calls_to : (p q f n : ℕ) (kept : Option ℕ) (rets : List Ret) (spot : Option Spot) → CallsIn q spot f n kept
+      → (leads_in g p q rets spot On ≡ Some (at_pair (g.entry f) q (record { back = n; kept = kept } ∷ rets))) × (is_call_in spot ≡ true) × (bad_in g q spot ≡ false)
   calls_to p q f n kept rets (Some (CallSpot j f2 n2)) h = rw (h.0, h.1, h.2) (refl, refl, refl)
   calls_to p q f n kept rets (Some (SplitCall j f2 n2)) h = rw (h.0, h.1, h.2) (refl, refl, refl)
   calls_to p q f n kept rets _ h = absurd h
 
-  pub weavers_to : (p q : ℕ) (rets : List Ret) (spot : Option Spot) → weavers_in spot ≡ true → (leads_in g p q rets spot Skip ≡ Some (at_pair (p + 2) q rets)) × (leads_in g p q rets spot Try ≡ Some (at_pair (p + 1) q rets)) × (bad_in g q spot ≡ false)
+  pub weavers_to : (p q : ℕ) (rets : List Ret) (spot : Option Spot) → weavers_in spot ≡ true
+      → (leads_in g p q rets spot Skip ≡ Some (at_pair (p + 2) q rets)) × (leads_in g p q rets spot Try ≡ Some (at_pair (p + 1) q rets)) × (bad_in g q spot ≡ false)
   weavers_to p q rets (Some (VisitSpot j i a)) e = (refl, refl, refl)
   weavers_to p q rets _ e = cc

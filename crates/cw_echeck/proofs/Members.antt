@@ -1,5 +1,6 @@
 -- Sets of states: what the program's sets tell of the conditions.
-use Rattle.std.proofs.Common.{◌≡◌, ℕ, zero, suc, ◌+◌, ◌^◌, ◌<◌, ◌≤◌, ◌↔◌, List, [], ◌∷◌, Bool, true, false, Some, option_map, map, not, ◌&&◌, ◌||◌, cond, min, nat_lt, nat_eq, eqb-true, eq-eqb, refl, sym, ap, ◌∙◌, arith, ap₂, take, length, get_or, ◌==◌}
+use Rattle.std.proofs.Common.{◌≡◌, ℕ, zero, suc, ◌+◌, ◌^◌, ◌<◌, ◌≤◌, ◌↔◌, List, [], ◌∷◌, Bool, true, false, Some, option_map, map, not, ◌&&◌, ◌||◌, cond, min, nat_lt, nat_eq, eqb-true}
+use Rattle.std.proofs.Common.{eq-eqb, refl, sym, ap, ◌∙◌, arith, ap₂, take, length, get_or, ◌==◌}
 use Rattle.std.specs.Prelude.{IsTrue, is_some}
 use Rattle.std.specs.List.{list_all, list_any, range_with_len, find}
 use Rattle.std.specs.Cmp.{both_ways}
@@ -13,23 +14,11 @@ use Rattle.cw_core.specs.StateSet.{has as has_in, IsSubset, IsBelow}
 use Rattle.cw_core.proofs.Sets.{IsBelow-lt, IsBelow_from_lt}
 use Rattle.cw_certs.specs.Strategies.{back_of}
 use Rattle.cw_game.specs.Pairs.{has}
+use Rattle.cw_game.proofs.Members.{has_is}
 use Rattle.cw_game.proofs.Truths.{or_parts}
 use Rattle.std.proofs.lemmas.Bool.{and_parts, and_from as both, not-true as is_false}
 use Rattle.cw_echeck.specs.Checks.{backs_of, is_for}
 use Rattle.cw_lemmas.proofs.Lists.{all_range}
-
--- members as the program's sets and as the game tell them
-pub has_is : (set s : ℕ) → has_in set s ≡ has set s
-unfolding has_in
-has_is set s = refl
-
--- the members of a set that can have the numbers below 1024
-pub has_above : (set s : ℕ) → IsBelow 1024 set → 1024 ≤ s → has set s ≡ false
-has_above set s below le = by (has set s) refl
-  where
-    by : (b : Bool) → has set s ≡ b → b ≡ false
-    by true e = absurd (let l = below s (has_is set s ∙ e) in omega (arith, l, le))
-    by false e = refl
 
 -- what has the numbers below m that another set hasn't
 pub record IsRest (rest set m : ℕ) : Type 0 where

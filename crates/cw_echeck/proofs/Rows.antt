@@ -1,6 +1,7 @@
 -- The pair of a row is lost, within as many moves as the row's number and one more, under every promise that leaves out the exit states
 -- at which the row aims.
-use Rattle.std.proofs.Common.{◌≡◌, ◌≢◌, ℕ, zero, suc, ◌+◌, ◌<◌, List, [], ◌∷◌, Bool, true, false, cond, not, ◌&&◌, ◌||◌, Option, Some, None, option_map, nat_eq, eqb-true, refl, sym, ap, ap₂, ◌∙◌, arith}
+use Rattle.std.proofs.Common.{◌≡◌, ◌≢◌, ℕ, zero, suc, ◌+◌, ◌<◌, List, [], ◌∷◌, Bool, true, false, cond, not, ◌&&◌, ◌||◌, Option, Some, None, option_map, nat_eq, eqb-true, refl, sym, ap, ap₂}
+use Rattle.std.proofs.Common.{◌∙◌, arith}
 use Rattle.std.specs.Prelude.{slice_get}
 use Rattle.std.proofs.lemmas.Option.{none-some, same_Some, cond_some}
 use Rattle.cw_rights.specs.declared.capabilities.Primitive.{Primitive}
@@ -18,7 +19,8 @@ use Rattle.cw_game.specs.Standing.{IsGameOf}
 use Rattle.cw_echeck.proofs.Boards.{problem_in, Rests, moves_to, state_within, starts}
 use Rattle.cw_syntax.specs.Plans.{Plan}
 use Rattle.cw_lemmas.proofs.Truths.{not_both}
-use Rattle.cw_echeck.proofs.Leads.{empty, local_over, calls_to, weavers_to}
+use Rattle.cw_game.proofs.Members.{has_none}
+use Rattle.cw_echeck.proofs.Leads.{local_over, calls_to, weavers_to}
 use Rattle.cw_lemmas.proofs.Truths.{not_or as fails_where}
 use Rattle.std.proofs.lemmas.Bool.{and_left as fails_left, and_right as fails_right, or_from as fails_both}
 
@@ -31,7 +33,8 @@ module _ (g : Game) (h : ℕ → ℕ → Promise → Bool) where
   both_lost p q e (Some (Visit j i a)) w s t = fails_both (h (p + 2) q e) (h (p + 1) q e) s t
   both_lost p q e _ w s t = cc
 
-  call_lost : (p q f n : ℕ) (kept : Option ℕ) (e : Promise) (spot : Option Spot) → CallsIn q spot f n kept → h (g.entry f) q (λ x. h n (returned g.states kept x) e) ≡ false → holds_in g h p q e spot ≡ false
+  call_lost : (p q f n : ℕ) (kept : Option ℕ) (e : Promise) (spot : Option Spot) → CallsIn q spot f n kept → h (g.entry f) q (λ x. h n (returned g.states kept x) e) ≡ false
+      → holds_in g h p q e spot ≡ false
   call_lost p q f n kept e (Some (Call j f2 n2)) c = rw (c.0, c.1, c.2) (λ y. y)
   call_lost p q f n kept e (Some (SplitCall j f2 n2)) c = rw (c.0, c.1, c.2) (λ y. y)
   call_lost p q f n kept e _ c = absurd c
@@ -46,7 +49,8 @@ module _ (g : Game) (h : ℕ → ℕ → Promise → Bool) where
   chosen_lost : (can : Bool) (e : Promise) (p q p2 q2 : ℕ) → cond can (Some (at_pair p q [])) None ≡ Some (at_pair p2 q2 []) → h p2 q2 e ≡ false → (not can || h p q e) ≡ false
   chosen_lost can e p q p2 q2 s k = let y = cond_some can (at_pair p q []) (at_pair p2 q2 []) s in fails_where can (h p q e) y.0 (same_pair e p q p2 q2 y.1 k)
 
-  asked_lost : (p q j i : ℕ) (a : Primitive) (e : Promise) (by : Move) (p2 q2 : ℕ) → leads_in g p q [] (Some (Asked j i a)) by ≡ Some (at_pair p2 q2 []) → h p2 q2 e ≡ false → holds_in g h p q e (Some (Asked j i a)) ≡ false
+  asked_lost : (p q j i : ℕ) (a : Primitive) (e : Promise) (by : Move) (p2 q2 : ℕ) → leads_in g p q [] (Some (Asked j i a)) by ≡ Some (at_pair p2 q2 []) → h p2 q2 e ≡ false
+      → holds_in g h p q e (Some (Asked j i a)) ≡ false
   asked_lost p q j i Split e Grant p2 q2 s k = fails_left _ _ (chosen_lost (g.states.may_grant q Split) e (p + 2) q p2 q2 s k)
   asked_lost p q j i a e Grant p2 q2 s k = fails_left _ _ (chosen_lost (g.states.may_grant q a) e (p + 1) (g.states.granted q a) p2 q2 s k)
   asked_lost p q j i Split e Refuse p2 q2 s k = fails_right (not (g.states.may_grant q Split) || h (p + 2) q e) _ (chosen_lost (refuses_in g q Split) e (p + 1) q p2 q2 s k)
@@ -54,7 +58,8 @@ module _ (g : Game) (h : ℕ → ℕ → Promise → Bool) where
   asked_lost p q j i a e _ p2 q2 s k = absurd (none-some (at_pair p2 q2 []) s)
 
   -- a move of the environment that leads to what is lost
-  move_lost : (p q : ℕ) (e : Promise) (spot : Option Spot) (by : Move) (p2 q2 : ℕ) → weavers_in spot ≡ false → is_call_in spot ≡ false → is_exit_in spot ≡ false → leads_in g p q [] spot by ≡ Some (at_pair p2 q2 []) → h p2 q2 e ≡ false → holds_in g h p q e spot ≡ false
+  move_lost : (p q : ℕ) (e : Promise) (spot : Option Spot) (by : Move) (p2 q2 : ℕ) → weavers_in spot ≡ false → is_call_in spot ≡ false → is_exit_in spot ≡ false
+      → leads_in g p q [] spot by ≡ Some (at_pair p2 q2 []) → h p2 q2 e ≡ false → holds_in g h p q e spot ≡ false
   move_lost p q e (Some (Visit j i a)) by p2 q2 w c x s k = cc
   move_lost p q e (Some (Call j f n)) by p2 q2 w c x s k = cc
   move_lost p q e (Some (SplitCall j f n)) by p2 q2 w c x s k = cc
@@ -98,7 +103,8 @@ module _ (plan : Plan) (g : Game) (game : IsGameOf (problem_in plan g) g) (s : S
   not_main f true ne h = absurd (ne (eqb-true f g.main h))
   not_main f false ne h = h
 
-  by_how : (n i pos q aim : ℕ) (rets : List Ret) (promised : Promise) (how : How) → IsSuch (at_pair pos q rets) → HowOk g s i pos q aim how → ((k : ℕ) → k < i → IsLostFor n k) → LeavesOut aim rets promised → Holds g (suc n) pos q promised ≡ false
+  by_how : (n i pos q aim : ℕ) (rets : List Ret) (promised : Promise) (how : How) → IsSuch (at_pair pos q rets) → HowOk g s i pos q aim how → ((k : ℕ) → k < i → IsLostFor n k)
+      → LeavesOut aim rets promised → Holds g (suc n) pos q promised ≡ false
   by_how n i pos q aim rets promised Bad h ok below out = bad_lost g (Holds g n) pos q promised (slice_get g.spots pos) ok
   by_how n i pos q aim rets promised Out h ok below out =
       ap (holds_in g (Holds g n) pos q promised) ok.1
@@ -133,4 +139,4 @@ module _ (plan : Plan) (g : Game) (game : IsGameOf (problem_in plan g) g) (s : S
   pub closed_loses : (row : ℕ) → IsAt s row (g.entry g.main) g.states.start 0 → IsLost g (g.entry g.main) g.states.start (λ x. true)
   closed_loses row at =
       let such : IsSuch (at_pair (g.entry g.main) g.states.start []) = (start_board (problem_in plan g), starts plan g game) in
-      (suc row, row_lost (suc row) row (omega arith) (g.entry g.main) g.states.start 0 [] (λ x. true) such at (λ x ends y. absurd (not_both (has 0 x) y (empty x))))
+      (suc row, row_lost (suc row) row (omega arith) (g.entry g.main) g.states.start 0 [] (λ x. true) such at (λ x ends y. absurd (not_both (has 0 x) y (has_none x))))

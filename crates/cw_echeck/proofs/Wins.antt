@@ -13,7 +13,8 @@ use Rattle.cw_game.specs.Closed.{HowOk, IsClosedStrategy}
 use Rattle.cw_game.specs.Standing.{IsGameOf}
 use Rattle.cw_syntax.specs.Plans.{Plan}
 use Rattle.cw_lemmas.proofs.Truths.{not_both}
-use Rattle.cw_echeck.proofs.Leads.{empty, local_over, calls_to, weavers_to}
+use Rattle.cw_game.proofs.Members.{has_none}
+use Rattle.cw_echeck.proofs.Leads.{local_over, calls_to, weavers_to}
 use Rattle.cw_echeck.proofs.Boards.{problem_in, Rests, violates, moves_to, environments, at_call, at_end, state_within, starts}
 
 module _ (plan : Plan) (g : Game) (game : IsGameOf (problem_in plan g) g) (s : Strategy) (closed : IsClosedStrategy g s) where
@@ -46,16 +47,19 @@ module _ (plan : Plan) (g : Game) (game : IsGameOf (problem_in plan g) g) (s : S
   SureBelow i = (k : ℕ) → k < i → SureAt k
 
   -- one row more
-  by_row : (i : ℕ) (r : Row) (b : Board) (waiting : Backs) (n : ℕ) → slice_get s.rows i ≡ Some r → ((choices : List Bool) → n ≤ length choices → (steps : ℕ) × FollowsHow p (FollowedPlay p s steps) b waiting r.state r.how choices) → Sure i b waiting
+  by_row : (i : ℕ) (r : Row) (b : Board) (waiting : Backs) (n : ℕ) → slice_get s.rows i ≡ Some r
+      → ((choices : List Bool) → n ≤ length choices → (steps : ℕ) × FollowsHow p (FollowedPlay p s steps) b waiting r.state r.how choices) → Sure i b waiting
   by_row i r b waiting n er h =
       (n, λ choices le. let k = h choices le in (suc k.0, inr (subst (λ o. FollowsRow p (FollowedPlay p s k.0) b waiting o choices) (sym er) k.1)))
 
-  both_how : (b skipped tried_to : Board) (waiting : Backs) (state skip tried : ℕ) → Moves p b Skip skipped → Moves p b Try tried_to → (s0 : Sure skip skipped waiting) → (s1 : Sure tried tried_to waiting) → (choices : List Bool) → suc (s0.0 + s1.0) ≤ length choices → (steps : ℕ) × FollowsHow p (FollowedPlay p s steps) b waiting state (Both skip tried) choices
+  both_how : (b skipped tried_to : Board) (waiting : Backs) (state skip tried : ℕ) → Moves p b Skip skipped → Moves p b Try tried_to → (s0 : Sure skip skipped waiting)
+      → (s1 : Sure tried tried_to waiting) → (choices : List Bool) → suc (s0.0 + s1.0) ≤ length choices → (steps : ℕ) × FollowsHow p (FollowedPlay p s steps) b waiting state (Both skip tried) choices
   both_how b skipped tried_to waiting state skip tried m0 m1 s0 s1 [] le = absurd (omega (arith, le))
   both_how b skipped tried_to waiting state skip tried m0 m1 s0 s1 (false ∷ choices) le = let k = s0.1 choices (omega (arith, le)) in (k.0, (skipped, m0, k.1))
   both_how b skipped tried_to waiting state skip tried m0 m1 s0 s1 (true ∷ choices) le = let k = s1.1 choices (omega (arith, le)) in (k.0, (tried_to, m1, k.1))
 
-  out_how : (i : ℕ) (r : Row) (b : Board) (pos q f : ℕ) (rets : List Ret) (waiting : Backs) → slice_get s.rows i ≡ Some r → r.state ≡ q → r.how ≡ Out → slice_get g.spots pos ≡ Some (Exit f) → Stays b (at_pair pos q rets) → Back q rets waiting → Sure i b waiting
+  out_how : (i : ℕ) (r : Row) (b : Board) (pos q f : ℕ) (rets : List Ret) (waiting : Backs) → slice_get s.rows i ≡ Some r → r.state ≡ q → r.how ≡ Out → slice_get g.spots pos ≡ Some (Exit f)
+      → Stays b (at_pair pos q rets) → Back q rets waiting → Sure i b waiting
   out_how i r b pos q f [] waiting er es eh ep h k = absurd k
   out_how i r b pos q f (ret ∷ rets) [] er es eh ep h k = absurd k
   out_how i r b pos q f (ret ∷ rets) (backs ∷ waiting) er es eh ep h k =
@@ -65,7 +69,8 @@ module _ (plan : Plan) (g : Game) (game : IsGameOf (problem_in plan g) g) (s : S
       let sure = k.2 to.0 to.2 in
       by_row i r b (backs ∷ waiting) sure.0 er (λ choices le. let w = sure.1 choices le in (w.0, rw eh (e.0, e.1, (to.0, k.0, to.1.0, ap (back_of backs) es ∙ k.1, w.1))))
 
-  by_how : (i : ℕ) (b : Board) (pos q aim : ℕ) (rets : List Ret) (waiting : Backs) (how : How) → slice_get s.rows i ≡ Some (record { pos = pos; state = q; aim = aim; how = how }) → HowOk g s i pos q aim how → SureBelow i → Stays b (at_pair pos q rets) → Pays aim rets waiting → Sure i b waiting
+  by_how : (i : ℕ) (b : Board) (pos q aim : ℕ) (rets : List Ret) (waiting : Backs) (how : How) → slice_get s.rows i ≡ Some (record { pos = pos; state = q; aim = aim; how = how })
+      → HowOk g s i pos q aim how → SureBelow i → Stays b (at_pair pos q rets) → Pays aim rets waiting → Sure i b waiting
   by_how i b pos q aim rets waiting Bad er ok below h pays =
       (0, λ choices le. (0, violates plan g game b (at_pair pos q rets) h ok))
   by_how i b pos q aim rets waiting Out er ok below h pays =
@@ -100,7 +105,7 @@ module _ (plan : Plan) (g : Game) (game : IsGameOf (problem_in plan g) g) (s : S
       by_how i b pos q aim rets waiting at.0 at.1 (closed i _ at.1) (λ k l b pos q aim rets waiting at h pays. sure n k (omega (arith, lt, l)) b pos q aim rets waiting at h pays) h pays
 
   wins : (row : ℕ) → IsAt s row (g.entry g.main) g.states.start 0 → (b : Board) → Stays b (at_pair (g.entry g.main) g.states.start []) → Sure row b []
-  wins row at b h = sure (suc row) row (omega arith) b (g.entry g.main) g.states.start 0 [] [] at h (λ x lt y. absurd (not_both (has 0 x) y (empty x)))
+  wins row at b h = sure (suc row) row (omega arith) b (g.entry g.main) g.states.start 0 [] [] at h (λ x lt y. absurd (not_both (has 0 x) y (has_none x)))
 
 -- the same of a problem whose policy is the game's
 pub as_problem : (p : Problem) (g : Game) → IsGameOf p g → IsGameOf (problem_in p.plan g) g

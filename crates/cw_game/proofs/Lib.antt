@@ -12,3 +12,4 @@ pub mod Together
 pub mod Truths
 pub mod Failing
 pub mod Goods
+pub mod Members

@@ -5,9 +5,10 @@ use Rattle.std.proofs.lemmas.Bool.{lt-ltb, ltb-true}
 use Rattle.std.proofs.lemmas.Nat.Bits.{bit_at_lowest}
 use Rattle.std.specs.Cmp.{both_ways as same_bools}
 use Rattle.cw_core.specs.StateSet.{has as has_member}
-use Rattle.cw_core.proofs.Sets.{has-zero, has-suc}
+use Rattle.cw_core.proofs.Sets.{has-suc}
 use Rattle.cw_game.specs.Games.{Game, returned}
 use Rattle.cw_game.specs.Pairs.{has, Called, call_in, kept_at}
+use Rattle.cw_game.proofs.Members.{has_none}
 use Rattle.cw_product.specs.Routed.{AreRouted}
 use Rattle.cw_solve.proofs.Falls.{return_state, back_stays}
 use Rattle.cw_lemmas.proofs.Truths.{and_first, and_second, and_second_false}
@@ -26,15 +27,11 @@ unfolding has_member
 high true n s = let h : (1 + 2 * n) / 2 ≡ n = omega arith in has-suc (1 + 2 * n) s ∙ ap (λ y. has y s) h
 high false n s = let h : (0 + 2 * n) / 2 ≡ n = omega arith in has-suc (0 + 2 * n) s ∙ ap (λ y. has y s) h
 
-none_in : (x : ℕ) → has 0 x ≡ false
-unfolding has_member
-none_in x = has-zero x
-
 lt_none : (x : ℕ) → nat_lt x 0 ≡ false
 lt_none x = same_bools (nat_lt x 0) false (λ h. let l : x < 0 = ltb-true x 0 h in absurd (omega (arith, l))) (λ h. cc)
 
 pub set_by_is : (n : ℕ) (f : ℕ → Bool) (x : ℕ) → has (set_by n f) x ≡ (nat_lt x n && f x)
-set_by_is zero f x = none_in x ∙ sym (ap (λ b. b && f x) (lt_none x))
+set_by_is zero f x = has_none x ∙ sym (ap (λ b. b && f x) (lt_none x))
 set_by_is (suc n) f zero = low (f 0) (set_by n (λ x. f (suc x))) ∙ sym (ap (λ b. b && f 0) (lt-ltb 0 (suc n) (omega arith)))
 set_by_is (suc n) f (suc x) = high (f 0) (set_by n (λ x. f (suc x))) x ∙ set_by_is n (λ x. f (suc x)) x ∙ sym (ap (λ b. b && f (suc x)) (lt_suc x n))
 

@@ -25,7 +25,8 @@ use Rattle.cw_solve.specs.Contexts.{context, AreTheNeeded}
 use Rattle.cw_solve.specs.Solved.{Held}
 use Rattle.cw_least_strategy.specs.Heights.{others}
 use Rattle.cw_least_strategy.specs.Small.{AreAims}
-use Rattle.cw_least_strategy.proofs.Sets.{has_set, same_set}
+use Rattle.cw_game.proofs.Members.{same_set}
+use Rattle.cw_least_strategy.proofs.Sets.{has_set}
 
 pub fit : {n : ℕ} → Fits w32 n → n < 4294967296
 fit f = Fits-lt-pow f

@@ -3,7 +3,7 @@ use Rattle.std.proofs.Common.{◌≡◌, ℕ, zero, suc, ◌+◌, ◌*◌, ◌/�
 use Rattle.std.specs.Int.{bit_at}
 use Rattle.std.proofs.lemmas.Bool.{lt-ltb, le-ltb, ltb-true}
 use Rattle.cw_core.specs.StateSet.{has as has_member}
-use Rattle.cw_core.proofs.Sets.{has-zero, has-suc, same_from_members, IsBelow-lt}
+use Rattle.cw_core.proofs.Sets.{has-zero, has-suc, IsBelow-lt}
 use Rattle.cw_game.specs.Games.{Game}
 use Rattle.cw_game.specs.Pairs.{has, all_states}
 use Rattle.std.proofs.lemmas.Bool.{and_parts}
@@ -32,10 +32,6 @@ has_set passes (suc n) (suc x) =
 pub set_within : (passes : ℕ → Bool) (n : ℕ) → set_of passes n < 2 ^ n
 unfolding has_member
 set_within passes n = IsBelow-lt n (set_of passes n) (λ s h. ltb-true s n (and_parts (nat_lt s n) (passes s) (sym (has_set passes n s) ∙ h)).0)
-
-pub same_set : (a b : ℕ) → ((x : ℕ) → has a x ≡ has b x) → a ≡ b
-unfolding has_member
-same_set a b h = same_from_members a b h
 
 -- where nothing is aimed at all states are promised
 pub none_aimed : (g : Game) → others g 0 ≡ all_states g

@@ -8,7 +8,6 @@ use Rattle.std.proofs.lemmas.Bool.Decides.{nat_tests}
 use Rattle.cw_lemmas.proofs.Truths.{and_true}
 use Rattle.cw_core.specs.StateSet.{has, IsBelow}
 use Rattle.cw_core.proofs.Sets.{same_from_members, IsBelow-lt, has-zero}
-use Rattle.cw_game.specs.Pairs.{has as has_state}
 
 ones_has : (n s : ℕ) → has (2 ^ n - 1) s ≡ nat_lt s n
 unfolding has
@@ -52,15 +51,3 @@ pub is_below_more : (set n : ℕ) → IsBelow 1024 set → 1024 ≤ n → nat_lt
 is_below_more set n below more =
     let lt : set < 2 ^ n = IsBelow-lt n set (λ s m. omega (arith, below s m)) in
     grind (arith, nat_tests)
-
-pub is_member : (set s : ℕ) (answer : Bool) → answer ≡ has set s → answer ≡ has_state set s
-unfolding has
-is_member set s answer e = e
-
-pub is_no_member : (set s : ℕ) → IsBelow 1024 set → 1024 ≤ s → has_state set s ≡ false
-unfolding has
-is_no_member set s below more = by (has_state set s) refl
-  where
-    by : (t : Bool) → has_state set s ≡ t → t ≡ false
-    by false t = refl
-    by true t = absurd (omega (arith, below s t, more))

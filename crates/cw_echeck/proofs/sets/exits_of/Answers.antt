@@ -1,5 +1,6 @@
 use Rattle.std.proofs.Common.{◌∙◌, sym, subst, take, ◌+◌}
-use Rattle.cw_echeck.proofs.Members.{Among, among_with, among_without, among_all, has_is}
+use Rattle.cw_game.proofs.Members.{has_is}
+use Rattle.cw_echeck.proofs.Members.{Among, among_with, among_without, among_all}
 use Rattle.cw_echeck.proofs.sets.exits_of.Goals as goal
 use Rattle.cw_echeck.proofs.sets.exits_of.Goals.{then-back-lt-MEMBERS, else-back-lt-MEMBERS}
 

@@ -1,6 +1,6 @@
 use Rattle.std.proofs.Common.{◌∙◌, sym}
 use Rattle.std.proofs.lemmas.Bool.{le-ltb}
-use Rattle.cw_echeck.proofs.Members.{has_is, has_above}
+use Rattle.cw_game.proofs.Members.{has_is, has_above}
 use Rattle.cw_echeck.proofs.sets.has_state.Goals as goal
 
 pub returns-then-state-lt-MEMBERS : goal.returns-then-state-lt-MEMBERS
