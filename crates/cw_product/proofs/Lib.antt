@@ -8,4 +8,5 @@ pub mod Making
 pub mod Placing
 pub mod Routed
 pub mod Routing
+pub mod There
 pub mod Within
