@@ -2,7 +2,7 @@
 use Rattle.std.proofs.Common.{◌≡◌, inl, inr, ⊎_elim, ℕ, ◌+◌, List, [], ◌∷◌, ◌++◌, Bool, true, false, cond, ◌||◌, Option, Some, None, option_map, filter_map, refl, sym, ap, ap₂, ◌∙◌, subst}
 use Rattle.std.specs.Prelude.{slice_get}
 use Rattle.std.specs.List.{Contains, cons_option}
-use Rattle.std.proofs.lemmas.Option.{none-some, same_Some}
+use Rattle.std.proofs.lemmas.Option.{none-some, same_Some, cond_some}
 use Rattle.std.proofs.lemmas.List.Elements.{Contains-append_left, Contains-append_right, Contains-append_cases}
 use Rattle.std.proofs.lemmas.Bool.{false_from_ne_true, true_from_ne_false}
 use Rattle.std.specs.Cmp.{both_ways as same_bools}
@@ -107,11 +107,7 @@ module _ (g : Game) (staged : AreStaged g) (lost : (p q e : ℕ) → Bool) (set 
       (Contains-append_cases (visited g lost set k o ++ begun g lost set k (call_in o)) (answered g lost set k o ++ gone_on g lost set k r) b c)
 
   ends_at : (k : Key) (o : Option Spot) (x : ℕ × ℕ) → ends g lost set k o ≡ Some x → (k.pos, k.promise) ≡ x
-  ends_at k o x e = by (is_exit_in o) e
-    where
-      by : (b : Bool) → cond b (Some (k.pos, k.promise)) None ≡ Some x → (k.pos, k.promise) ≡ x
-      by true e = same_Some (k.pos, k.promise) x e
-      by false e = absurd (none-some x e)
+  ends_at k o x e = (cond_some (is_exit_in o) (k.pos, k.promise) x e).1
 
   join_live : (a b : Key) (x : ℕ × ℕ) → Live a → Live b → (o : Option Called) → call_in (slice_get g.spots a.pos) ≡ o → waits g lost set a o ≡ Some x
       → ends g lost set b (slice_get g.spots b.pos) ≡ Some x → Live (back g lost set a o b)

@@ -1,8 +1,8 @@
 -- Members of lists, and what a find gives.
 use Rattle.std.proofs.Common.{◌≡◌, ◌⊎◌, inl, inr, ℕ, zero, suc, ◌<◌, List, [], ◌∷◌, Bool, true, false, cond, Option, Some, None, is_some, find, length, get_or, refl, sym, ap, ◌∙◌, subst, arith}
 use Rattle.std.specs.Prelude.{slice_get}
-use Rattle.std.specs.List.{Contains}
-use Rattle.std.proofs.lemmas.Option.{none-some, same_Some}
+use Rattle.std.specs.List.{Contains, AllByRecursion}
+use Rattle.std.proofs.lemmas.Option.{none-some, same_Some, slice_get_read}
 
 module _ {A : Type 0} where
   abbrev pub In : List A → A → Type 0
@@ -21,6 +21,12 @@ module _ {A : Type 0} where
   of_in [] x n = absurd n
   of_in (y ∷ ys) x (inl e) = (0, omega arith, e)
   of_in (y ∷ ys) x (inr n) = let c = of_in ys x n in (suc c.0, omega (arith, c.1), c.2)
+
+  -- what all elements have each of them has
+  pub all_in : (P : A → Type 0) (xs : List A) (x : A) → AllByRecursion P xs → In xs x → P x
+  all_in P [] x h n = absurd n
+  all_in P (y ∷ ys) x h (inl e) = subst P e h.0
+  all_in P (y ∷ ys) x h (inr n) = all_in P ys x h.1 n
 
   pub find_in : (test : A → Bool) (xs : List A) (x : A) → find test xs ≡ Some x → In xs x × (test x ≡ true)
   find_in test [] x e = absurd (none-some x e)
@@ -57,14 +63,4 @@ module _ {A : Type 0} where
 
   -- the number of an element
   pub numbered : (xs : List A) (x : A) → Contains xs x → (i : ℕ) × (i < length xs) × (slice_get xs i ≡ Some x)
-  numbered xs x (k, l, e) = (k, l, at xs k l e)
-    where
-      at : (xs : List A) (k : ℕ) → k < length xs → get_or xs k x ≡ x → slice_get xs k ≡ Some x
-      at [] k l e = absurd (omega arith)
-      at (y ∷ ys) zero l e = ap Some e
-      at (y ∷ ys) (suc k) l e = at ys k (omega arith) e
-
-  pub below : (xs : List A) (i : ℕ) (x : A) → slice_get xs i ≡ Some x → i < length xs
-  below [] i x e = absurd (none-some x e)
-  below (y ∷ ys) zero x e = omega arith
-  below (y ∷ ys) (suc i) x e = let h = below ys i x e in omega (arith, h)
+  numbered xs x (k, l, e) = (k, l, slice_get_read xs (length xs) k x refl l (sym e))

@@ -27,7 +27,7 @@ use Rattle.cw_lazy_table.specs.Live.{IsLive}
 use Rattle.cw_lazy_table.specs.Places.{key_cmp, placed_cmp, part_at, placed, placed_of, memory_of, IsPlaced, IsReturn, return_cmp}
 use Rattle.cw_lazy_table.specs.Rowing.{Memories, number, live_row, try_row, at_row, open_row, into_row, back_row}
 use Rattle.cw_lemmas.proofs.Options.{option_map_some as mapped}
-use Rattle.cw_lazy_table.proofs.Finding.{In, in_of, of_in}
+use Rattle.cw_lazy_table.proofs.Finding.{In, in_of, of_in, all_in}
 use Rattle.cw_lazy_table.proofs.Numbers.{mem_less}
 use Rattle.cw_lazy_table.proofs.Placing.{asked_there, label_there, open_there, close_there, call_there, less_first, then_equal, tied_nat, not_less_same, split_parts}
 use Rattle.cw_lazy_table.proofs.Rowing.{meant, try_to, try_from, label_to, label_from, close_to, close_from, open_to, open_from, into_to, into_from, back_to, back_from, live_to, live_from}
@@ -37,11 +37,6 @@ module _ {A : Type 0} where
   all_by : (P : A → Type 0) (xs : List A) → ((x : A) → In xs x → P x) → AllByRecursion P xs
   all_by P [] h = tt
   all_by P (x ∷ xs) h = (h x (inl refl), all_by P xs (λ y n. h y (inr n)))
-
-  by_all : (P : A → Type 0) (xs : List A) (x : A) → AllByRecursion P xs → In xs x → P x
-  by_all P [] x h n = absurd n
-  by_all P (y ∷ ys) x h (inl e) = subst P e h.0
-  by_all P (y ∷ ys) x h (inr n) = by_all P ys x h.1 n
 
 module _ {A B : Type 0} where
   pub in_map : (f : A → B) (xs : List A) (x : A) → In xs x → In (map f xs) (f x)
@@ -60,7 +55,7 @@ module _ {A B : Type 0} where
   sorted_map c d f [] h s = tt
   sorted_map c d f (x ∷ xs) h s = (
     all_by (λ y. d (f x) y ≡ Less) (map f xs)
-        (λ y n. let k = of_map f xs y n in subst (λ z. d (f x) z ≡ Less) k.2 (h x k.0 (inl refl) (inr k.1) (by_all (λ z. c x z ≡ Less) xs k.0 s.0 k.1))),
+        (λ y n. let k = of_map f xs y n in subst (λ z. d (f x) z ≡ Less) k.2 (h x k.0 (inl refl) (inr k.1) (all_in (λ z. c x z ≡ Less) xs k.0 s.0 k.1))),
     sorted_map c d f xs (λ y z n m. h y z (inr n) (inr m)) s.1,
   )
 
@@ -137,7 +132,8 @@ placed_exact x y e =
     let b = both_equal _ _ a.1 in
     let c = both_equal _ _ b.1 in
     let d = both_equal _ _ c.1 in
-    same_placed x.seam x.part x.state x.promise x.pos y.seam y.part y.state y.promise y.pos (nat_cmp-IsAntisymmetric _ _ a.0) (nat_cmp-IsAntisymmetric _ _ b.0) (nat_cmp-IsAntisymmetric _ _ c.0) (nat_cmp-IsAntisymmetric _ _ d.0) (nat_cmp-IsAntisymmetric _ _ d.1)
+    same_placed x.seam x.part x.state x.promise x.pos y.seam y.part y.state y.promise y.pos (nat_cmp-IsAntisymmetric _ _ a.0)
+    (nat_cmp-IsAntisymmetric _ _ b.0) (nat_cmp-IsAntisymmetric _ _ c.0) (nat_cmp-IsAntisymmetric _ _ d.0) (nat_cmp-IsAntisymmetric _ _ d.1)
 
 module _ (g : Game) (functions : ℕ) (can : CanBegin g functions) where
   -- a seam's parts stand at one position each

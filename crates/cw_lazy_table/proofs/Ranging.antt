@@ -3,7 +3,7 @@ use Rattle.std.proofs.Common.{◌≡◌, ℕ, ◌+◌, ◌^◌, ◌<◌, List, �
 use Rattle.std.specs.Prelude.{slice_get}
 use Rattle.std.specs.List.{list_any, enumerate_from}
 use Rattle.std.proofs.lemmas.Bool.{lt-ltb}
-use Rattle.std.proofs.lemmas.Option.{none-some, same_Some}
+use Rattle.std.proofs.lemmas.Option.{none-some, same_Some, slice_get_within}
 use Rattle.std.proofs.Math.Pow.{pow-sub-lt}
 use Rattle.cw_core.specs.StateSet.{has as has_member}
 use Rattle.cw_core.proofs.Sets.{IsBelow-lt}
@@ -32,7 +32,7 @@ use Rattle.cw_solve.proofs.Tabling.{there}
 use Rattle.cw_lazy_table.specs.Live.{IsFull, IsLive, begins as begins_at, skips, tries, moves, goes_on, calls, returns}
 use Rattle.cw_lazy_table.specs.Lazy.{state_id, Means, IsAfter, GoesOn, IsRefused, IsMemory, IsLiveRow, IsTryRow, IsLabelRow, IsOpenRow, IsCloseRow, IsCalled, IsIntoRow, IsBackRow, IsLazyTable}
 use Rattle.cw_lazy_table.specs.Staged.{AreStaged, IsKnown}
-use Rattle.cw_lazy_table.proofs.Finding.{of_in, below}
+use Rattle.cw_lazy_table.proofs.Finding.{of_in}
 use Rattle.cw_lazy_table.proofs.Keeping.{safe, came}
 use Rattle.cw_lazy_table.proofs.Meeting.{leads_to}
 use Rattle.cw_lazy_table.proofs.Rows.{none_in_range, rows_good}
@@ -65,7 +65,7 @@ module _ (g : Game) (functions : ℕ) (routed : AreRouted g functions) (staged :
       lt-ltb p (length g.spots) (omega (arith, h.of.1, s.ends))
 
   memory_in : (m : MemId) (q e : ℕ) → Means t.mems m.0 q e → is_memory t m ≡ true
-  memory_in m q e h = lt-ltb m.0 (length t.mems) (below t.mems m.0 (state_id q, e) h)
+  memory_in m q e h = lt-ltb m.0 (length t.mems) (slice_get_within t.mems m.0 (state_id q, e) h)
 
   after_in : (e : ℕ) (o : Option Config) (m : Option MemId) → IsAfter t.mems e o m → is_memory_if t m ≡ true
   after_in e o None h = refl

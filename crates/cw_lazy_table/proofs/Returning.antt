@@ -1,8 +1,8 @@
 -- Pairs of a call and an exit.
-use Rattle.std.proofs.Common.{◌≡◌, ℕ, List, Bool, true, false, cond, Option, Some, None, option_map, filter_map, sym, ap, ap₂, ◌∙◌, subst}
+use Rattle.std.proofs.Common.{◌≡◌, ℕ, List, cond, Option, Some, None, option_map, filter_map, sym, ap, ap₂, ◌∙◌, subst}
 use Rattle.std.specs.Prelude.{slice_get}
 use Rattle.std.specs.List.{Contains}
-use Rattle.std.proofs.lemmas.Option.{none-some, same_Some}
+use Rattle.std.proofs.lemmas.Option.{same_Some, cond_some}
 use Rattle.cw_fixpoint.specs.Closures.{Exactly}
 use Rattle.cw_game.specs.declared.spots.Spot.{Spot}
 use Rattle.cw_game.specs.Games.{Game}
@@ -24,11 +24,7 @@ use Rattle.cw_lazy_table.proofs.Listing.{images}
 use Rattle.cw_lazy_table.proofs.Placing.{there_call}
 
 pub ended_at : (k : Key) (o : Option Spot) (x : ℕ × ℕ) → cond (is_exit_in o) (Some (k.pos, k.promise)) None ≡ Some x → (k.pos, k.promise) ≡ x
-ended_at k o x e = by (is_exit_in o) e
-  where
-    by : (b : Bool) → cond b (Some (k.pos, k.promise)) None ≡ Some x → (k.pos, k.promise) ≡ x
-    by true e = same_Some (k.pos, k.promise) x e
-    by false e = absurd (none-some x e)
+ended_at k o x e = (cond_some (is_exit_in o) (k.pos, k.promise) x e).1
 
 abbrev pub part_or : Option (ℕ × ℕ) → ℕ × ℕ
 part_or None = (0, 0)

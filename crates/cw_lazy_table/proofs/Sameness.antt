@@ -1,7 +1,6 @@
 -- A game has one lazy table at most.
 use Rattle.std.proofs.Common.{◌≡◌, inl, inr, ⊎_elim, ℕ, List, [], ◌∷◌, refl, sym, ap, ap₂, ◌∙◌, subst}
 use Rattle.std.specs.Cmp.{IsTotalOrder}
-use Rattle.std.specs.List.{AllByRecursion}
 use Rattle.std.specs.List.Sorted.{IsStrictlySortedBy}
 use Rattle.std.specs.declared.cmp.Ordering.{Ordering}
 use Rattle.std.specs.declared.cmp.Ordering.TheVariants.{Less}
@@ -14,15 +13,10 @@ use Rattle.cw_game.specs.Games.{Game}
 use Rattle.cw_game.specs.Pairs.{all_states}
 use Rattle.cw_lazy_table.specs.Lazy.{Means, IsMemory, IsLiveRow, IsTryRow, IsLabelRow, IsOpenRow, IsCloseRow, IsIntoRow, IsBackRow, IsLazyTable}
 use Rattle.cw_fixpoint.proofs.Numbers.{apart}
-use Rattle.cw_lazy_table.proofs.Finding.{In, in_of, of_in}
+use Rattle.cw_lazy_table.proofs.Finding.{In, in_of, of_in, all_in}
 use Rattle.cw_lazy_table.proofs.Numbers.{number_is}
 
 module _ {A : Type 0} (cmp : A → A → Ordering) (total : IsTotalOrder cmp) where
-  pub among : (P : A → Type 0) (xs : List A) (x : A) → AllByRecursion P xs → In xs x → P x
-  among P [] x h n = absurd n
-  among P (y ∷ ys) x h (inl e) = subst P e h.0
-  among P (y ∷ ys) x h (inr n) = among P ys x h.1 n
-
   -- lists that ascend and have the same elements are one
   pub same_lists : (xs ys : List A) → IsStrictlySortedBy cmp xs → IsStrictlySortedBy cmp ys → ((x : A) → In xs x → In ys x) → ((x : A) → In ys x → In xs x) → xs ≡ ys
   unfolding IsStrictlySortedBy
@@ -32,15 +26,15 @@ module _ {A : Type 0} (cmp : A → A → Ordering) (total : IsTotalOrder cmp) wh
   same_lists (x ∷ xs) (y ∷ ys) s r f h = ap₂ (λ a b. a ∷ b) heads (same_lists xs ys s.1 r.1 (λ z n. on z n (f z (inr n))) (λ z n. back z n (h z (inr n))))
     where
       heads : x ≡ y
-      heads = ⊎_elim (λ e. sym e) (λ n. ⊎_elim (λ e. e) (λ m. absurd (apart cmp total x y (among (λ z. cmp x z ≡ Less) xs y s.0 m) (among (λ z. cmp y z ≡ Less) ys x r.0 n)))
+      heads = ⊎_elim (λ e. sym e) (λ n. ⊎_elim (λ e. e) (λ m. absurd (apart cmp total x y (all_in (λ z. cmp x z ≡ Less) xs y s.0 m) (all_in (λ z. cmp y z ≡ Less) ys x r.0 n)))
           (h y (inl refl))) (f x (inl refl))
 
       on : (z : A) → In xs z → In (y ∷ ys) z → In ys z
-      on z n (inl e) = let l : cmp z z ≡ Less = subst (λ w. cmp w z ≡ Less) (heads ∙ e) (among (λ z. cmp x z ≡ Less) xs z s.0 n) in absurd (apart cmp total z z l l)
+      on z n (inl e) = let l : cmp z z ≡ Less = subst (λ w. cmp w z ≡ Less) (heads ∙ e) (all_in (λ z. cmp x z ≡ Less) xs z s.0 n) in absurd (apart cmp total z z l l)
       on z n (inr m) = m
 
       back : (z : A) → In ys z → In (x ∷ xs) z → In xs z
-      back z n (inl e) = let l : cmp z z ≡ Less = subst (λ w. cmp w z ≡ Less) (sym heads ∙ e) (among (λ z. cmp y z ≡ Less) ys z r.0 n) in absurd (apart cmp total z z l l)
+      back z n (inl e) = let l : cmp z z ≡ Less = subst (λ w. cmp w z ≡ Less) (sym heads ∙ e) (all_in (λ z. cmp y z ≡ Less) ys z r.0 n) in absurd (apart cmp total z z l l)
       back z n (inr m) = m
 
   pub one : (P : A → Type 0) (xs ys : List A) → Exactly cmp P xs → Exactly cmp P ys → xs ≡ ys

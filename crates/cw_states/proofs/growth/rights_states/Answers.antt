@@ -1,14 +1,9 @@
-use Rattle.std.proofs.Common.{Option, None, Some}
-use Rattle.std.specs.Option.{IfNone}
 use Rattle.std.proofs.lemmas.Option.{IfSome_then}
 use Rattle.cw_rights.specs.Policies.{policy_of}
 use Rattle.cw_states.proofs.Ordered.{ranked_exact}
 use Rattle.cw_states.proofs.Growing.{exactly_caps, more_caps}
+use Rattle.cw_lemmas.proofs.Options.{where_none}
 use Rattle.cw_states.proofs.growth.rights_states.Goals as goal
-
-IfNone_then : {A : Type 0} (o : Option A) {X Y : Type 0} → IfNone o X → (X → Y) → IfNone o Y
-IfNone_then None h f = f h
-IfNone_then (Some x) h f = h
 
 pub closed_up_to-requires-clause-exact : goal.closed_up_to-requires-clause-exact
 closed_up_to-requires-clause-exact c = ranked_exact
@@ -20,5 +15,5 @@ returns-clause-all c =
 
 pub returns-clause-many : goal.returns-clause-many
 returns-clause-many c =
-    IfNone_then c.in_ok-found.found c.in_ok-found.ensures.many
+    where_none c.in_ok-found.found c.in_ok-found.ensures.many
     (more_caps (policy_of c.args.policy.now) c.args.uses c.start_caps.result c.start_caps.ensures 128)
