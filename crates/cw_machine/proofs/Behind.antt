@@ -59,8 +59,3 @@ ascend_all xs i from to past le = subst (Ascend from to) (sym (at_drop_all said_
 -- a slice from a place on is all that is left
 pub all_on : {X : Type 0} (d : List X) (n : ℕ) → take (length d - n) (drop n d) ≡ drop n d
 all_on d n = take_all (length d - n) (drop n d) (let e = length-drop n d in omega (arith, e))
-
-pub some_at : {X : Type 0} (l : List X) (i : ℕ) (x : X) → i < length l → x ≡ get_or l i x → slice_get l i ≡ Some x
-some_at [] i x within is = absurd (omega arith)
-some_at (y ∷ l) zero x within is = ap Some (sym is)
-some_at (y ∷ l) (suc i) x within is = some_at l i x (omega arith) is

@@ -1,7 +1,8 @@
-use Rattle.std.proofs.Common.{◌≡◌, ◌<◌, ◌∙◌, Some, ap, arith, drop, find, length, map, slice_get, sym}
+use Rattle.std.proofs.Common.{◌≡◌, ◌<◌, ◌∙◌, Some, ap, arith, drop, find, length, map, refl, slice_get, sym}
+use Rattle.std.proofs.lemmas.Option.{slice_get_read}
 use Rattle.cw_value.specs.Deeds.{begins_at}
 use Rattle.cw_slots.specs.Texts.{statement_at}
-use Rattle.cw_machine.proofs.Behind.{all_on, behind, some_at}
+use Rattle.cw_machine.proofs.Behind.{all_on, behind}
 use Rattle.cw_machine.proofs.said.Said.behind.Goals as goal
 
 pub returns-in-Some : goal.returns-in-Some
@@ -15,7 +16,7 @@ returns-in-Some c =
     let found = c.in-Some.ensures.lookup in
     let before = c.deref.result.now in
     let within : n < length before = omega arith in
-    let is : slice_get items n ≡ Some s = ap (λ l. slice_get l n) (sym first) ∙ some_at before n s within found.1 in
+    let is : slice_get items n ≡ Some s = ap (λ l. slice_get l n) (sym first) ∙ slice_get_read before (length before) n s refl within found.1 in
     let here = c.if-statement-at.true in
     let same : s.now.from ≡ at = omega (arith, here) in
     let d = c.deref-in-Some.result.now in
