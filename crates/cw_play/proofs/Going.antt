@@ -10,7 +10,8 @@ use Rattle.cw_game.specs.Games.{Game, Ret, Config, at_pair, returned, leads_in, 
 use Rattle.cw_game.specs.Pairs.{has, IsAt, is_exit_in}
 use Rattle.cw_game.specs.Closed.{HowOk, IsClosedStrategy}
 use Rattle.cw_lemmas.proofs.Truths.{not_both}
-use Rattle.cw_echeck.proofs.Leads.{empty, local_over, calls_to, weavers_to}
+use Rattle.cw_game.proofs.Members.{has_none}
+use Rattle.cw_echeck.proofs.Leads.{local_over, calls_to, weavers_to}
 use Rattle.cw_echeck.proofs.Boards.{problem_in, environments, at_call, at_end, starts}
 use Rattle.cw_states.specs.States.{Lists}
 use Rattle.cw_text.specs.Moves.{IsWeavers}
@@ -186,7 +187,7 @@ module _ (g : Game) (v : Lists) (names : Names) (s : Strategy) (first : ℕ) (ta
 
     out_ready : (text : List ℕ) (at : ℕ) (calls : List ℕ) (rest left : List Move) (k : Kept g v names s first tape old text at calls rest) (rets : List Ret) → k.rets ≡ rets → Owed g s k.aim rets calls
         → slice_get s.rows at ≡ Some (row_in k.pos k.state k.aim Out) → HowOk g s at k.pos k.state k.aim Out → left ≡ rest → Ready text at calls (row_in k.pos k.state k.aim Out) On left
-    out_ready text at [] rest left k [] same owed er ok e = absurd (not_both (has k.aim k.state) ok.3 (ap (λ (aim : ℕ). has aim k.state) owed ∙ empty k.state))
+    out_ready text at [] rest left k [] same owed er ok e = absurd (not_both (has k.aim k.state) ok.3 (ap (λ (aim : ℕ). has aim k.state) owed ∙ has_none k.state))
     out_ready text at [] rest left k (ret ∷ rets) same owed er ok e = absurd owed
     out_ready text at (caller ∷ calls) rest left k [] same owed er ok e = absurd owed
     out_ready text at (caller ∷ calls) rest left k (ret ∷ rets) same owed er ok e =

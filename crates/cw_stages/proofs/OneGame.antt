@@ -17,8 +17,8 @@ use Rattle.cw_points.specs.declared.graph.Graph.{Graph}
 use Rattle.cw_points.specs.declared.graph.Node.{Node}
 use Rattle.cw_points.specs.declared.graph.Part.{Part}
 use Rattle.cw_game.specs.Games.{Game}
-use Rattle.cw_lazy_table.proofs.Finding.{In, in_of, of_in}
-use Rattle.cw_lazy_table.proofs.Sameness.{among, one}
+use Rattle.cw_lazy_table.proofs.Finding.{In, in_of, of_in, all_in}
+use Rattle.cw_lazy_table.proofs.Sameness.{one}
 use Rattle.cw_fixpoint.proofs.Numbers.{apart}
 use Rattle.cw_positions.specs.Positions.{base, spots, spots_in, to}
 use Rattle.cw_states.specs.declared.uses.Uses.{Uses}
@@ -47,13 +47,13 @@ module _ {A : Type 0} (cmp : A → A → Ordering) (total : IsTotalOrder cmp) wh
   fewer (x ∷ xs) (y ∷ ys) s r f = by (f x (inl refl)) (λ on. fewer xs ys s.1 r.1 on) (λ on. fewer (x ∷ xs) ys s r.1 on)
     where
       behind : y ≡ x → (z : A) → In xs z → In ys z
-      behind e z n = ⊎_elim (λ h. absurd (alone z (subst (λ w. cmp w z ≡ Less) (sym e ∙ h) (among cmp total (λ v. cmp x v ≡ Less) xs z s.0 n)))) (λ m. m) (f z (inr n))
+      behind e z n = ⊎_elim (λ h. absurd (alone z (subst (λ w. cmp w z ≡ Less) (sym e ∙ h) (all_in (λ v. cmp x v ≡ Less) xs z s.0 n)))) (λ m. m) (f z (inr n))
 
       within : In ys x → (z : A) → In (x ∷ xs) z → In ys z
       within m z (inl e) = subst (In ys) e m
       within m z (inr n) =
-          let front = among cmp total (λ v. cmp y v ≡ Less) ys x r.0 m in
-          ⊎_elim (λ h. absurd (apart cmp total y x front (subst (λ w. cmp x w ≡ Less) (sym h) (among cmp total (λ v. cmp x v ≡ Less) xs z s.0 n)))) (λ k. k) (f z (inr n))
+          let front = all_in (λ v. cmp y v ≡ Less) ys x r.0 m in
+          ⊎_elim (λ h. absurd (apart cmp total y x front (subst (λ w. cmp x w ≡ Less) (sym h) (all_in (λ v. cmp x v ≡ Less) xs z s.0 n)))) (λ k. k) (f z (inr n))
 
       by : In (y ∷ ys) x → (((z : A) → In xs z → In ys z) → length xs ≤ length ys) → (((z : A) → In (x ∷ xs) z → In ys z) → length (x ∷ xs) ≤ length ys) → length (x ∷ xs) ≤ length (y ∷ ys)
       by (inl e) less more = let le = less (behind e) in omega (arith, le)
