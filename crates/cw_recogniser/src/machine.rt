@@ -168,8 +168,9 @@ fn statement_of(kind: TerminalKind) -> Option<Coming>
     }
 }
 
-/// What is to come in a symbol's place behind its first token, if one of this kind may be first there.
+/// What is to come in a symbol's place behind its first token, if one of this kind may be first there. It isn't inlined: what each symbol asks of the token would be worked out before it is known which symbol is next.
 #[tactic(auto, using(crate::proofs::Codes::whole_first, crate::proofs::Codes::opened_is, crate::proofs::Codes::opened_operand_is, crate::proofs::Codes::opened_measured_is, crate::proofs::Codes::param_is))]
+#[inline(never)]
 fn after_of(symbol: Symbol, kind: TerminalKind) -> Option<Coming>
     ensures { MatchOption result (after symbol kind ≡ None) (λ new. after symbol kind ≡ Some (new.first.now ++ new.second.now)) }
 {
