@@ -1,5 +1,5 @@
 -- What is to come behind a token, as the code puts it together.
-use Rattle.std.proofs.Common.{◌≡◌, Bool, true, false, List, [], ◌∷◌, ◌++◌, reverse, refl, sym, ap, ◌∙◌, append_assoc, Some, None}
+use Rattle.std.proofs.Common.{◌≡◌, ℕ, ◌+◌, ◌<◌, Bool, true, false, List, [], ◌∷◌, ◌++◌, length, drop, drop-cons, get_or, reverse, refl, sym, ap, ◌∙◌, add-one, append_assoc, Some, None}
 use Rattle.std.proofs.lemmas.List.{append-nil, reverse-append}
 use Rattle.cw_recogniser.specs.declared.kinds.TerminalKind.{TerminalKind}
 use Rattle.cw_recogniser.specs.declared.symbols.Symbol.{Symbol}
@@ -49,6 +49,15 @@ whole_first x new e = e ∙ ap Some (sym (append-nil new))
 
 pub reverse_push : (below : List Symbol) (s : Symbol) → reverse (below ++ s ∷ []) ≡ s ∷ reverse below
 reverse_push below s = rw (reverse-append below (s ∷ [])) refl
+
+-- one symbol more, where those behind it are put
+pub put_one : (new stack below : List Symbol) (at : ℕ) (d : Symbol) → at < length new → reverse stack ≡ drop (at + 1) new ++ below
+    → reverse (stack ++ get_or new at d ∷ []) ≡ drop at new ++ below
+put_one new stack below at d short e =
+    let behind : drop at new ≡ get_or new at d ∷ drop (at + 1) new = drop-cons new at d short ∙ ap (λ (n : ℕ). get_or new at d ∷ drop n new) (sym (add-one at)) in
+    reverse_push stack (get_or new at d)
+    ∙ ap (λ (z : List Symbol). get_or new at d ∷ z) e
+    ∙ ap (λ (z : List Symbol). z ++ below) (sym behind)
 
 -- ---- one step
 

@@ -260,19 +260,16 @@ fn after_of(symbol: Symbol, kind: TerminalKind) -> Option<Coming>
     }
 }
 
-/// Puts symbols in front of those that are to come.
-#[tactic(auto, using(crate::proofs::Codes::reverse_push))]
+/// Puts symbols in front of those that are to come: the stack's last is the first, so the last of them is put first.
 fn put(stack: &mut Vec<Symbol>, new: &[Symbol]) -> Result<(), NoMemory>
     ensures { IfOk result (λ done. reverse stack.new.items ≡ new.now ++ reverse stack.old.items) }
 {
-    match new {
-        [] => Ok(()),
-        [first, behind @ ..] => {
-            put(stack, behind)?;
-            stack.push(*first)?;
-            Ok(())
-        }
+    let mut at = new.len();
+    'symbols: while at > 0 {
+        at -= 1;
+        stack.push(new[at])?;
     }
+    Ok(())
 }
 
 /// Puts what comes behind a token in front of what is to come.
