@@ -16,6 +16,7 @@ use cw_expressions::refusal::Refusal;
 use cw_grammar::words::{Lexeme, Word};
 use cw_syntax::program::{Decl, Function, Param, Program, Proto};
 use std::alloc::Global;
+use std::mem::forget;
 
 /// What a file is made of.
 #[derive(Drop)]
@@ -122,9 +123,17 @@ fn part_after<'t>(
     ensures { Gives filed result (one_part (filed before.entry)) }
 {
     let (program, rest) = before;
-    let (part, rest) = part_at(alloc, rest)?;
-    let program = with_part(program, part)?;
-    Ok((program, rest))
+    match part_at(alloc, rest) {
+        Ok((part, rest)) => {
+            let program = with_part(program, part)?;
+            Ok((program, rest))
+        }
+        Err(refusal) => {
+            // A file that is refused ends the run: the end of the process gives the blocks of the tree back at once.
+            forget(program);
+            Err(refusal)
+        }
+    }
 }
 
 /// Whether a token is left.
