@@ -183,9 +183,9 @@ pub fn lexemes(alloc: Global, source: &[u8], tokens: &[Token]) -> Result<Vec<Lex
     requires tokens { AreTokens source.now tokens.now }
     ensures words { IfOk result (λ list. list.items ≡ lexemes_of source.now tokens.now) }
 {
-    let mut list = Vec::new(alloc);
+    let mut list = Vec::with_capacity(alloc, tokens.len())?;
     'tokens: for token in tokens {
-        list.push(lexeme_at(source, *token))?;
+        list.push_reserved(lexeme_at(source, *token));
     }
     Ok(list)
 }
