@@ -94,7 +94,8 @@ fn read(alloc: Global, source: &[u8]) -> Result<Vec<Token>, LexFault>
     ensures tokens { IfOk result (λ v. AreTokens source.now v.items) }
     ensures fault { IfErr result (λ f. (f ≡ NoMemory) ⊎ IsFault source.now f) }
 {
-    let mut tokens = Vec::new(alloc);
+    // No token is shorter than a byte, and room that isn't written to is no memory in use.
+    let mut tokens = Vec::with_capacity(alloc, source.len())?;
     let mut at: usize = 0;
     let mut fresh = true;
     'pieces: while at < source.len() {
@@ -109,7 +110,7 @@ fn read(alloc: Global, source: &[u8]) -> Result<Vec<Token>, LexFault>
                     from: at as u32,
                     to: (at + n) as u32,
                 };
-                tokens.push(token)?;
+                tokens.push_reserved(token);
                 fresh = false;
                 at += n;
             }

@@ -1,4 +1,5 @@
 use Rattle.std.proofs.Common.{◌≤◌, ◌-◌, length}
+use Rattle.std.specs.Prelude.{vec_len, vec_capacity}
 use Rattle.cw_lex.proofs.Standing.{Reached}
 use Rattle.cw_lex.proofs.lexer.read.Given as goal
 
@@ -6,6 +7,8 @@ abbrev pub invariant-pieces : goal.invariant-pieces
 invariant-pieces l = record {
   reached : Reached l.source l.at l.fresh l.tokens.items;
   within : l.at ≤ length l.source;
+  many : vec_len l.tokens ≤ l.at;
+  room : length l.source ≤ vec_capacity l.tokens;
 }
 
 abbrev pub decreases-pieces : goal.decreases-pieces
