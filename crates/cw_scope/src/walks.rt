@@ -69,7 +69,9 @@ fn put_call<'p>(e: &'p Expr, out: &mut Vec<&'p Expr>) -> Result<(), AllocError>
     Ok(())
 }
 
-/// Appends the plain names and the calls of an expression, in the order of `put_nodes`.
+/// Appends the plain names and the calls of an expression, in the order of `put_nodes`. It stands in its callers: most expressions have no
+/// parts, and cost no call so.
+#[inline(always)]
 #[cycle(mentions)]
 pub(crate) fn put_mentions<'p>(
     e: &'p Expr,
@@ -81,6 +83,9 @@ pub(crate) fn put_mentions<'p>(
 {
     put_name(e, names)?;
     put_call(e, calls)?;
+    if e.parts.is_empty() {
+        return Ok(());
+    }
     put_all_mentions(&e.parts, names, calls)
 }
 

@@ -1,6 +1,6 @@
-use Rattle.std.proofs.Common.{◌≡◌, ◌++◌, map, refl, ap, ap₂, sym, ◌∙◌, subst}
+use Rattle.std.proofs.Common.{◌≡◌, ◌++◌, [], map, append-nil, eqb-true, refl, ap, ap₂, sym, ◌∙◌, subst}
 use Rattle.std.specs.Result.{IfOk}
-use Rattle.std.proofs.lemmas.List.{append_assoc}
+use Rattle.std.proofs.lemmas.List.{append_assoc, nil_from_length}
 use Rattle.cw_syntax.specs.declared.program.Expr.{out-Expr}
 use Rattle.cw_syntax.specs.Trees.{tree_of, trees_of}
 use Rattle.cw_scope.specs.Held.{tree_at}
@@ -8,6 +8,18 @@ use Rattle.cw_scope.specs.Mentions.{own_name, own_call, names_at, calls_at, name
 use Rattle.cw_scope.proofs.Pushed.{further, all_gone}
 use Rattle.cw_scope.proofs.Mentioned.{names_of, calls_of}
 use Rattle.cw_scope.proofs.walks.+mentions.Goals as goal
+
+pub put_mentions-returns-then-is_empty : goal.put_mentions-returns-then-is_empty
+put_mentions-returns-then-is_empty t c =
+    let e = c.args.e.now in
+    let parts = (out-Expr e).parts in
+    let none : parts.items ≡ [] = nil_from_length parts.items (sym parts.ok.0 ∙ eqb-true _ 0 (sym c.if-is_empty.ensures)) in
+    record {
+      names = c.in_ok-put_name.ensures ∙ ap (λ l. c.args.names.now.items ++ l)
+          (sym (names_of e ∙ ap (λ ps. own_name (tree_of e) ++ names_all (trees_of ps)) none ∙ append-nil (own_name (tree_of e))));
+      calls = c.in_ok-put_call.ensures ∙ ap (λ l. map tree_at c.args.calls.now.items ++ l)
+          (sym (calls_of e ∙ ap (λ ps. own_call (tree_of e) ++ calls_all (trees_of ps)) none ∙ append-nil (own_call (tree_of e))));
+    }
 
 pub put_mentions-returns : goal.put_mentions-returns
 put_mentions-returns t c =
