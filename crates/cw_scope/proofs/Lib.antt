@@ -12,3 +12,4 @@ pub mod Calling
 pub mod Beginnings
 pub mod Mentioned
 pub mod Placing
+pub mod Apart

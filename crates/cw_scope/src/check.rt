@@ -7,7 +7,7 @@ ghost use Rattle.cw_resolve.specs.Soonest.{soonest};
 ghost use Rattle.cw_scope.specs.Faults.{no_main, two_functions, two_labels, arity, call_form, main_called, reserved_name, jump, limit, ◌or_else◌, scope_fault, IsDue};
 ghost use Rattle.cw_scope.specs.Held.{placed_of, whole_of, tree_at};
 ghost use Rattle.cw_scope.specs.Mentions.{every_call};
-ghost use Rattle.cw_scope.specs.Names.{uses, every_name};
+ghost use Rattle.cw_scope.specs.Names.{uses, every_label, every_name};
 ghost use Rattle.cw_scope.specs.Walks.{every_node, every_statement, every_whole};
 ghost use Rattle.cw_scope.specs.Known.{IsKnown};
 
@@ -71,16 +71,34 @@ fn second_label(
     Ok(None)
 }
 
-/// A label that stands twice in one function.
+/// The same of a program with these labels. Mostly none of them stands twice: then none does in one function, and no function is walked over.
+fn second_among(
+    alloc: Global,
+    source: &[u8],
+    program: &Program,
+    labels: &[Name],
+) -> Result<Option<Name>, AllocError>
+    requires labels { labels.now ≡ every_label (file_of program.now) }
+    ensures { IfOk result (λ name. name ≡ second_label source.now (file_of program.now).functions) }
+{
+    match repeated(alloc, source, labels)? {
+        None => Ok(None),
+        Some(_) => second_label(alloc, source, &program.functions),
+    }
+}
+
+/// A label that stands twice in one function, of a program with these labels.
 #[tactic(auto, unfolding(crate::specs::Faults::two_labels))]
 fn two_labels(
     alloc: Global,
     source: &[u8],
     program: &Program,
+    labels: &[Name],
 ) -> Result<Option<ScopeFault>, AllocError>
+    requires labels { labels.now ≡ every_label (file_of program.now) }
     ensures { IfOk result (λ fault. fault ≡ two_labels source.now (file_of program.now)) }
 {
-    match second_label(alloc, source, &program.functions)? {
+    match second_among(alloc, source, program, labels)? {
         None => Ok(None),
         Some(name) => Ok(Some(ScopeFault::TwoLabels(name))),
     }
@@ -172,18 +190,20 @@ fn limit(
     }
 }
 
-/// The fault of the first rule on whole functions that the program breaks.
+/// The fault of the first rule on whole functions that the program, which has these labels, breaks.
 fn early_fault(
     alloc: Global,
     source: &[u8],
     program: &Program,
+    labels: &[Name],
 ) -> Result<Option<ScopeFault>, AllocError>
+    requires labels { labels.now ≡ every_label (file_of program.now) }
     ensures { IfOk result (λ fault. fault ≡ no_main source.now (file_of program.now)
         or_else two_functions source.now (file_of program.now)
         or_else two_labels source.now (file_of program.now)) }
 {
     let functions = two_functions(alloc, source, program)?;
-    let labels = two_labels(alloc, source, program)?;
+    let labels = two_labels(alloc, source, program, labels)?;
     Ok(no_main(source, program).or(functions).or(labels))
 }
 
@@ -247,9 +267,9 @@ fn scope_fault(
     ensures { IfOk result (λ fault. fault ≡ scope_fault source.now (file_of program.now)) }
 {
     let statements = every_statement(alloc, program)?;
-    let early = early_fault(alloc, source, program)?;
-    let called = called_fault(alloc, source, program, &statements, early)?;
     let labels = labels(alloc, &statements)?;
+    let early = early_fault(alloc, source, program, &labels)?;
+    let called = called_fault(alloc, source, program, &statements, early)?;
     let limited = limit(alloc, source, program, &labels)?;
     Ok(called.or(jump(&statements)).or(limited))
 }
