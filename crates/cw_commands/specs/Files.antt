@@ -4,6 +4,8 @@ use Rattle.cw_core.specs.declared.quantity.Quantity.{Quantity}
 use Rattle.cw_core.specs.Quantities.{limit_in, limit_of}
 use Rattle.cw_io.specs.Causes.{Rose}
 use Rattle.cw_io.specs.Files.{FilesByName, IsAnswer}
+use Rattle.cw_io.specs.declared.fault.ReadFault.{ReadFault}
+use Rattle.cw_io.specs.declared.fault.ReadFault.TheVariants as read
 use Rattle.cw_rights.specs.Policies.{PlainPolicy}
 use Rattle.cw_policy.specs.Answer.{Spells}
 use Rattle.cw_commands.specs.declared.ending.Ending.{Ending}
@@ -46,6 +48,12 @@ abbrev pub IsFileFault : {N : Type 0} → Option FilesByName → (List ℕ → �
 IsFileFault files counts counts' policy quantity name (TooLong told) = (told ≡ quantity) × IsLonger files policy quantity name
 IsFileFault files counts counts' policy quantity name (Unread told) = (told.now ≡ name) × Rose (counts name) (counts' name)
 IsFileFault files counts counts' policy quantity name ending = ⊥
+
+-- the same by the fault of its read; of want of memory nothing is said
+abbrev pub IsReadFault : Option FilesByName → (List ℕ → ℕ) → (List ℕ → ℕ) → List ℕ → Quantity → List ℕ → ReadFault → Type 0
+IsReadFault files counts counts' policy quantity name read.Failed = Rose (counts name) (counts' name)
+IsReadFault files counts counts' policy quantity name read.TooLong = IsLonger files policy quantity name
+IsReadFault files counts counts' policy quantity name read.NoMemory = Unit {0}
 
 -- the files were read up to one that wasn't, and why, by the shelf's files and its counts before and after
 pub record IsUnread {N : Type 0} (files : Option FilesByName) (counts counts' : List ℕ → ℕ) (quantities : List Quantity) (names : List (List ℕ)) (ending : Ending N) : Type 0 where

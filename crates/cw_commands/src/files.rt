@@ -1,8 +1,9 @@
 //! The files of a command, read in the order of its words.
 
-ghost use Rattle.std.specs.Prelude.{◌≡◌, ◌≢◌, ◌⊎◌, ◌≤◌, ◌<◌, ℕ, List, [], IfErr, IfOk, true, false, length, map};
+ghost use Rattle.std.specs.Prelude.{◌≡◌, ◌≢◌, ◌⊎◌, ◌≤◌, ◌<◌, ℕ, List, [], IfErr, IfOk, Option, true, false, length, map};
 ghost use Rattle.cw_core.specs.Quantities.{limit_in};
-ghost use Rattle.cw_commands.specs.Files.{first, HasBytes, HaveBytes, IsFileFault, IsOfFormatTwo, IsOver, IsUnread, IsWithin};
+ghost use Rattle.cw_io.specs.Files.{FilesByName};
+ghost use Rattle.cw_commands.specs.Files.{first, HasBytes, HaveBytes, IsFileFault, IsOfFormatTwo, IsOver, IsReadFault, IsUnread, IsWithin};
 
 use crate::ending::Ending;
 use cw_core::{NoMemory, Quantity};
@@ -58,28 +59,42 @@ fn is_over(alloc: Global, policy: &[u8], quantity: Quantity, count: usize) -> Re
 }
 
 /// The bytes of one file, read behind the policy of these bytes.
-fn read_file<'w, F: Shelf, N: Sink>(
+fn read_file<F: Shelf>(
     alloc: Global,
     policy: &[u8],
     quantity: Quantity,
-    name: &'w str,
+    name: &str,
     shelf: &mut F,
-) -> Result<Vec<u8>, Ending<'w, N>>
+) -> Result<Vec<u8>, ReadFault>
     ensures same { F.files shelf.new ≡ F.files shelf.old }
     ensures later { (other : List ℕ) → F.faults shelf.old other ≤ F.faults shelf.new other }
     ensures read { IfOk result (λ bytes. HasBytes (F.files shelf.old) policy.now quantity name.now bytes.items) }
-    ensures unread { IfErr result (λ ending. (ending ≡ Ending.Memory)
-        ⊎ IsFileFault (F.files shelf.old) (F.faults shelf.old) (F.faults shelf.new) policy.now quantity name.now ending) }
+    ensures unread { IfErr result (λ fault. IsReadFault (F.files shelf.old) (F.faults shelf.old) (F.faults shelf.new) policy.now quantity name.now fault) }
 {
     match shelf.read(alloc, name, quantity.limit_in(2) as usize) {
         Ok(bytes) => match is_over(alloc, policy, quantity, bytes.len()) {
             Ok(false) => Ok(bytes),
-            Ok(true) => Err(Ending::TooLong(quantity)),
-            Err(NoMemory) => Err(Ending::Memory),
+            Ok(true) => Err(ReadFault::TooLong),
+            Err(NoMemory) => Err(ReadFault::NoMemory),
         },
-        Err(ReadFault::Failed) => Err(Ending::Unread(name)),
-        Err(ReadFault::TooLong) => Err(Ending::TooLong(quantity)),
-        Err(ReadFault::NoMemory) => Err(Ending::Memory),
+        Err(ReadFault::Failed) => Err(ReadFault::Failed),
+        Err(ReadFault::TooLong) => Err(ReadFault::TooLong),
+        Err(ReadFault::NoMemory) => Err(ReadFault::NoMemory),
+    }
+}
+
+/// How a command ends that doesn't get the file of this name. An ending has room for a whole line, so the function stands apart: a file
+/// that is read makes none.
+#[cold]
+#[inline(never)]
+fn without<'w, N: Sink>(fault: ReadFault, quantity: Quantity, name: &'w str) -> Ending<'w, N>
+    ensures { (files : Option FilesByName) (counts counts' : List ℕ → ℕ) (policy : List ℕ) → IsReadFault files counts counts' policy quantity name.now fault
+        → (result ≡ Ending.Memory) ⊎ IsFileFault files counts counts' policy quantity name.now result }
+{
+    match fault {
+        ReadFault::Failed => Ending::Unread(name),
+        ReadFault::TooLong => Ending::TooLong(quantity),
+        ReadFault::NoMemory => Ending::Memory,
     }
 }
 
@@ -114,7 +129,7 @@ pub fn read_files<'w, F: Shelf, N: Sink>(
                     return Err(Ending::Memory);
                 }
             }
-            Err(ending) => return Err(ending),
+            Err(fault) => return Err(without(fault, quantities[place], names[place])),
         }
     }
     Ok(files)

@@ -31,10 +31,10 @@ returns-in-Err-clause-unread g c =
       is_name = named;
       read = c.loop-place.invariant.read;
       fault = fault_later (g.F.Shelf.faults c.args.shelf.now) (g.F.Shelf.faults c.loop-place.shelf) (g.F.Shelf.faults c.read_file.new.shelf) c.loop-place.invariant.later
-          files (g.F.Shelf.files c.loop-place.shelf) (first bytes) c.first.result.now (get_or c.args.quantities.now place PolicyBytes) name name c.in-Err.ending
+          files (g.F.Shelf.files c.loop-place.shelf) (first bytes) c.first.result.now (get_or c.args.quantities.now place PolicyBytes) name name c.without.result
           c.loop-place.invariant.same same_first refl h;
     }))
-    c.in-Err.ensures.unread
+    (c.without.ensures (g.F.Shelf.files c.loop-place.shelf) (g.F.Shelf.faults c.loop-place.shelf) (g.F.Shelf.faults c.read_file.new.shelf) c.first.result.now c.in-Err.ensures.unread)
 
 pub loop-place-preserved : goal.loop-place-preserved
 loop-place-preserved g c = record {
