@@ -190,8 +190,8 @@ GROWTHS = (
     ("`check`", "rows", lambda n: check(circling(62), looped(129 * n))),
     ("`procs`", "calls", lambda n: procs(DETACHED, leaving(200 * n))),
     ("`refute`", "points", lambda n: refute(POLICY, first_form(1_000 * n, "done", "w3"))),
-    ("`run`", "words of a tape", lambda n: run(several(1), LOOP, "left " * (4_000 * n))),
-    ("`play`", "words of a tape", lambda n: play(POLICY, first_form(1_000, "done", "w3"), "skip " * (4_000 * n))),
+    ("`run`", "entries of a tape", lambda n: run(several(1), LOOP, "left " * (4_000 * n))),
+    ("`play`", "entries of a tape", lambda n: play(POLICY, first_form(1_000, "done", "w3"), "skip " * (4_000 * n))),
 )
 
 

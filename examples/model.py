@@ -208,7 +208,7 @@ class Program:
         self.seams = [next(found[kind]) if (kind := point.split()[0]) in found else None for point in self.made.points]
 
     def walk(self, events):
-        """The words of the tape by which `run` does the same, as far as something happened; each event in its place."""
+        """The entries of the tape by which `run` does the same, as far as something happened; each event in its place."""
         words, stack, point, at = [], [], self.entries["main"], 0
         while True:
             kind, _, name = self.made.points[point].partition(" ")

@@ -15,7 +15,7 @@ const MEMORY: u8 = 8;
 /// How many bytes of a long text go to the system in one write.
 const BUFFER: usize = 65_536;
 
-/// The end of a run whose words found no memory.
+/// The end of a run whose arguments found no memory.
 fn end_without_memory(rt: &HostRuntime) -> ExitCode {
     let stderr = rt.stderr();
     let mut note = StreamSink::make(io::writer(&stderr));
@@ -26,55 +26,55 @@ fn end_without_memory(rt: &HostRuntime) -> ExitCode {
 
 /// What stands at a place of the command line.
 #[derive(Drop)]
-enum Word {
-    /// Nothing: it is behind the last word.
+enum Argument {
+    /// Nothing: it is behind the last argument.
     Nothing,
-    /// A word of UTF-8.
+    /// An argument of UTF-8.
     Text(String),
-    /// A word of other bytes.
+    /// An argument of other bytes.
     Bytes,
 }
 
-/// A word, if it is UTF-8.
-fn text_of(rt: &HostRuntime, word: &[u8]) -> Result<Word, NoMemory> {
-    match str::from_utf8(word) {
-        Ok(text) => Ok(Word::Text(String::from_str(rt.alloc(), text)?)),
-        Err(_) => Ok(Word::Bytes),
+/// An argument, if it is UTF-8.
+fn text_of(rt: &HostRuntime, argument: &[u8]) -> Result<Argument, NoMemory> {
+    match str::from_utf8(argument) {
+        Ok(text) => Ok(Argument::Text(String::from_str(rt.alloc(), text)?)),
+        Err(_) => Ok(Argument::Bytes),
     }
 }
 
-/// The word of a number, counted from the program's name. A system's words are shorter than 2 GB.
-fn word_at(rt: &HostRuntime, number: usize) -> Result<Word, NoMemory> {
+/// The argument of a number, counted from the program's name. A system's arguments are shorter than 2 GB.
+fn argument_at(rt: &HostRuntime, number: usize) -> Result<Argument, NoMemory> {
     for bits in 8_u32..32 {
-        let mut word = vec![in rt.alloc(); 0_u8; 1_usize << bits]?;
-        match rt.arg(number, &mut word) {
-            Ok(length) => return text_of(rt, &word[..length]),
-            Err(FillError::NotPresent) => return Ok(Word::Nothing),
+        let mut argument = vec![in rt.alloc(); 0_u8; 1_usize << bits]?;
+        match rt.arg(number, &mut argument) {
+            Ok(length) => return text_of(rt, &argument[..length]),
+            Err(FillError::NotPresent) => return Ok(Argument::Nothing),
             Err(FillError::TooLong) => {}
         }
     }
     Err(NoMemory)
 }
 
-/// The words behind the program's name. Where one isn't UTF-8, the first of them alone, if that is: one word fits no command.
-fn words_of(rt: &HostRuntime) -> Result<Vec<String>, NoMemory> {
-    let mut words = Vec::new(rt.alloc());
+/// The arguments behind the program's name. Where one isn't UTF-8, the first of them alone, if that is: one argument fits no command.
+fn arguments_of(rt: &HostRuntime) -> Result<Vec<String>, NoMemory> {
+    let mut arguments = Vec::new(rt.alloc());
     for number in 1..usize::MAX {
-        match word_at(rt, number)? {
-            Word::Text(word) => words.push(word)?,
-            Word::Bytes => {
-                words.truncate(1);
+        match argument_at(rt, number)? {
+            Argument::Text(argument) => arguments.push(argument)?,
+            Argument::Bytes => {
+                arguments.truncate(1);
                 break;
             }
-            Word::Nothing => break,
+            Argument::Nothing => break,
         }
     }
-    Ok(words)
+    Ok(arguments)
 }
 
-/// Runs the command that the words say over the files and streams of the system, and exits with its status.
+/// Runs the command that the arguments say over the files and streams of the system, and exits with its status.
 fn main(rt: HostRuntime) -> ExitCode {
-    let Ok(words) = words_of(&rt) else {
+    let Ok(arguments) = arguments_of(&rt) else {
         return end_without_memory(&rt);
     };
     let Ok(writer) = BufWriter::with_capacity(rt.alloc(), BUFFER, io::writer(&rt)) else {
@@ -84,5 +84,5 @@ fn main(rt: HostRuntime) -> ExitCode {
     let mut shelf = FileShelf::make(&rt);
     let mut out = StreamSink::make(writer);
     let mut note = StreamSink::make(io::writer(&stderr));
-    ExitCode::from(capweave(rt.alloc(), &words, &mut shelf, &mut out, &mut note))
+    ExitCode::from(capweave(rt.alloc(), &arguments, &mut shelf, &mut out, &mut note))
 }

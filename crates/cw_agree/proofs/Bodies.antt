@@ -15,7 +15,7 @@ use Rattle.cw_syntax.specs.declared.program.Param.{Param}
 use Rattle.cw_syntax.specs.Names.{text, Names}
 use Rattle.cw_syntax.specs.Trees.{Tree, Node, Trees, none, more, Declared, Statement, Stated, Form, Block, Declares, Evaluates, Empties, Labels, Chooses, Whiles, Does, Fors, Breaks, Continues, Returns, Definition}
 use Rattle.cw_syntax.specs.Plans.{Stm, Plain, Break, Continue, Return, Open, Close, Call, Group, Label, If, While, Do, For, scene_of}
-use Rattle.cw_syntax.specs.Frames.{Item, Entry, Todo, Test, After, Mark, End}
+use Rattle.cw_syntax.specs.Frames.{Item, Entry, Todo, Test, After, LoopEnd, End}
 use Rattle.cw_callgraph.specs.Scoping.{global, parameters}
 use Rattle.cw_callgraph.specs.Forbidding.{body_places}
 use Rattle.cw_value.specs.Deeds.{said_all, begins_at, form_of, form_at, plain_if, returned, evaluated, condition, next_turn, arguments_of, arguments_if, statement_deed, deed_of}
@@ -121,11 +121,11 @@ module _ (s : Source) (f : Definition) where
 
     found_quiet : (at : ℕ) (sts : List Statement) → AllQuiet s f sts → QuietFormIf (option_map form_of (find (begins_at at) sts))
     found_quiet at [] h = tt
-    found_quiet at (Stated form from to ∷ sts) h = by_place (begins_at at (Stated form from to)) (found_quiet at sts h.1) where
-      by_place : (b : Bool) → QuietFormIf (option_map form_of (find (begins_at at) sts))
+    found_quiet at (Stated form from to ∷ sts) h = by_location (begins_at at (Stated form from to)) (found_quiet at sts h.1) where
+      by_location : (b : Bool) → QuietFormIf (option_map form_of (find (begins_at at) sts))
           → QuietFormIf (option_map form_of (cond b (Some (Stated form from to)) (find (begins_at at) sts)))
-      by_place true r = h.0
-      by_place false r = r
+      by_location true r = h.0
+      by_location false r = r
 
     at_quiet : (at : ℕ) → QuietFormIf (form_at f at)
     at_quiet at = found_quiet at (said_all f.body) quiet
@@ -270,5 +270,5 @@ module _ (s : Source) (f : Definition) where
     deeds_quiet (Test at false u b) = tt
     deeds_quiet (After at) = turn_quiet (form_at f at) (at_quiet at)
     deeds_quiet (Entry g j) = tt
-    deeds_quiet Mark = tt
+    deeds_quiet LoopEnd = tt
     deeds_quiet (End g) = tt

@@ -4,7 +4,7 @@ use Rattle.std.specs.List.{AllByRecursion, Contains}
 use Rattle.std.proofs.lemmas.List.Elements.{Contains-push, Contains-append_left, Contains-append_right}
 use Rattle.cw_syntax.specs.Trees.{Statement, Stated, Form, Block, Declares, Evaluates, Empties, Labels, Chooses, Whiles, Does, Fors, Breaks, Continues, Returns, Perhaps, nothing, just, Statements, nil, cons}
 use Rattle.cw_syntax.specs.Plans.{Callee, Scene, Stm, Plain, Break, Continue, Return, Open, Close, Call, Group, Label, If, While, Do, For, Stms, end, then, acting, action_of, steps_of, steps_of_form, steps_of_arm, steps_of_all, numbered, numbered_all, seams}
-use Rattle.cw_syntax.specs.Frames.{Item, Entry, Todo, Test, After, Mark, End, Frame, items_of, init_if, after_if, opened, opened_all, settle, broken, continued, ended, Way, On, Left, Right, Opened, Failed, after}
+use Rattle.cw_syntax.specs.Frames.{Item, Entry, Todo, Test, After, LoopEnd, End, Frame, items_of, init_if, after_if, expanded, expanded_all, settle, broken, continued, ended, Way, On, Left, Right, Opened, Failed, after}
 use Rattle.cw_callgraph.specs.Effects.{callees, callees_all}
 use Rattle.cw_value.specs.Deeds.{said, said_if, said_init, said_all}
 use Rattle.cw_agree.proofs.Forbidden.{every_both}
@@ -147,32 +147,32 @@ module _ (P : ℕ → Callee → Type 0) where
   after_if_has false at rest h = h
 
   mutual
-    opened_has : (s : Stm) (rest next : Frame) → CallsIn P s → FrameHas rest → FrameHas next → FrameHas (opened s rest next)
-    opened_has (Plain at) rest next h r n = (tt, r)
-    opened_has (Break at) rest next h r n = (tt, r)
-    opened_has (Continue at) rest next h r n = (tt, r)
-    opened_has (Return at) rest next h r n = (tt, r)
-    opened_has (Open at j d) rest next h r n = (tt, r)
-    opened_has (Close at j d) rest next h r n = (tt, r)
-    opened_has (Call at j callee) rest next h r n = (h, r)
-    opened_has (Group ss) rest next h r n = opened_all_has ss rest next h r n
-    opened_has (Label at mark j l s) rest next h r n = (h, r)
-    opened_has (If at s t) rest next h r n = (h, r)
-    opened_has (While at s) rest next h r n = (h, (tt, r))
-    opened_has (Do at s) rest next h r n = opened_has s (Test at true false s ∷ (Mark ∷ rest)) (Test at true false s ∷ (Mark ∷ rest)) h (h, (tt, r)) (h, (tt, r))
-    opened_has (For at init d u s) rest next h r n = init_has init (Test at d u s ∷ (Mark ∷ rest)) (h, (tt, r))
+    expanded_has : (s : Stm) (rest next : Frame) → CallsIn P s → FrameHas rest → FrameHas next → FrameHas (expanded s rest next)
+    expanded_has (Plain at) rest next h r n = (tt, r)
+    expanded_has (Break at) rest next h r n = (tt, r)
+    expanded_has (Continue at) rest next h r n = (tt, r)
+    expanded_has (Return at) rest next h r n = (tt, r)
+    expanded_has (Open at j d) rest next h r n = (tt, r)
+    expanded_has (Close at j d) rest next h r n = (tt, r)
+    expanded_has (Call at j callee) rest next h r n = (h, r)
+    expanded_has (Group ss) rest next h r n = expanded_all_has ss rest next h r n
+    expanded_has (Label at mark j l s) rest next h r n = (h, r)
+    expanded_has (If at s t) rest next h r n = (h, r)
+    expanded_has (While at s) rest next h r n = (h, (tt, r))
+    expanded_has (Do at s) rest next h r n = expanded_has s (Test at true false s ∷ (LoopEnd ∷ rest)) (Test at true false s ∷ (LoopEnd ∷ rest)) h (h, (tt, r)) (h, (tt, r))
+    expanded_has (For at init d u s) rest next h r n = init_has init (Test at d u s ∷ (LoopEnd ∷ rest)) (h, (tt, r))
 
-    opened_all_has : (ss : Stms) (rest next : Frame) → CallsInAll P ss → FrameHas rest → FrameHas next → FrameHas (opened_all ss rest next)
-    opened_all_has end rest next h r n = n
-    opened_all_has (then s ss) rest next h r n = opened_has s (items_of ss rest) (opened_all ss rest next) h.0 (items_have ss rest h.1 r) (opened_all_has ss rest next h.1 r n)
+    expanded_all_has : (ss : Stms) (rest next : Frame) → CallsInAll P ss → FrameHas rest → FrameHas next → FrameHas (expanded_all ss rest next)
+    expanded_all_has end rest next h r n = n
+    expanded_all_has (then s ss) rest next h r n = expanded_has s (items_of ss rest) (expanded_all ss rest next) h.0 (items_have ss rest h.1 r) (expanded_all_has ss rest next h.1 r n)
 
   pub settle_has : (is : Frame) → FrameHas is → FrameHas (settle is)
   settle_has [] h = tt
   settle_has (Entry f j ∷ rest) h = h
-  settle_has (Todo s ∷ rest) h = opened_has s rest (settle rest) h.0 h.1 (settle_has rest h.1)
+  settle_has (Todo s ∷ rest) h = expanded_has s rest (settle rest) h.0 h.1 (settle_has rest h.1)
   settle_has (Test at d u s ∷ rest) h = h
   settle_has (After at ∷ rest) h = h
-  settle_has (Mark ∷ rest) h = settle_has rest h.1
+  settle_has (LoopEnd ∷ rest) h = settle_has rest h.1
   settle_has (End f ∷ rest) h = h
 
   abbrev pub HasIf : Option Frame → Type 0
@@ -181,7 +181,7 @@ module _ (P : ℕ → Callee → Type 0) where
 
   broken_has : (is : Frame) → FrameHas is → HasIf (broken is)
   broken_has [] h = tt
-  broken_has (Mark ∷ rest) h = h.1
+  broken_has (LoopEnd ∷ rest) h = h.1
   broken_has (Entry f j ∷ rest) h = broken_has rest h.1
   broken_has (Todo s ∷ rest) h = broken_has rest h.1
   broken_has (Test at d u s ∷ rest) h = broken_has rest h.1
@@ -192,7 +192,7 @@ module _ (P : ℕ → Callee → Type 0) where
   continued_has [] h = tt
   continued_has (Test at d u s ∷ rest) h = h
   continued_has (After at ∷ rest) h = h
-  continued_has (Mark ∷ rest) h = continued_has rest h.1
+  continued_has (LoopEnd ∷ rest) h = continued_has rest h.1
   continued_has (Entry f j ∷ rest) h = continued_has rest h.1
   continued_has (Todo s ∷ rest) h = continued_has rest h.1
   continued_has (End f ∷ rest) h = continued_has rest h.1
@@ -204,7 +204,7 @@ module _ (P : ℕ → Callee → Type 0) where
   ended_has (Todo s ∷ rest) h = ended_has rest h.1
   ended_has (Test at d u s ∷ rest) h = ended_has rest h.1
   ended_has (After at ∷ rest) h = ended_has rest h.1
-  ended_has (Mark ∷ rest) h = ended_has rest h.1
+  ended_has (LoopEnd ∷ rest) h = ended_has rest h.1
 
   pub after_has : (i : Item) (way : Way) (rest : Frame) → ItemHas i → FrameHas rest → HasIf (after i way rest)
   after_has (Entry f j) On rest h r = r
@@ -267,11 +267,11 @@ module _ (P : ℕ → Callee → Type 0) where
   after_has (After at) Right rest h r = tt
   after_has (After at) Opened rest h r = tt
   after_has (After at) Failed rest h r = tt
-  after_has Mark On rest h r = tt
-  after_has Mark Left rest h r = tt
-  after_has Mark Right rest h r = tt
-  after_has Mark Opened rest h r = tt
-  after_has Mark Failed rest h r = tt
+  after_has LoopEnd On rest h r = tt
+  after_has LoopEnd Left rest h r = tt
+  after_has LoopEnd Right rest h r = tt
+  after_has LoopEnd Opened rest h r = tt
+  after_has LoopEnd Failed rest h r = tt
   after_has (End f) On rest h r = tt
   after_has (End f) Left rest h r = tt
   after_has (End f) Right rest h r = tt

@@ -22,7 +22,7 @@ use Rattle.cw_callgraph.specs.Forbidding.{body_places, places_of, by_body, by_ca
 use Rattle.cw_callgraph.specs.Fitting.{MayBeSplit, Fits}
 use Rattle.cw_callgraph.proofs.Kept.{contained, had, has_all, firsts_from}
 use Rattle.cw_callgraph.specs.Finding.{with_all}
-use Rattle.cw_value.specs.Expressions.{Memory, place_of, Target, OwnSpot, SharedSpot, Nothing, stored, target_at}
+use Rattle.cw_value.specs.Expressions.{Memory, location_of, Target, OwnSpot, SharedSpot, Nothing, stored, target_at}
 use Rattle.cw_value.specs.Deeds.{said_all}
 use Rattle.cw_value.specs.Machines.{Source, scope_in}
 use Rattle.cw_agree.proofs.Keeps.{Keeping, Quiet}
@@ -105,7 +105,7 @@ module _ (policy : PlainPolicy) (s : Source) where
 
   -- its result goes to no value of the file's where the statement is quiet
   abbrev pub ResultSpared : Definition → Name → Type 0
-  ResultSpared f x = IsSpared (target_at (place_of (scope_in s (Some f)) (text s.bytes x)))
+  ResultSpared f x = IsSpared (target_at (location_of (scope_in s (Some f)) (text s.bytes x)))
 
   pub record Invoked (e : Tree) (c : Callee) : Type 0 where
     pub name : List ℕ

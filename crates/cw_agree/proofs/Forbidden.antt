@@ -16,7 +16,7 @@ use Rattle.cw_syntax.specs.Plans.{Scene, scene_of, action_of}
 use Rattle.cw_callgraph.specs.Scoping.{latest, is_shared, is_array, is_parameter, name_means, meaning_at, first_means, local, file_scope}
 use Rattle.cw_callgraph.specs.Forbidding.{place_if, first_role, writes, element_at, forbids_itself, places, places_in, given, size, in_items, declared, is_seam, known_after, known_in, init_in, init}
 use Rattle.cw_callgraph.specs.Forbidding.{known_by_init_in, known_by_init, stated, formed, stated_arm, stated_all}
-use Rattle.cw_value.specs.Expressions.{Scope, Place, Own, OwnArray, Shared, SharedArray, Nowhere, Target, SharedSpot, target_at, first_place}
+use Rattle.cw_value.specs.Expressions.{Scope, Location, Own, OwnArray, Shared, SharedArray, Nowhere, Target, SharedSpot, target_at, first_location}
 use Rattle.cw_value.specs.Declarations.{element_target, size_in}
 use Rattle.cw_value.specs.Deeds.{said, said_if, said_init, said_all}
 use Rattle.cw_value.specs.Deeds.{init_in as said_form}
@@ -29,14 +29,14 @@ abbrev pub IsSpared : Target → Type 0
 IsSpared (SharedSpot p) = ⊥
 IsSpared _ = Unit {0}
 
-target_spared : (p : Place) → is_file p ≡ false → IsSpared (target_at p)
+target_spared : (p : Location) → is_file p ≡ false → IsSpared (target_at p)
 target_spared (Own n) h = tt
 target_spared (OwnArray n) h = tt
 target_spared (Shared n) h = absurd (cc)
 target_spared (SharedArray n) h = absurd (cc)
 target_spared Nowhere h = tt
 
-elements_spared : (p : Place) → is_file_array p ≡ false → (i : ℕ) → IsSpared (element_target p i)
+elements_spared : (p : Location) → is_file_array p ≡ false → (i : ℕ) → IsSpared (element_target p i)
 elements_spared (Own n) h i = tt
 elements_spared (OwnArray n) h i = tt
 elements_spared (Shared n) h i = tt
@@ -87,7 +87,7 @@ module _ (s : Source) (f : Definition) where
     file_named name h = false_from_ne_true (is_file (here s f name)) (λ e.
         not_both (is_shared (name_means s.bytes file inner name)) (ap is_shared (passes inner name (latest s.bytes None file name) known e) ∙ file_means s f name e) h)
 
-    array_file : (p : Place) → is_file_array p ≡ true → is_file p ≡ true
+    array_file : (p : Location) → is_file_array p ≡ true → is_file p ≡ true
     array_file (SharedArray n) h = refl
     array_file (Own n) h = absurd (cc)
     array_file (OwnArray n) h = absurd (cc)
@@ -99,7 +99,7 @@ module _ (s : Source) (f : Definition) where
         not_both (is_array (name_means s.bytes file inner name))
         (ap is_array (passes inner name (latest s.bytes None file name) known (array_file (here s f name) e)) ∙ file_array_means s f name e) h)
 
-    elements_of : (ts : Trees) → is_array (first_means s.bytes file inner ts) ≡ false → ElementsSpared IsSpared scope (first_place scope ts)
+    elements_of : (ts : Trees) → is_array (first_means s.bytes file inner ts) ≡ false → ElementsSpared IsSpared scope (first_location scope ts)
     elements_of none h i = tt
     elements_of (more (Node NameOp parts from to) ts) h i = elements_spared (here s f (slice s.bytes from to)) (array_named (slice s.bytes from to) h) i
     elements_of (more (Node (Number n) parts from to) ts) h i = tt

@@ -9,10 +9,10 @@ use Rattle.cw_syntax.specs.declared.program.Op.TheVariants.{Name as NameOp, Numb
 use Rattle.cw_syntax.specs.Names.{text}
 use Rattle.cw_syntax.specs.Trees.{Tree, Node, Trees, none, more, Declared, Definition, op_of, parts_of}
 use Rattle.cw_syntax.specs.Plans.{Plain, Break, Continue, Return, Open, Close, Call, Group, Label, If, While, Do, For}
-use Rattle.cw_syntax.specs.Frames.{Item, Entry, Todo, Test, After, Mark, End, Frame}
+use Rattle.cw_syntax.specs.Frames.{Item, Entry, Todo, Test, After, LoopEnd, End, Frame}
 use Rattle.cw_model.specs.Boards.{Problem}
 use Rattle.cw_value.specs.Stores.{Cell}
-use Rattle.cw_value.specs.Expressions.{Made, Scope, Memory, Outcome, gives, stops, place_of, Target, OwnSpot, SharedSpot, Nothing, stored, target_at, from_of, to_of}
+use Rattle.cw_value.specs.Expressions.{Made, Scope, Memory, Outcome, gives, stops, location_of, Target, OwnSpot, SharedSpot, Nothing, stored, target_at, from_of, to_of}
 use Rattle.cw_value.specs.Declarations.{size_in}
 use Rattle.cw_value.specs.Deeds.{Deed, Rests, Computes, Makes, Decides, Opens, Calls, Answers, Passing, deed_of, does}
 use Rattle.cw_value.specs.Machines.{Source, Locals, Machine, Step, goes, halts, step, step_by, within, by_outcome, entered, settled_in, answering, deed_in, scope_in, function, memory, ends_in, call_in, back_by, back_to, result_by, taken_over, taken_by, form_in, whole_from}
@@ -123,7 +123,7 @@ module _ (s : Source) where
   entered_keeps split (Entry f j) p m = (refl, refl)
   entered_keeps split (Test at d u b) p m = (refl, refl)
   entered_keeps split (After at) p m = (refl, refl)
-  entered_keeps split Mark p m = (refl, refl)
+  entered_keeps split LoopEnd p m = (refl, refl)
   entered_keeps split (End f) p m = (refl, refl)
   entered_keeps split (Todo (Plain at)) p m = (refl, refl)
   entered_keeps split (Todo (Break at)) p m = (refl, refl)
@@ -169,7 +169,7 @@ module _ (s : Source) where
   over_grows : (at : ℕ) (x : Name) (c : Cell) (caller : Locals) (rest : List Locals) (m : Machine) → Behind (λ k. Longer m.made k.made) (taken_over s at x c caller rest m)
   over_grows at x None caller rest m = no_longer m.made m.made refl
   over_grows at x (Some z) caller rest m =
-      taken_grows (whole_from at (form_in (function s caller.function) at)) (target_at (place_of (scope_in s (function s caller.function)) (text s.bytes x))) z caller rest m
+      taken_grows (whole_from at (form_in (function s caller.function) at)) (target_at (location_of (scope_in s (function s caller.function)) (text s.bytes x))) z caller rest m
 
   result_grows : (at : ℕ) (x : Option Name) (c : Cell) (caller : Locals) (rest : List Locals) (m : Machine) → Behind (λ k. Longer m.made k.made) (result_by s at x c caller rest m)
   result_grows at None c caller rest m = no_longer m.made m.made refl
@@ -194,7 +194,7 @@ module _ (s : Source) where
   item_grows split (Todo b) frames m = within_grows split (Todo b) m m.frames
   item_grows split (Test at d u b) frames m = within_grows split (Test at d u b) m m.frames
   item_grows split (After at) frames m = within_grows split (After at) m m.frames
-  item_grows split Mark frames m = within_grows split Mark m m.frames
+  item_grows split LoopEnd frames m = within_grows split LoopEnd m m.frames
 
   -- a step makes further calls, and forgets none
   pub step_grows : (split : Bool) (stack : List Frame) (m : Machine) → Behind (λ k. Longer m.made k.made) (step s split stack m)

@@ -10,12 +10,12 @@ use Rattle.cw_syntax.specs.declared.program.Name.{Name}
 use Rattle.cw_syntax.specs.Names.{text}
 use Rattle.cw_syntax.specs.Trees.{Definition}
 use Rattle.cw_syntax.specs.Plans.{Callee, Plain, Break, Continue, Return, Open, Close, Call, Group, Label, If, While, Do, For, Routine}
-use Rattle.cw_syntax.specs.Frames.{Item, Entry, Todo, Test, After, Mark, End, Frame, new_frame, frame_of, settle, Way, On, Left, Right, Opened, Failed, after, popped, pushed, pass}
+use Rattle.cw_syntax.specs.Frames.{Item, Entry, Todo, Test, After, LoopEnd, End, Frame, new_frame, frame_of, settle, Way, On, Left, Right, Opened, Failed, after, popped, pushed, pass}
 use Rattle.cw_model.specs.Boards.{problem_of}
 use Rattle.cw_callgraph.specs.Effects.{calls, calls_of}
 use Rattle.cw_callgraph.specs.Fitting.{Fits}
 use Rattle.cw_value.specs.Stores.{Cell, Store}
-use Rattle.cw_value.specs.Expressions.{Memory, Outcome, gives, stops, place_of, Target, OwnSpot, SharedSpot, Nothing, stored, target_at}
+use Rattle.cw_value.specs.Expressions.{Memory, Outcome, gives, stops, location_of, Target, OwnSpot, SharedSpot, Nothing, stored, target_at}
 use Rattle.cw_value.specs.Deeds.{Passing, deed_of, does}
 use Rattle.cw_value.specs.Machines.{Source, Locals, Machine, goes, step, step_by, within, by_outcome, entered, settled_in, answering, deed_in, scope_in, function, memory, saved_if, ends_in, call_in, back_by, result_by, taken_over, taken_by, form_in, whole_from}
 use Rattle.cw_agree.proofs.Keeps.{does_keeps}
@@ -138,10 +138,10 @@ module _ (policy : PlainPolicy) (s : Source) (fits : Fits s.bytes s.file policy)
     by_routine (Some r) e = let k = routine_at policy s 0 s.file.functions n r e in (k.definition, k.defined)
 
   result_spared : (callee : Callee) (caller : Locals) (rest : List Locals) (g : Store) (x : Name) → callee.result ≡ Some x → Called policy s fits caller.function callee → Fenced g (caller ∷ rest)
-      → keeps_some (caller ∷ rest) ≡ true → IsSpared (target_at (place_of (scope_in s (function s caller.function)) (text s.bytes x)))
+      → keeps_some (caller ∷ rest) ≡ true → IsSpared (target_at (location_of (scope_in s (function s caller.function)) (text s.bytes x)))
   result_spared callee caller rest g x e called f k =
       let d = defined_of caller.function callee.number called.reaches in
-      subst (λ o. IsSpared (target_at (place_of (scope_in s o) (text s.bytes x)))) (sym d.1) (called.result x d.0 e d.1 (f.1 k).0)
+      subst (λ o. IsSpared (target_at (location_of (scope_in s o) (text s.bytes x)))) (sym d.1) (called.result x d.0 e d.1 (f.1 k).0)
 
   on_target : (at : ℕ) (t : Target) (z : ℤ) (stack : List Frame) (caller : Locals) (rest : List Locals) (m1 m2 : Machine)
       → (keeps_some (caller ∷ rest) ≡ true → IsSpared t) → Aligned stack (caller ∷ rest) → Fenced m1.shared (caller ∷ rest)
@@ -164,7 +164,7 @@ module _ (policy : PlainPolicy) (s : Source) (fits : Fits s.bytes s.file policy)
       → Called policy s fits caller.function callee → Aligned stack (caller ∷ rest) → Fenced m1.shared (caller ∷ rest) → taken_over s at x c caller rest m1 ≡ goes On m2 → Inv stack m2
   on_answer at callee x None stack caller rest m1 m2 e called a f st = absurd (cc)
   on_answer at callee x (Some z) stack caller rest m1 m2 e called a f st =
-      on_target (whole_from at (form_in (function s caller.function) at)) (target_at (place_of (scope_in s (function s caller.function)) (text s.bytes x))) z stack caller rest m1 m2
+      on_target (whole_from at (form_in (function s caller.function) at)) (target_at (location_of (scope_in s (function s caller.function)) (text s.bytes x))) z stack caller rest m1 m2
       (result_spared callee caller rest m1.shared x e called f) a f st
 
   on_result : (at : ℕ) (callee : Callee) (o : Option Name) (c : Cell) (stack : List Frame) (caller : Locals) (rest : List Locals) (m1 m2 : Machine) → callee.result ≡ o
@@ -181,7 +181,7 @@ module _ (policy : PlainPolicy) (s : Source) (fits : Fits s.bytes s.file policy)
   on_back (Entry g j) r top caller stack rest m1 m2 h a v f st = no_result stack m1 m2 v st
   on_back (Test at d u b) r top caller stack rest m1 m2 h a v f st = no_result stack m1 m2 v st
   on_back (After at) r top caller stack rest m1 m2 h a v f st = no_result stack m1 m2 v st
-  on_back Mark r top caller stack rest m1 m2 h a v f st = no_result stack m1 m2 v st
+  on_back LoopEnd r top caller stack rest m1 m2 h a v f st = no_result stack m1 m2 v st
   on_back (End g) r top caller stack rest m1 m2 h a v f st = no_result stack m1 m2 v st
   on_back (Todo (Plain at)) r top caller stack rest m1 m2 h a v f st = no_result stack m1 m2 v st
   on_back (Todo (Break at)) r top caller stack rest m1 m2 h a v f st = no_result stack m1 m2 v st
@@ -247,7 +247,7 @@ module _ (policy : PlainPolicy) (s : Source) (fits : Fits s.bytes s.file policy)
   item_kept split (Entry g j) is frames m way m2 next sp v st ps = at_within split (Entry g j) is frames m m.frames way m2 next (λ p k. refl) v.0 v.1 st ps
   item_kept split (Test at d u b) is frames m way m2 next sp v st ps = at_within split (Test at d u b) is frames m m.frames way m2 next (λ p k. refl) v.0 v.1 st ps
   item_kept split (After at) is frames m way m2 next sp v st ps = at_within split (After at) is frames m m.frames way m2 next (λ p k. refl) v.0 v.1 st ps
-  item_kept split Mark is frames m way m2 next sp v st ps = at_within split Mark is frames m m.frames way m2 next (λ p k. refl) v.0 v.1 st ps
+  item_kept split LoopEnd is frames m way m2 next sp v st ps = at_within split LoopEnd is frames m m.frames way m2 next (λ p k. refl) v.0 v.1 st ps
   item_kept split (Todo (Plain at)) is frames m way m2 next sp v st ps = at_within split (Todo (Plain at)) is frames m m.frames way m2 next (λ p k. refl) v.0 v.1 st ps
   item_kept split (Todo (Break at)) is frames m way m2 next sp v st ps = at_within split (Todo (Break at)) is frames m m.frames way m2 next (λ p k. refl) v.0 v.1 st ps
   item_kept split (Todo (Continue at)) is frames m way m2 next sp v st ps = at_within split (Todo (Continue at)) is frames m m.frames way m2 next (λ p k. refl) v.0 v.1 st ps

@@ -16,9 +16,9 @@ use Rattle.cw_figures.specs.Figures.{Figure, fitting, truth, is_zero, operated, 
 use Rattle.cw_value.specs.declared.values.Stop.TheVariants.{Form}
 use Rattle.cw_value.specs.declared.values.Arg.{Arg}
 use Rattle.cw_value.specs.Stores.{Cell, Spot, Element, array_of}
-use Rattle.cw_value.specs.Expressions.{Made, Scope, Memory, Outcome, gives, stops, ◌and◌, from_of, to_of, Place, Own, OwnArray, Shared, SharedArray, Nowhere, place_of, Target, OwnSpot, SharedSpot, Nothing, stored, cell_at, figured, cell_read, given_read, given_for, name_read, read_name, target_at}
-use Rattle.cw_value.specs.Expressions.{first_place, is_array, spot_if, indexed, element_in, is_span, answered, Part, signed, truth_of, either, both, joined, combined, binary, put, old_value, after_change, changed, by_one, element, target_of, name_if, before_first, updated, stepped, assigned, prefixed, argued, value, first, second, target, base, index, arguments}
-use Rattle.cw_value.specs.Declarations.{array_at, made_array, made_plain, element_target, most_elements, size_if, size_in, sized, listed_one, filled, with_list, new_array, rest_stops, new_plain, by_place, declares_all, declares}
+use Rattle.cw_value.specs.Expressions.{Made, Scope, Memory, Outcome, gives, stops, ◌and◌, from_of, to_of, Location, Own, OwnArray, Shared, SharedArray, Nowhere, location_of, Target, OwnSpot, SharedSpot, Nothing, stored, cell_at, figured, cell_read, given_read, given_for, name_read, read_name, target_at}
+use Rattle.cw_value.specs.Expressions.{first_location, is_array, spot_if, indexed, element_in, is_span, answered, Part, signed, truth_of, either, both, joined, combined, binary, put, old_value, after_change, changed, by_one, element, target_of, name_if, before_first, updated, stepped, assigned, prefixed, argued, value, first, second, target, base, index, arguments}
+use Rattle.cw_value.specs.Declarations.{array_at, made_array, made_plain, element_target, most_elements, size_if, size_in, sized, listed_one, filled, with_list, new_array, rest_stops, new_plain, by_location, declares_all, declares}
 use Rattle.cw_agree.specs.Agreements.{IsPlaced}
 use Rattle.cw_value.specs.Deeds.{Deed, Rests, Computes, Makes, Decides, Opens, Calls, Answers, values, value_if, does}
 
@@ -41,12 +41,12 @@ changes (Prefix n) = nat_eq n 6 || nat_eq n 7
 changes _ = false
 
 module _ (Spared : Target → Type 0) (s : Scope) where
-  abbrev pub ElementsSpared : Place → Type 0
+  abbrev pub ElementsSpared : Location → Type 0
   ElementsSpared p = (i : ℕ) → Spared (element_target p i)
 
   abbrev pub spared_at : Op → Trees → ℕ → ℕ → Type 0
-  spared_at NameOp parts from to = Spared (target_at (place_of s (slice s.source from to)))
-  spared_at IndexOp parts from to = ElementsSpared (first_place s parts)
+  spared_at NameOp parts from to = Spared (target_at (location_of s (slice s.source from to)))
+  spared_at IndexOp parts from to = ElementsSpared (first_location s parts)
   spared_at _ parts from to = Unit {0}
 
   abbrev pub SparesFirst : Trees → Type 0
@@ -113,15 +113,15 @@ module _ (R : Memory → Memory → Type 0) (Spared : Target → Type 0) (keep :
   given_ends g at m (Some z) h = (tt, h)
   given_ends g at m None h = (tt, h)
 
-  place_ends : (s : Scope) (name : List ℕ) (at : ℕ) (g m : Memory) (p : Place) → R g m → Ends g Any (name_read s name at m p)
-  place_ends s name at g m (Own n) h = cell_ends g at m _ h
-  place_ends s name at g m (Shared n) h = cell_ends g at m _ h
-  place_ends s name at g m Nowhere h = given_ends g at m (given_for s name) h
-  place_ends s name at g m (OwnArray n) h = (tt, h)
-  place_ends s name at g m (SharedArray n) h = (tt, h)
+  location_ends : (s : Scope) (name : List ℕ) (at : ℕ) (g m : Memory) (p : Location) → R g m → Ends g Any (name_read s name at m p)
+  location_ends s name at g m (Own n) h = cell_ends g at m _ h
+  location_ends s name at g m (Shared n) h = cell_ends g at m _ h
+  location_ends s name at g m Nowhere h = given_ends g at m (given_for s name) h
+  location_ends s name at g m (OwnArray n) h = (tt, h)
+  location_ends s name at g m (SharedArray n) h = (tt, h)
 
   name_leaves : (s : Scope) (from to : ℕ) → Leaves Any (read_name s from to)
-  name_leaves s from to m g h = place_ends s (slice s.source from to) from g m (place_of s (slice s.source from to)) h
+  name_leaves s from to m g h = location_ends s (slice s.source from to) from g m (location_of s (slice s.source from to)) h
 
   stored_next : (g m : Memory) (t : Target) (z : ℤ) → Spared t → R g m → R g (stored m t z)
   stored_next g m t z own h = keep.joins g m (stored m t z) h (keep.store m t z own)
@@ -145,7 +145,7 @@ module _ (R : Memory → Memory → Type 0) (Spared : Target → Type 0) (keep :
   shared_ends g at m cells (pos i) n own h = if_element g at m n i (nat_lt i (length cells)) own h
   shared_ends g at m cells (negsuc i) n own h = (tt, h)
 
-  element_ends : (s : Scope) (g : Memory) (at : ℕ) (p : Place) (i : ℤ) (m : Memory) → ElementsSpared Spared s p → R g m → Ends g Spared (element_in at p i m)
+  element_ends : (s : Scope) (g : Memory) (at : ℕ) (p : Location) (i : ℤ) (m : Memory) → ElementsSpared Spared s p → R g m → Ends g Spared (element_in at p i m)
   element_ends s g at (OwnArray n) i m own h = own_ends g at m (spot_if (array_of m.own n) i n) h
   element_ends s g at (SharedArray n) i m own h = shared_ends g at m (array_of m.shared n) i n own h
   element_ends s g at (Own n) i m own h = (tt, h)
@@ -156,7 +156,7 @@ module _ (R : Memory → Memory → Type 0) (Spared : Target → Type 0) (keep :
   index_reads g at m f None h = (tt, h)
   index_reads g at m f (Some p) h = (tt, h)
 
-  element_reads : (g : Memory) (at : ℕ) (p : Place) (i : ℤ) (m : Memory) → R g m → Ends g Any (element_in at p i m)
+  element_reads : (g : Memory) (at : ℕ) (p : Location) (i : ℤ) (m : Memory) → R g m → Ends g Any (element_in at p i m)
   element_reads g at (OwnArray n) i m h = index_reads g at m OwnSpot (spot_if (array_of m.own n) i n) h
   element_reads g at (SharedArray n) i m h = index_reads g at m SharedSpot (spot_if (array_of m.shared n) i n) h
   element_reads g at (Own n) i m h = (tt, h)
@@ -252,22 +252,22 @@ module _ (R : Memory → Memory → Type 0) (Spared : Target → Type 0) (keep :
     by_kind false false false false = (tt, h)
 
   module _ (s : Scope) where
-    element_quiet : (at : ℕ) (p : Place) (b i : Part) → Leaves Any b → Leaves Any i → ElementsSpared Spared s p → Leaves Spared (element at p b i)
+    element_quiet : (at : ℕ) (p : Location) (b i : Part) → Leaves Any b → Leaves Any i → ElementsSpared Spared s p → Leaves Spared (element at p b i)
     element_quiet at p b i lb li own m g h = by_kind (is_array p) where
       by_kind : (c : Bool) → Ends g Spared (cond c (i m and element_in at p) (b m and (λ x k. i k and (λ y l. stops (Form at) l))))
       by_kind true = then_ends g Any Spared (i m) _ (li m g h) (λ z k u e. element_ends s g at p z k own e)
       by_kind false = then_ends g Any Spared (b m) _ (lb m g h) (λ z k u e. then_ends g Any Spared (i k) _ (li k g e) (λ y l v f. (tt, f)))
 
-    element_leaves : (at : ℕ) (p : Place) (b i : Part) → Leaves Any b → Leaves Any i → Leaves Any (element at p b i)
+    element_leaves : (at : ℕ) (p : Location) (b i : Part) → Leaves Any b → Leaves Any i → Leaves Any (element at p b i)
     element_leaves at p b i lb li m g h = by_kind (is_array p) where
       by_kind : (c : Bool) → Ends g Any (cond c (i m and element_in at p) (b m and (λ x k. i k and (λ y l. stops (Form at) l))))
       by_kind true = then_ends g Any Any (i m) _ (li m g h) (λ z k u e. element_reads g at p z k e)
       by_kind false = then_ends g Any Any (b m) _ (lb m g h) (λ z k u e. then_ends g Any Any (i k) _ (li k g e) (λ y l v f. (tt, f)))
 
     target_leaves : (op : Op) (parts : Trees) (from to : ℕ) (b i o : Part) → Leaves Any b → Leaves Any i → Leaves Any o → spared_at Spared s op parts from to
-        → Leaves Spared (target_of s op from to (first_place s parts) b i o)
+        → Leaves Spared (target_of s op from to (first_location s parts) b i o)
     target_leaves NameOp parts from to b i o lb li lo own m g h = (own, h)
-    target_leaves IndexOp parts from to b i o lb li lo own m g h = element_quiet from (first_place s parts) b i lb li own m g h
+    target_leaves IndexOp parts from to b i o lb li lo own m g h = element_quiet from (first_location s parts) b i lb li own m g h
     target_leaves (Number n) parts from to b i o lb li lo own m g h = then_ends g Any Spared (o m) _ (lo m g h) (λ z k u e. (keep.nothing, e))
     target_leaves (Char n) parts from to b i o lb li lo own m g h = then_ends g Any Spared (o m) _ (lo m g h) (λ z k u e. (keep.nothing, e))
     target_leaves TextOp parts from to b i o lb li lo own m g h = then_ends g Any Spared (o m) _ (lo m g h) (λ z k u e. (keep.nothing, e))
@@ -304,7 +304,7 @@ module _ (R : Memory → Memory → Type 0) (Spared : Target → Type 0) (keep :
       value_quiet (Node (CallOp f) parts from to) q m g h =
           then_ends g Any Any (arguments s parts m) _ (arguments_quiet parts q.1 m g h) (λ args k u e. answered_ends f from args g k k.calls e)
       value_quiet (Node IndexOp parts from to) q m g h =
-          then_ends g Any Any _ _ (element_leaves from (first_place s parts) (first s parts) (second s parts) (first_quiet parts q.1) (second_quiet parts q.1) m g h)
+          then_ends g Any Any _ _ (element_leaves from (first_location s parts) (first s parts) (second s parts) (first_quiet parts q.1) (second_quiet parts q.1) m g h)
           (λ t k u e. cell_ends g from k (cell_at k t) e)
       value_quiet (Node (Prefix n) parts from to) q m g h =
           prefixed_leaves n from parts (target s parts) (first s parts) (λ c. target_quiet parts q.1 (q.0 c)) (first_quiet parts q.1) m g h
@@ -393,7 +393,7 @@ module _ (R : Memory → Memory → Type 0) (Spared : Target → Type 0) (keep :
     plain_ends n (more e es) g m q h =
         then_ends g Any Any (value s e m) _ (value_quiet e q.0 m g h) (λ z k u r. rest_ends es g (made_plain k (Own n) (Some z)) (plain_next n (Some z) g k r))
 
-    item_ends : (p : Place) (i : Declared) (g m : Memory) → QuietItem Spared s i → R g m → Ends g Any (by_place s p i m)
+    item_ends : (p : Location) (i : Declared) (g m : Memory) → QuietItem Spared s i → R g m → Ends g Any (by_location s p i m)
     item_ends (OwnArray n) i g m q h = array_ends n (size_in i.array) i.braces i.init g m q.0 q.1 h
     item_ends (Own n) i g m q h = plain_ends n i.init g m q.1 h
     item_ends (Shared n) i g m q h = (tt, h)
@@ -403,7 +403,7 @@ module _ (R : Memory → Memory → Type 0) (Spared : Target → Type 0) (keep :
     items_end : (is : List Declared) (g m : Memory) → QuietItems Spared s is → R g m → Ends g Any (declares_all s is m)
     items_end [] g m q h = (tt, h)
     items_end (i ∷ is) g m q h =
-        then_ends g Any Any (by_place s (place_of s (text s.source i.name)) i m) _ (item_ends (place_of s (text s.source i.name)) i g m q.0 h) (λ d k u r. items_end is g k q.1 r)
+        then_ends g Any Any (by_location s (location_of s (text s.source i.name)) i m) _ (item_ends (location_of s (text s.source i.name)) i g m q.0 h) (λ d k u r. items_end is g k q.1 r)
 
     -- ---- deeds
 

@@ -10,8 +10,8 @@ use Rattle.cw_syntax.specs.declared.program.Name.{Name}
 use Rattle.cw_syntax.specs.declared.program.Base.TheVariants.{Void}
 use Rattle.cw_syntax.specs.Names.{text, number_in}
 use Rattle.cw_syntax.specs.Trees.{none, Declared, Declaration, Definition, File}
-use Rattle.cw_callgraph.specs.Scoping.{latest, is_shared, is_array, has_kind, global, globals_in, file_scope}
-use Rattle.cw_value.specs.Expressions.{Place, Shared, SharedArray, place_of, own_by, shared_by}
+use Rattle.cw_callgraph.specs.Scoping.{latest, is_shared, is_array, has_shape, global, globals_in, file_scope}
+use Rattle.cw_value.specs.Expressions.{Location, Shared, SharedArray, location_of, own_by, shared_by}
 use Rattle.cw_value.specs.Machines.{Source, scope_in, own_names, shared_names, globals, items_in, names_of, parameters as parameter_names, is_array as has_brackets, is_plain}
 
 -- The rules' own data can't be named here: they are the types of what they say of some declaration.
@@ -28,8 +28,8 @@ abbrev pub Meaning : Type 0
 Meaning = type_of ((global true some_item).means)
 
 -- an array or a variable of file scope
-abbrev pub kind : Bool → Meaning
-kind b = (global b some_item).means
+abbrev pub shape : Bool → Meaning
+shape b = (global b some_item).means
 
 -- ---- a name is in a list where it has a number there
 
@@ -48,60 +48,60 @@ some_where false n = refl
 pub is_listed : (names : List (List ℕ)) (name : List ℕ) → is_some (number_in names name) ≡ list_any (bytes_eq name) names
 is_listed names name = some_where (nat_lt (position_or_len (bytes_eq name) names) (length names)) (position_or_len (bytes_eq name) names) ∙ below_any (bytes_eq name) names
 
--- ---- places
+-- ---- locations
 
 -- a name of the file
-abbrev pub is_file : Place → Bool
+abbrev pub is_file : Location → Bool
 is_file (Shared n) = true
 is_file (SharedArray n) = true
 is_file _ = false
 
 -- and an array there
-abbrev pub is_file_array : Place → Bool
+abbrev pub is_file_array : Location → Bool
 is_file_array (SharedArray n) = true
 is_file_array _ = false
 
-file_place : (a b c d : Option ℕ) → is_file (own_by a b (shared_by c d)) ≡ true → (is_some c || is_some d) ≡ true
-file_place (Some n) b c d h = absurd (cc)
-file_place None (Some n) c d h = absurd (cc)
-file_place None None (Some n) d h = refl
-file_place None None None (Some n) h = refl
-file_place None None None None h = absurd (cc)
+file_location : (a b c d : Option ℕ) → is_file (own_by a b (shared_by c d)) ≡ true → (is_some c || is_some d) ≡ true
+file_location (Some n) b c d h = absurd (cc)
+file_location None (Some n) c d h = absurd (cc)
+file_location None None (Some n) d h = refl
+file_location None None None (Some n) h = refl
+file_location None None None None h = absurd (cc)
 
-file_array_place : (a b c d : Option ℕ) → is_file_array (own_by a b (shared_by c d)) ≡ true → is_some c ≡ true
-file_array_place (Some n) b c d h = absurd (cc)
-file_array_place None (Some n) c d h = absurd (cc)
-file_array_place None None (Some n) d h = refl
-file_array_place None None None (Some n) h = absurd (cc)
-file_array_place None None None None h = absurd (cc)
+file_array_location : (a b c d : Option ℕ) → is_file_array (own_by a b (shared_by c d)) ≡ true → is_some c ≡ true
+file_array_location (Some n) b c d h = absurd (cc)
+file_array_location None (Some n) c d h = absurd (cc)
+file_array_location None None (Some n) d h = refl
+file_array_location None None None (Some n) h = absurd (cc)
+file_array_location None None None None h = absurd (cc)
 
-own_place : (a b c d : Option ℕ) → (is_some a || is_some b) ≡ true → is_file (own_by a b (shared_by c d)) ≡ false
-own_place (Some n) b c d h = refl
-own_place None (Some n) c d h = refl
-own_place None None c d h = absurd (cc)
+own_location : (a b c d : Option ℕ) → (is_some a || is_some b) ≡ true → is_file (own_by a b (shared_by c d)) ≡ false
+own_location (Some n) b c d h = refl
+own_location None (Some n) c d h = refl
+own_location None None c d h = absurd (cc)
 
 module _ (bytes : List ℕ) (name : List ℕ) where
   -- a declaration with brackets, or one without, gives this name
   abbrev pub named : Bool → Declared → Bool
-  named b i = has_kind b i && bytes_eq name (text bytes i.name)
+  named b i = has_shape b i && bytes_eq name (text bytes i.name)
 
   any_plain : (is : List Declared) → list_any (bytes_eq name) (names_of bytes is_plain is) ≡ list_any (named false) is
   any_plain [] = refl
-  any_plain (i ∷ is) = by_kind (is_none i.array) (any_plain is) where
-    by_kind : (b : Bool) → list_any (bytes_eq name) (names_of bytes is_plain is) ≡ list_any (named false) is
+  any_plain (i ∷ is) = by_shape (is_none i.array) (any_plain is) where
+    by_shape : (b : Bool) → list_any (bytes_eq name) (names_of bytes is_plain is) ≡ list_any (named false) is
         → list_any (bytes_eq name) (map (λ (j : Declared). text bytes j.name) (cond b (i ∷ filter is_plain is) (filter is_plain is)))
         ≡ (b && bytes_eq name (text bytes i.name) || list_any (named false) is)
-    by_kind true e = ap (λ x. bytes_eq name (text bytes i.name) || x) e
-    by_kind false e = e
+    by_shape true e = ap (λ x. bytes_eq name (text bytes i.name) || x) e
+    by_shape false e = e
 
   any_array : (is : List Declared) → list_any (bytes_eq name) (names_of bytes has_brackets is) ≡ list_any (named true) is
   any_array [] = refl
-  any_array (i ∷ is) = by_kind (is_some i.array) (any_array is) where
-    by_kind : (b : Bool) → list_any (bytes_eq name) (names_of bytes has_brackets is) ≡ list_any (named true) is
+  any_array (i ∷ is) = by_shape (is_some i.array) (any_array is) where
+    by_shape : (b : Bool) → list_any (bytes_eq name) (names_of bytes has_brackets is) ≡ list_any (named true) is
         → list_any (bytes_eq name) (map (λ (j : Declared). text bytes j.name) (cond b (i ∷ filter has_brackets is) (filter has_brackets is)))
         ≡ (b && bytes_eq name (text bytes i.name) || list_any (named true) is)
-    by_kind true e = ap (λ x. bytes_eq name (text bytes i.name) || x) e
-    by_kind false e = e
+    by_shape true e = ap (λ x. bytes_eq name (text bytes i.name) || x) e
+    by_shape false e = e
 
   -- ---- the rules' meaning of it
 
@@ -115,43 +115,43 @@ module _ (bytes : List ℕ) (name : List ℕ) where
   same_over false d new before = refl
 
   latest_items : (b : Bool) (is : List Declared) (before : Option Meaning)
-      → latest bytes before (map (global b) (filter (has_kind b) is)) name ≡ cond (list_any (named b) is) (Some (kind b)) before
+      → latest bytes before (map (global b) (filter (has_shape b) is)) name ≡ cond (list_any (named b) is) (Some (shape b)) before
   latest_items b [] before = refl
-  latest_items b (i ∷ is) before = by_kind (has_kind b i) (latest_items b is) where
-    by_kind : (c : Bool)
-        → ((then : Option Meaning) → latest bytes then (map (global b) (filter (has_kind b) is)) name ≡ cond (list_any (named b) is) (Some (kind b)) then)
-        → latest bytes before (map (global b) (cond c (i ∷ filter (has_kind b) is) (filter (has_kind b) is))) name
-        ≡ cond (c && bytes_eq name (text bytes i.name) || list_any (named b) is) (Some (kind b)) before
-    by_kind true e =
-        e (cond (bytes_eq name (text bytes i.name)) (Some (kind b)) before)
-        ∙ same_over (bytes_eq name (text bytes i.name)) (list_any (named b) is) (kind b) before
-    by_kind false e = e before
+  latest_items b (i ∷ is) before = by_shape (has_shape b i) (latest_items b is) where
+    by_shape : (c : Bool)
+        → ((then : Option Meaning) → latest bytes then (map (global b) (filter (has_shape b) is)) name ≡ cond (list_any (named b) is) (Some (shape b)) then)
+        → latest bytes before (map (global b) (cond c (i ∷ filter (has_shape b) is) (filter (has_shape b) is))) name
+        ≡ cond (c && bytes_eq name (text bytes i.name) || list_any (named b) is) (Some (shape b)) before
+    by_shape true e =
+        e (cond (bytes_eq name (text bytes i.name)) (Some (shape b)) before)
+        ∙ same_over (bytes_eq name (text bytes i.name)) (list_any (named b) is) (shape b) before
+    by_shape false e = e before
 
   latest_declared : (b : Bool) (ds : List Declaration) (before : Option Meaning)
-      → latest bytes before (flat_map (globals_in b) ds) name ≡ cond (list_any (named b) (flat_map (λ d. d.items) ds)) (Some (kind b)) before
+      → latest bytes before (flat_map (globals_in b) ds) name ≡ cond (list_any (named b) (flat_map (λ d. d.items) ds)) (Some (shape b)) before
   latest_declared b [] before = refl
   latest_declared b (d ∷ ds) before =
       latest_both before (globals_in b d) (flat_map (globals_in b) ds)
       ∙ ap (λ x. latest bytes x (flat_map (globals_in b) ds) name) (latest_items b d.items before)
-      ∙ latest_declared b ds (cond (list_any (named b) d.items) (Some (kind b)) before)
-      ∙ same_over (list_any (named b) d.items) (list_any (named b) (flat_map (λ x. x.items) ds)) (kind b) before
-      ∙ ap (λ x. cond x (Some (kind b)) before) (sym (list_any-append (named b) d.items (flat_map (λ x. x.items) ds)))
+      ∙ latest_declared b ds (cond (list_any (named b) d.items) (Some (shape b)) before)
+      ∙ same_over (list_any (named b) d.items) (list_any (named b) (flat_map (λ x. x.items) ds)) (shape b) before
+      ∙ ap (λ x. cond x (Some (shape b)) before) (sym (list_any-append (named b) d.items (flat_map (λ x. x.items) ds)))
 
   latest_file : (file : File) → latest bytes None (file_scope file) name
-      ≡ cond (list_any (named true) (globals file)) (Some (kind true)) (cond (list_any (named false) (globals file)) (Some (kind false)) None)
+      ≡ cond (list_any (named true) (globals file)) (Some (shape true)) (cond (list_any (named false) (globals file)) (Some (shape false)) None)
   latest_file file =
       latest_both None (flat_map (globals_in false) file.globals) (flat_map (globals_in true) file.globals)
       ∙ ap (λ x. latest bytes x (flat_map (globals_in true) file.globals) name) (latest_declared false file.globals None)
-      ∙ latest_declared true file.globals (cond (list_any (named false) (globals file)) (Some (kind false)) None)
+      ∙ latest_declared true file.globals (cond (list_any (named false) (globals file)) (Some (shape false)) None)
 
-  shared_by_kind : (c d : Bool) → (c || d) ≡ true → is_shared (cond c (Some (kind true)) (cond d (Some (kind false)) None)) ≡ true
-  shared_by_kind true d h = refl
-  shared_by_kind false true h = refl
-  shared_by_kind false false h = absurd (cc)
+  shared_by_shape : (c d : Bool) → (c || d) ≡ true → is_shared (cond c (Some (shape true)) (cond d (Some (shape false)) None)) ≡ true
+  shared_by_shape true d h = refl
+  shared_by_shape false true h = refl
+  shared_by_shape false false h = absurd (cc)
 
-  array_by_kind : (c d : Bool) → c ≡ true → is_array (cond c (Some (kind true)) (cond d (Some (kind false)) None)) ≡ true
-  array_by_kind true d h = refl
-  array_by_kind false d h = absurd (cc)
+  array_by_shape : (c d : Bool) → c ≡ true → is_array (cond c (Some (shape true)) (cond d (Some (shape false)) None)) ≡ true
+  array_by_shape true d h = refl
+  array_by_shape false d h = absurd (cc)
 
   module _ (s : Source) (here : s.bytes ≡ bytes) where
     file_arrays : is_some (number_in (shared_names bytes s.file).arrays name) ≡ list_any (named true) (globals s.file)
@@ -166,22 +166,22 @@ pub or_both : (a b c d : Bool) → a ≡ c → b ≡ d → (a || b) ≡ (c || d)
 or_both a b c d e f = ap (λ x. x || b) e ∙ ap (λ x. c || x) f
 
 module _ (s : Source) (f : Definition) where
-  abbrev pub here : List ℕ → Place
-  here name = place_of (scope_in s (Some f)) name
+  abbrev pub here : List ℕ → Location
+  here name = location_of (scope_in s (Some f)) name
 
   pub file_means : (name : List ℕ) → is_file (here name) ≡ true → is_shared (latest s.bytes None (file_scope s.file) name) ≡ true
   file_means name h =
-      let some = file_place (number_in (own_names s.bytes f).arrays name) (number_in (own_names s.bytes f).plain name)
+      let some = file_location (number_in (own_names s.bytes f).arrays name) (number_in (own_names s.bytes f).plain name)
       (number_in (shared_names s.bytes s.file).arrays name) (number_in (shared_names s.bytes s.file).plain name) h in
       let any = sym (or_both _ _ _ _ (file_arrays s.bytes name s refl) (file_plains s.bytes name s refl)) ∙ some in
-      ap is_shared (latest_file s.bytes name s.file) ∙ shared_by_kind s.bytes name (list_any (named s.bytes name true) (globals s.file)) (list_any (named s.bytes name false) (globals s.file)) any
+      ap is_shared (latest_file s.bytes name s.file) ∙ shared_by_shape s.bytes name (list_any (named s.bytes name true) (globals s.file)) (list_any (named s.bytes name false) (globals s.file)) any
 
   pub file_array_means : (name : List ℕ) → is_file_array (here name) ≡ true → is_array (latest s.bytes None (file_scope s.file) name) ≡ true
   file_array_means name h =
-      let some = file_array_place (number_in (own_names s.bytes f).arrays name) (number_in (own_names s.bytes f).plain name)
+      let some = file_array_location (number_in (own_names s.bytes f).arrays name) (number_in (own_names s.bytes f).plain name)
       (number_in (shared_names s.bytes s.file).arrays name) (number_in (shared_names s.bytes s.file).plain name) h in
       ap is_array (latest_file s.bytes name s.file)
-      ∙ array_by_kind s.bytes name (list_any (named s.bytes name true) (globals s.file)) (list_any (named s.bytes name false) (globals s.file)) (sym (file_arrays s.bytes name s refl) ∙ some)
+      ∙ array_by_shape s.bytes name (list_any (named s.bytes name true) (globals s.file)) (list_any (named s.bytes name false) (globals s.file)) (sym (file_arrays s.bytes name s refl) ∙ some)
 
   -- no name of the file
   abbrev pub IsOwn : Name → Type 0
@@ -190,7 +190,7 @@ module _ (s : Source) (f : Definition) where
   pub listed_own : (name : Name) → (list_any (bytes_eq (text s.bytes name)) (own_names s.bytes f).arrays || list_any (bytes_eq (text s.bytes name)) (own_names s.bytes f).plain) ≡ true → IsOwn name
   listed_own name h =
       let word = text s.bytes name in
-      own_place (number_in (own_names s.bytes f).arrays word) (number_in (own_names s.bytes f).plain word)
+      own_location (number_in (own_names s.bytes f).arrays word) (number_in (own_names s.bytes f).plain word)
       (number_in (shared_names s.bytes s.file).arrays word) (number_in (shared_names s.bytes s.file).plain word)
       (or_both _ _ _ _ (is_listed (own_names s.bytes f).arrays word) (is_listed (own_names s.bytes f).plain word) ∙ h)
 
@@ -199,7 +199,7 @@ module _ (s : Source) (f : Definition) where
   AreOwn is = AllByRecursion (λ i. IsOwn i.name) is
 
   pub item_own : (i : Declared) → (list_any (named s.bytes (text s.bytes i.name) true) (items_in f) || list_any (named s.bytes (text s.bytes i.name) false) (items_in f)) ≡ true → IsOwn i.name
-  item_own i h = listed_own i.name (by_kind (list_any (named s.bytes (text s.bytes i.name) true) (items_in f)) (any_array s.bytes (text s.bytes i.name) (items_in f)) h) where
+  item_own i h = listed_own i.name (by_shape (list_any (named s.bytes (text s.bytes i.name) true) (items_in f)) (any_array s.bytes (text s.bytes i.name) (items_in f)) h) where
     word : List ℕ
     word = text s.bytes i.name
 
@@ -207,7 +207,7 @@ module _ (s : Source) (f : Definition) where
     plains k = list_any-append (bytes_eq word) (parameter_names s.bytes f) (names_of s.bytes is_plain (items_in f))
         ∙ or_right (list_any (bytes_eq word) (parameter_names s.bytes f)) (list_any (bytes_eq word) (names_of s.bytes is_plain (items_in f))) (any_plain s.bytes word (items_in f) ∙ k)
 
-    by_kind : (c : Bool) → list_any (bytes_eq word) (own_names s.bytes f).arrays ≡ c → (c || list_any (named s.bytes word false) (items_in f)) ≡ true
+    by_shape : (c : Bool) → list_any (bytes_eq word) (own_names s.bytes f).arrays ≡ c → (c || list_any (named s.bytes word false) (items_in f)) ≡ true
         → (list_any (bytes_eq word) (own_names s.bytes f).arrays || list_any (bytes_eq word) (own_names s.bytes f).plain) ≡ true
-    by_kind true e k = or_left (list_any (bytes_eq word) (own_names s.bytes f).arrays) (list_any (bytes_eq word) (own_names s.bytes f).plain) e
-    by_kind false e k = or_right (list_any (bytes_eq word) (own_names s.bytes f).arrays) (list_any (bytes_eq word) (own_names s.bytes f).plain) (plains k)
+    by_shape true e k = or_left (list_any (bytes_eq word) (own_names s.bytes f).arrays) (list_any (bytes_eq word) (own_names s.bytes f).plain) e
+    by_shape false e k = or_right (list_any (bytes_eq word) (own_names s.bytes f).arrays) (list_any (bytes_eq word) (own_names s.bytes f).plain) (plains k)

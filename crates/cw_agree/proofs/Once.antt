@@ -18,7 +18,7 @@ use Rattle.cw_value.specs.Declarations.{Done}
 use Rattle.cw_value.specs.Machines.{Source, Machine, goes, halts}
 use Rattle.cw_value.specs.Starts.{begun}
 use Rattle.cw_value.specs.Shown.{Values}
-use Rattle.cw_value.specs.Runs.{Going, move_of, answer, counted, told, IsFree, IsWeaving, Leads, Chooses, Ends, over, spent, weaves, quits, asks, steps, halted, going_start, most_steps, source_of, RunsFrom}
+use Rattle.cw_value.specs.Runs.{Going, move_of, answer, counted, ended_values, IsFree, IsWeaving, Leads, Chooses, Ends, over, spent, weaves, quits, asks, steps, halted, going_start, most_steps, source_of, RunsFrom}
 use Rattle.cw_agree.specs.Laws.{OneRun}
 use Rattle.cw_agree.proofs.Paired.{same_state, same_goes, same_halts}
 
@@ -130,7 +130,7 @@ module _ (source : Source) (p : Problem) where
   same_asked i j a c l k e = cc
 
   module _ (weaver : Option Table) where
-    over_once : (n : ℕ) (s : Going) (v : Values) → s.woven.board.phase ≡ Over → Ends source p weaver n s v → v ≡ told s Ended
+    over_once : (n : ℕ) (s : Going) (v : Values) → s.woven.board.phase ≡ Over → Ends source p weaver n s v → v ≡ ended_values s Ended
     over_once n s v e (over _ _ q) = refl
     over_once n s v e (spent _ q) = absurd (q e)
     over_once n s v e (weaves _ _ m next _ w c ns mv rest) = absurd (subst IsWeaving e w)
@@ -139,7 +139,7 @@ module _ (source : Source) (p : Problem) where
     over_once n s v e (steps _ _ way m next _ h st mv rest) = absurd (subst IsFree e h)
     over_once n s v e (halted _ _ why m h st) = absurd (subst IsFree e h)
 
-    spent_once : (s : Going) (v : Values) → s.woven.board.phase ≢ Over → Ends source p weaver zero s v → v ≡ told s Steps
+    spent_once : (s : Going) (v : Values) → s.woven.board.phase ≢ Over → Ends source p weaver zero s v → v ≡ ended_values s Steps
     spent_once s v e (over _ _ q) = absurd (e q)
     spent_once s v e (spent _ q) = refl
 
@@ -160,7 +160,7 @@ module _ (source : Source) (p : Problem) where
     one_end n s v w (quits k _ next seam wv c mv f) (over _ _ q) = absurd (subst IsWeaving q wv)
     one_end n s v w (quits k _ next seam wv c mv f) (weaves _ _ m2 next2 _ wv2 c2 ns2 mv2 rest2) = absurd (ns2 (one_move weaver s.woven m2 StopMove next2 next wv c2 c mv2 mv))
     one_end n s v w (quits k _ next seam wv c mv f) (quits _ _ next2 seam2 wv2 c2 mv2 f2) =
-        ap (λ (x : SeamId). told s (Refused x)) (same_seam seam seam2 (same_Some seam.0 seam2.0 (sym f ∙ f2)))
+        ap (λ (x : SeamId). ended_values s (Refused x)) (same_seam seam seam2 (same_Some seam.0 seam2.0 (sym f ∙ f2)))
     one_end n s v w (quits k _ next seam wv c mv f) (asks _ _ st b l next2 _ q mv2 rest2) = absurd (subst IsWeaving q wv)
     one_end n s v w (quits k _ next seam wv c mv f) (steps _ _ way m2 next2 _ h st mv2 rest2) = absurd (weaving_free s.woven.board.phase wv h)
     one_end n s v w (quits k _ next seam wv c mv f) (halted _ _ why m2 h st) = absurd (weaving_free s.woven.board.phase wv h)

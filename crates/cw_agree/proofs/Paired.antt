@@ -18,7 +18,7 @@ use Rattle.cw_value.specs.declared.values.Stop.{Stop}
 use Rattle.cw_value.specs.declared.values.Stop.TheVariants.{Ended, Steps}
 use Rattle.cw_value.specs.Machines.{Source, Machine, goes, halts, step}
 use Rattle.cw_value.specs.Shown.{Values}
-use Rattle.cw_value.specs.Runs.{Going, move_of, answer, counted, told, is_split, IsFree, IsWeaving, Leads, Ends, over, spent, weaves, quits, asks, steps, halted}
+use Rattle.cw_value.specs.Runs.{Going, move_of, answer, counted, ended_values, is_split, IsFree, IsWeaving, Leads, Ends, over, spent, weaves, quits, asks, steps, halted}
 use Rattle.cw_agree.specs.Agreements.{Agrees}
 use Rattle.cw_agree.proofs.Grows.{run_grows}
 use Rattle.cw_agree.proofs.Plain.{plain, plain_step, TopSaved, step_plain}
@@ -246,7 +246,7 @@ module _ (source : Source) (p : Problem) where
 
   -- ---- the plain run, opened at the program's own steps
 
-  over_ends : (n : ℕ) (s : Going) (v : Values) → s.woven.board.phase ≡ Over → Ends source p None n s v → v ≡ told s Ended
+  over_ends : (n : ℕ) (s : Going) (v : Values) → s.woven.board.phase ≡ Over → Ends source p None n s v → v ≡ ended_values s Ended
   over_ends n s v e (over _ _ q) = refl
   over_ends n s v e (spent _ q) = absurd (q e)
   over_ends n s v e (weaves _ _ m next _ w c ns mv rest) = absurd (subst IsWeaving e w)
@@ -255,7 +255,7 @@ module _ (source : Source) (p : Problem) where
   over_ends n s v e (steps _ _ way m next _ h st mv rest) = absurd (subst IsFree e h)
   over_ends n s v e (halted _ _ why m h st) = absurd (subst IsFree e h)
 
-  spent_ends : (s : Going) (v : Values) → s.woven.board.phase ≢ Over → Ends source p None zero s v → v ≡ told s Steps
+  spent_ends : (s : Going) (v : Values) → s.woven.board.phase ≢ Over → Ends source p None zero s v → v ≡ ended_values s Steps
   spent_ends s v e (over _ _ q) = absurd (e q)
   spent_ends s v e (spent _ q) = refl
 

@@ -4,9 +4,9 @@ use Rattle.std.specs.Prelude.{unwrap_or}
 use Rattle.cw_syntax.specs.declared.program.Name.{Name}
 use Rattle.cw_syntax.specs.Names.{text}
 use Rattle.cw_syntax.specs.Plans.{Plain, Break, Continue, Return, Open, Close, Call, Group, Label, If, While, Do, For}
-use Rattle.cw_syntax.specs.Frames.{Item, Entry, Todo, Test, After, Mark, End, Frame}
+use Rattle.cw_syntax.specs.Frames.{Item, Entry, Todo, Test, After, LoopEnd, End, Frame}
 use Rattle.cw_value.specs.Stores.{Cell, Store}
-use Rattle.cw_value.specs.Expressions.{Outcome, gives, stops, Target, OwnSpot, SharedSpot, Nothing, target_at, place_of}
+use Rattle.cw_value.specs.Expressions.{Outcome, gives, stops, Target, OwnSpot, SharedSpot, Nothing, target_at, location_of}
 use Rattle.cw_value.specs.Deeds.{Passing}
 use Rattle.cw_value.specs.Machines.{Source, Locals, Machine, Step, goes, halts, step, step_by, within, by_outcome, deed_in, scope_in, function, memory, ends_in, call_in, back_by, back_to, result_by, taken_over, taken_by, form_in, whole_from}
 
@@ -41,7 +41,7 @@ module _ (s : Source) where
       → taken_over s at x c (plain_locals caller) (map plain_locals rest) (plain m) ≡ plain_step (taken_over s at x c caller rest m)
   plain_over at x None caller rest m = refl
   plain_over at x (Some z) caller rest m =
-      plain_taken (whole_from at (form_in (function s caller.function) at)) (target_at (place_of (scope_in s (function s caller.function)) (text s.bytes x))) z caller rest m
+      plain_taken (whole_from at (form_in (function s caller.function) at)) (target_at (location_of (scope_in s (function s caller.function)) (text s.bytes x))) z caller rest m
 
   plain_result : (at : ℕ) (x : Option Name) (c : Cell) (caller : Locals) (rest : List Locals) (m : Machine)
       → result_by s at x c (plain_locals caller) (map plain_locals rest) (plain m) ≡ plain_step (result_by s at x c caller rest m)
@@ -76,7 +76,7 @@ module _ (s : Source) where
   plain_outcome split (Entry f j) top rest (gives p k) = refl
   plain_outcome split (Test at d u b) top rest (gives p k) = refl
   plain_outcome split (After at) top rest (gives p k) = refl
-  plain_outcome split Mark top rest (gives p k) = refl
+  plain_outcome split LoopEnd top rest (gives p k) = refl
   plain_outcome split (End f) top rest (gives p k) = refl
   plain_outcome split (Todo (Plain at)) top rest (gives p k) = refl
   plain_outcome split (Todo (Break at)) top rest (gives p k) = refl
@@ -102,7 +102,7 @@ module _ (s : Source) where
   plain_by_item split (Todo b) frames m h = plain_within split (Todo b) m m.frames
   plain_by_item split (Test at d u b) frames m h = plain_within split (Test at d u b) m m.frames
   plain_by_item split (After at) frames m h = plain_within split (After at) m m.frames
-  plain_by_item split Mark frames m h = plain_within split Mark m m.frames
+  plain_by_item split LoopEnd frames m h = plain_within split LoopEnd m m.frames
 
   -- a step is the same without what frames keep
   pub step_plain : (split : Bool) (stack : List Frame) (m : Machine) → TopSaved m.shared m.frames → step s false stack (plain m) ≡ plain_step (step s split stack m)

@@ -15,20 +15,20 @@ use Rattle.cw_syntax.specs.declared.program.Name.{Name}
 use Rattle.cw_syntax.specs.Names.{text, number_in}
 use Rattle.cw_syntax.specs.Trees.{Tree, Statement, Stated, Form, Block, Declares, Evaluates, Empties, Labels, Chooses, Whiles, Does, Fors, Breaks, Continues, Returns, Definition}
 use Rattle.cw_syntax.specs.Plans.{Callee, Action, Computes, Opens, Closes, Invokes, acting, action_of, Plain, Break, Continue, Return, Open, Close, Call, Group, Label, If, While, Do, For, steps_of_all, seams_all, Routine, routines_from, function_names}
-use Rattle.cw_syntax.specs.Frames.{Item, Entry, Todo, Test, After, Mark, End, Frame, new_frame, settle, Way, On, after, popped, pass, start_stack, stack_of}
+use Rattle.cw_syntax.specs.Frames.{Item, Entry, Todo, Test, After, LoopEnd, End, Frame, new_frame, settle, Way, On, after, popped, pass, start_stack, stack_of}
 use Rattle.cw_syntax.specs.Runnable.{IsRunnable}
 use Rattle.cw_model.specs.Boards.{Problem, problem_of, Phase, Visit, Asked, Refused as RefusedPhase, Free, FreeSplit, Over, Board, onward, moved, stepped, landed, passed_by, way_of}
 use Rattle.cw_model.specs.Runs.{State}
 use Rattle.cw_value.specs.declared.values.Stop.{Stop}
 use Rattle.cw_value.specs.declared.values.Stop.TheVariants.{Ended, Steps}
 use Rattle.cw_value.specs.Stores.{Cell}
-use Rattle.cw_value.specs.Expressions.{Memory, Outcome, gives, stops, Target, OwnSpot, SharedSpot, Nothing, target_at, place_of}
+use Rattle.cw_value.specs.Expressions.{Memory, Outcome, gives, stops, Target, OwnSpot, SharedSpot, Nothing, target_at, location_of}
 use Rattle.cw_value.specs.Declarations.{Done}
 use Rattle.cw_value.specs.Deeds.{said_all, Passing}
 use Rattle.cw_value.specs.Machines.{Source, Locals, Machine, Step, goes, halts, step, step_by, within, by_outcome, entered, settled_in, answering, deed_in, scope_in, function, memory, ends_in, call_in, back_by, result_by, taken_over, taken_by, form_in, whole_from}
 use Rattle.cw_value.specs.Starts.{begun}
 use Rattle.cw_value.specs.Shown.{Values}
-use Rattle.cw_value.specs.Runs.{Going, move_of, told, is_split, IsFree, IsWeaving, Ends, over, spent, weaves, steps, halted, going_start, most_steps, source_of, RunsFrom}
+use Rattle.cw_value.specs.Runs.{Going, move_of, ended_values, is_split, IsFree, IsWeaving, Ends, over, spent, weaves, steps, halted, going_start, most_steps, source_of, RunsFrom}
 use Rattle.cw_agree.specs.Laws.{SomeRun}
 use Rattle.cw_agree.proofs.Ways.{straight, GoesBy, IsWay, kind_of, deed_way}
 use Rattle.cw_agree.proofs.Standing.{Whole, SettledItem, Settled, whole_items, settle_done, Goes, IsInner, inner_goes}
@@ -128,7 +128,7 @@ module _ (policy : PlainPolicy) (s : Source) where
     pass_inner (Entry g j) is frames way n = refl
     pass_inner (Test at d u b) is frames way n = refl
     pass_inner (After at) is frames way n = refl
-    pass_inner Mark is frames way n = refl
+    pass_inner LoopEnd is frames way n = refl
     pass_inner (Todo (Plain at)) is frames way n = refl
     pass_inner (Todo (Break at)) is frames way n = refl
     pass_inner (Todo (Continue at)) is frames way n = refl
@@ -148,7 +148,7 @@ module _ (policy : PlainPolicy) (s : Source) where
     enters_inner (Entry g j) p m n = refl
     enters_inner (Test at d u b) p m n = refl
     enters_inner (After at) p m n = refl
-    enters_inner Mark p m n = refl
+    enters_inner LoopEnd p m n = refl
     enters_inner (Todo (Plain at)) p m n = refl
     enters_inner (Todo (Break at)) p m n = refl
     enters_inner (Todo (Continue at)) p m n = refl
@@ -211,7 +211,7 @@ module _ (policy : PlainPolicy) (s : Source) where
         → Back (frame ∷ frames) (taken_over s at x c caller rest m)
     over_back at x None frame frames caller rest m r = tt
     over_back at x (Some z) frame frames caller rest m r =
-        taken_back (whole_from at (form_in (function s caller.function) at)) (target_at (place_of (scope_in s (function s caller.function)) (text s.bytes x))) z frame frames caller rest m r
+        taken_back (whole_from at (form_in (function s caller.function) at)) (target_at (location_of (scope_in s (function s caller.function)) (text s.bytes x))) z frame frames caller rest m r
 
     result_back : (at : ℕ) (x : Option Name) (c : Cell) (frame : Frame) (frames : List Frame) (caller : Locals) (rest : List Locals) (m : Machine) → Ready (frame ∷ frames) (caller ∷ rest)
         → Ready (frame ∷ frames) m.frames → Back (frame ∷ frames) (result_by s at x c caller rest m)
@@ -278,7 +278,7 @@ module _ (policy : PlainPolicy) (s : Source) where
     progress (Todo (Close at j d)) is frames m r c = within_progress (Todo (Close at j d)) is frames m m.frames tt c.0 r c.1
     progress (Todo (Label at l j x b)) is frames m r c = within_progress (Todo (Label at l j x b)) is frames m m.frames tt c.0 r c.1
     progress (Todo (If at b d)) is frames m r c = within_progress (Todo (If at b d)) is frames m m.frames tt c.0 r c.1
-    progress Mark is frames m r c = absurd c.0
+    progress LoopEnd is frames m r c = absurd c.0
     progress (Todo (Group ss)) is frames m r c = absurd c.0
     progress (Todo (While at b)) is frames m r c = absurd c.0
     progress (Todo (Do at b)) is frames m r c = absurd c.0
@@ -351,15 +351,15 @@ module _ (policy : PlainPolicy) (s : Source) where
         skip_run n g stage a (b ∷ later) e (visit_run n run later (skipped_to g stage (b ∷ later)) (suc stage) b refl (skipped_ok g stage a (b ∷ later) e ok))
 
     zero_run : (g : Going) (phase : Phase) → g.woven.board.phase ≡ phase → RunsFor 0 g
-    zero_run g Over e = (told g Ended, over 0 g e)
-    zero_run g Free e = (told g Steps, spent g (λ q. absurd (let clash : Free ≡ Over = sym e ∙ q in cc)))
-    zero_run g FreeSplit e = (told g Steps, spent g (λ q. absurd (let clash : FreeSplit ≡ Over = sym e ∙ q in cc)))
-    zero_run g (Visit i a l) e = (told g Steps, spent g (λ q. absurd (let clash : Visit i a l ≡ Over = sym e ∙ q in cc)))
-    zero_run g (Asked i a l) e = (told g Steps, spent g (λ q. absurd (let clash : Asked i a l ≡ Over = sym e ∙ q in cc)))
-    zero_run g (RefusedPhase i a l) e = (told g Steps, spent g (λ q. absurd (let clash : RefusedPhase i a l ≡ Over = sym e ∙ q in cc)))
+    zero_run g Over e = (ended_values g Ended, over 0 g e)
+    zero_run g Free e = (ended_values g Steps, spent g (λ q. absurd (let clash : Free ≡ Over = sym e ∙ q in cc)))
+    zero_run g FreeSplit e = (ended_values g Steps, spent g (λ q. absurd (let clash : FreeSplit ≡ Over = sym e ∙ q in cc)))
+    zero_run g (Visit i a l) e = (ended_values g Steps, spent g (λ q. absurd (let clash : Visit i a l ≡ Over = sym e ∙ q in cc)))
+    zero_run g (Asked i a l) e = (ended_values g Steps, spent g (λ q. absurd (let clash : Asked i a l ≡ Over = sym e ∙ q in cc)))
+    zero_run g (RefusedPhase i a l) e = (ended_values g Steps, spent g (λ q. absurd (let clash : RefusedPhase i a l ≡ Over = sym e ∙ q in cc)))
 
     more_run : (n : ℕ) → ((g : Going) → Ok g → RunsFor n g) → (g : Going) → Ok g → (phase : Phase) → g.woven.board.phase ≡ phase → IsPlain phase → RunsFor (suc n) g
-    more_run n run g ok Over e h = (told g Ended, over (suc n) g e)
+    more_run n run g ok Over e h = (ended_values g Ended, over (suc n) g e)
     more_run n run g ok Free e h = free_run n run g e ok
     more_run n run g ok (Visit i a l) e h = visit_run n run l g i a e ok
     more_run n run g ok FreeSplit e h = absurd h

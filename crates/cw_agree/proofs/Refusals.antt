@@ -14,18 +14,18 @@ use Rattle.cw_certs.specs.Tables.{Table}
 use Rattle.cw_syntax.specs.declared.program.Name.{Name}
 use Rattle.cw_syntax.specs.Names.{text}
 use Rattle.cw_syntax.specs.Trees.{Tree, Trees, none, more, Declared, Definition, count}
-use Rattle.cw_syntax.specs.Frames.{Item, Entry, Todo, Test, After, Mark, End, Frame, start_stack}
+use Rattle.cw_syntax.specs.Frames.{Item, Entry, Todo, Test, After, LoopEnd, End, Frame, start_stack}
 use Rattle.cw_model.specs.Boards.{Problem, problem_of, Phase, Visit, Asked, Refused as RefusedPhase, Free, FreeSplit, Over, Board, may_grant, may_refuse, can_stop, begin, onward, moved, granted, passed_by, refused, answered, is_refused}
 use Rattle.cw_model.specs.Runs.{State}
 use Rattle.cw_value.specs.declared.values.Stop.TheVariants.{Refused, Form}
 use Rattle.cw_value.specs.Stores.{Cell}
-use Rattle.cw_value.specs.Expressions.{Scope, Memory, Outcome, gives, stops, ◌and◌, Place, Own, OwnArray, Shared, SharedArray, Nowhere, Target, OwnSpot, SharedSpot, Nothing, stored, target_at, place_of, from_of, value}
+use Rattle.cw_value.specs.Expressions.{Scope, Memory, Outcome, gives, stops, ◌and◌, Location, Own, OwnArray, Shared, SharedArray, Nowhere, Target, OwnSpot, SharedSpot, Nothing, stored, target_at, location_of, from_of, value}
 use Rattle.cw_value.specs.Declarations.{Done, done, most_elements, size_if, size_in, sized, listed_one, filled, with_zeros, with_list, rest_stops, made_array, made_plain, element_target}
 use Rattle.cw_value.specs.Deeds.{Passing, deed_of, does}
 use Rattle.cw_value.specs.Machines.{Source, Locals, Machine, Step, goes, halts, step, step_by, within, by_outcome, deed_in, scope_in, function, memory, globals, ends_in, call_in, back_by, back_to, result_by, taken_over, taken_by, form_in, whole_from}
 use Rattle.cw_value.specs.Starts.{no_store, start_store, start_cell, is_named, has_size, made_once, array_turn, plain_turn, turn_at, turns, begun}
 use Rattle.cw_value.specs.Shown.{Values}
-use Rattle.cw_value.specs.Runs.{Going, move_of, taken, answer, answer_by, counted, told, is_split, IsWeaving, Leads, Ends, over, spent, weaves, quits, asks, steps, halted, going_start, most_steps, source_of, RunsFrom}
+use Rattle.cw_value.specs.Runs.{Going, move_of, taken, answer, answer_by, counted, ended_values, is_split, IsWeaving, Leads, Ends, over, spent, weaves, quits, asks, steps, halted, going_start, most_steps, source_of, RunsFrom}
 use Rattle.cw_agree.specs.Agreements.{IsPlaced, Comes, here, IsRefused}
 use Rattle.cw_agree.specs.Agreements.{weaves as comes_weaving, asks as comes_asking, steps as comes_stepping}
 use Rattle.cw_agree.specs.Laws.{RefusalsAreTaken}
@@ -71,7 +71,7 @@ module _ (s : Source) where
   over_placed : (at : ℕ) (x : Name) (c : Cell) (caller : Locals) (rest : List Locals) (m : Machine) → Placed (taken_over s at x c caller rest m)
   over_placed at x None caller rest m = tt
   over_placed at x (Some z) caller rest m =
-      taken_placed (whole_from at (form_in (function s caller.function) at)) (target_at (place_of (scope_in s (function s caller.function)) (text s.bytes x))) z caller rest m
+      taken_placed (whole_from at (form_in (function s caller.function) at)) (target_at (location_of (scope_in s (function s caller.function)) (text s.bytes x))) z caller rest m
 
   result_placed : (at : ℕ) (x : Option Name) (c : Cell) (caller : Locals) (rest : List Locals) (m : Machine) → Placed (result_by s at x c caller rest m)
   result_placed at None c caller rest m = tt
@@ -96,7 +96,7 @@ module _ (s : Source) where
   item_placed split (Todo b) frames m = within_placed split (Todo b) m m.frames
   item_placed split (Test at d u b) frames m = within_placed split (Test at d u b) m m.frames
   item_placed split (After at) frames m = within_placed split (After at) m m.frames
-  item_placed split Mark frames m = within_placed split Mark m m.frames
+  item_placed split LoopEnd frames m = within_placed split LoopEnd m m.frames
 
   pub step_placed : (split : Bool) (stack : List Frame) (m : Machine) → Placed (step s split stack m)
   step_placed split [] m = tt
@@ -233,7 +233,7 @@ module _ (source : Source) (p : Problem) where
           next = x.next;
           refuses = x.refuses;
           seam = seam2;
-          ends = ap (λ (y : Going). told y (Refused seam2)) x.same;
+          ends = ap (λ (y : Going). ended_values y (Refused seam2)) x.same;
         }
     run_refused n t v seam h e (asks k _ stage a later next _ q mv rest) =
         run_refused n (record t { woven = next; tries = (answer p t.woven.board a t.tries).1 }) v seam
@@ -268,17 +268,17 @@ module _ (s : Scope) where
   sized_placed None braces init m = tt
   sized_placed (Some e) braces init m = then_placed (value s e m) (size_if (from_of e)) (value_placed e m) (λ z k. size_placed (from_of e) z k)
 
-  one_placed : (b : Bool) (at : ℕ) (p : Place) (i : ℕ) (e : Tree) (m : Memory) → StopsPlaced (listed_one s b at p i (value s e) m)
+  one_placed : (b : Bool) (at : ℕ) (p : Location) (i : ℕ) (e : Tree) (m : Memory) → StopsPlaced (listed_one s b at p i (value s e) m)
   one_placed true at p i e m = then_placed (value s e m) (λ z k. gives done (stored k (element_target p i) z)) (value_placed e m) (λ z k. tt)
   one_placed false at p i e m = tt
 
-  filled_placed : (p : Place) (size i : ℕ) (es : Trees) (m : Memory) → StopsPlaced (filled s p size i es m)
+  filled_placed : (p : Location) (size i : ℕ) (es : Trees) (m : Memory) → StopsPlaced (filled s p size i es m)
   filled_placed p size i none m = tt
   filled_placed p size i (more e es) m =
       then_placed (listed_one s (nat_lt i size) (from_of e) p i (value s e) m) (λ d k. filled s p size (i + 1) es k) (one_placed (nat_lt i size) (from_of e) p i e m)
       (λ d k. filled_placed p size (i + 1) es k)
 
-  list_placed : (p : Place) (braces : Bool) (init : Trees) (size : ℕ) (m : Memory) → StopsPlaced (with_list s p braces init size m)
+  list_placed : (p : Location) (braces : Bool) (init : Trees) (size : ℕ) (m : Memory) → StopsPlaced (with_list s p braces init size m)
   list_placed p true init size m =
       then_placed (filled s p size 0 init (made_array m p (replicate size None))) (λ d k. gives done (with_zeros s p size (count init) k))
       (filled_placed p size 0 init (made_array m p (replicate size None))) (λ d k. tt)
@@ -293,11 +293,11 @@ module _ (s : Source) where
   abbrev outer : Scope
   outer = scope_in s None
 
-  once_placed : (b : Bool) (p : Place) (c : Cell) (n : ℕ) (m : Memory) → StopsPlaced (made_once s b p c n m)
+  once_placed : (b : Bool) (p : Location) (c : Cell) (n : ℕ) (m : Memory) → StopsPlaced (made_once s b p c n m)
   once_placed true p c n m = tt
   once_placed false p c n m = tt
 
-  array_placed : (earlier : List Declared) (p : Place) (name : List ℕ) (i : Declared) (init : Trees) (m : Memory) → StopsPlaced (array_turn s earlier p name i init m)
+  array_placed : (earlier : List Declared) (p : Location) (name : List ℕ) (i : Declared) (init : Trees) (m : Memory) → StopsPlaced (array_turn s earlier p name i init m)
   array_placed earlier p name i none m =
       then_placed (sized outer (size_in i.array) i.braces i.init m) (λ n k. made_once s (list_any (λ e. is_named s name e && has_size s e) earlier) p (start_cell s name) n k)
       (sized_placed outer (size_in i.array) i.braces i.init m) (λ n k. once_placed (list_any (λ e. is_named s name e && has_size s e) earlier) p (start_cell s name) n k)
@@ -305,12 +305,12 @@ module _ (s : Source) where
       then_placed (sized outer (size_in i.array) i.braces i.init m) (with_list outer p i.braces i.init) (sized_placed outer (size_in i.array) i.braces i.init m)
       (λ n k. list_placed outer p i.braces i.init n k)
 
-  plain_placed : (p : Place) (init : Trees) (m : Memory) → StopsPlaced (plain_turn s p init m)
+  plain_placed : (p : Location) (init : Trees) (m : Memory) → StopsPlaced (plain_turn s p init m)
   plain_placed p none m = tt
   plain_placed p (more e es) m =
       then_placed (value outer e m) (λ z k. rest_stops outer es (made_plain k p (Some z))) (value_placed outer e m) (λ z k. rest_placed outer es (made_plain k p (Some z)))
 
-  turn_placed : (earlier : List Declared) (name : List ℕ) (i : Declared) (p : Place) (m : Memory) → StopsPlaced (turn_at s earlier name i p m)
+  turn_placed : (earlier : List Declared) (name : List ℕ) (i : Declared) (p : Location) (m : Memory) → StopsPlaced (turn_at s earlier name i p m)
   turn_placed earlier name i (Shared n) m = plain_placed (Shared n) i.init m
   turn_placed earlier name i (SharedArray n) m = array_placed earlier (SharedArray n) name i i.init m
   turn_placed earlier name i (Own n) m = tt
@@ -320,8 +320,8 @@ module _ (s : Source) where
   pub turns_placed : (earlier is : List Declared) (m : Memory) → StopsPlaced (turns s earlier is m)
   turns_placed earlier [] m = tt
   turns_placed earlier (i ∷ is) m =
-      then_placed (turn_at s earlier (text s.bytes i.name) i (place_of outer (text s.bytes i.name)) m) (λ d k. turns s (earlier ++ i ∷ []) is k)
-      (turn_placed earlier (text s.bytes i.name) i (place_of outer (text s.bytes i.name)) m) (λ d k. turns_placed (earlier ++ i ∷ []) is k)
+      then_placed (turn_at s earlier (text s.bytes i.name) i (location_of outer (text s.bytes i.name)) m) (λ d k. turns s (earlier ++ i ∷ []) is k)
+      (turn_placed earlier (text s.bytes i.name) i (location_of outer (text s.bytes i.name)) m) (λ d k. turns_placed (earlier ++ i ∷ []) is k)
 
 module _ (s : Source) (p : Problem) (weaver : Option Table) (tries : List Move) where
   start_unrefused : (m : Memory) → is_refused (going_start s p weaver tries m).woven.board.phase ≡ true → ⊥

@@ -2,7 +2,7 @@
 use Rattle.std.proofs.Common.{◌≡◌, ◌⊎◌, ℤ, pos, negsuc, Bool, true, false, Option, Some, None, refl, inl, inr}
 use Rattle.cw_syntax.specs.Trees.{Tree, Trees, Block, Declares, Evaluates, Empties, Labels, Chooses, Whiles, Does, Fors, Breaks, Continues, Returns, Form, Definition}
 use Rattle.cw_syntax.specs.Plans.{Stm, Plain, Break, Continue, Return, Open, Close, Call, Group, Label, If, While, Do, For}
-use Rattle.cw_syntax.specs.Frames.{Item, Entry, Todo, Test, After, Mark, End, Way, On, Left, Right, Opened, Failed}
+use Rattle.cw_syntax.specs.Frames.{Item, Entry, Todo, Test, After, LoopEnd, End, Way, On, Left, Right, Opened, Failed}
 use Rattle.cw_figures.specs.Figures.{is_zero}
 use Rattle.cw_value.specs.Expressions.{Scope, Memory, Outcome, gives, stops, ◌and◌}
 use Rattle.cw_value.specs.Declarations.{declares}
@@ -107,5 +107,5 @@ module _ (s : Scope) where
   deed_way f (Test at true u b) m = decides (tree_at f condition at) m
   deed_way f (Test at false u b) m = refl
   deed_way f (After at) m = computes (tree_at f next_turn at) m
-  deed_way f Mark m = refl
+  deed_way f LoopEnd m = refl
   deed_way f (End g) m = refl

@@ -14,7 +14,7 @@ use Rattle.cw_value.specs.declared.values.Stop.TheVariants.{Ended, Steps, Refuse
 use Rattle.cw_value.specs.Expressions.{Made}
 use Rattle.cw_value.specs.Machines.{Source, Machine, goes, step}
 use Rattle.cw_value.specs.Shown.{Values}
-use Rattle.cw_value.specs.Runs.{Going, move_of, answer, counted, told, is_split, IsFree, IsWeaving, Leads, Chooses}
+use Rattle.cw_value.specs.Runs.{Going, move_of, answer, counted, ended_values, is_split, IsFree, IsWeaving, Leads, Chooses}
 
 -- The weaver has ended the woven run, which only a policy with stop lets it; the calls made so far are the first ones of the plain run's.
 pub record IsCut (policy : PlainPolicy) (v w : Values) : Type 0 where
@@ -61,7 +61,7 @@ pub record IsRefused (source : Source) (p : Problem) (weaver : Option Table) (s 
   pub next : State
   pub refuses : Leads source p weaver before.woven Refuse next
   pub seam : SeamId
-  pub ends : v ≡ told (record before { woven = next; tries = left }) (Refused seam)
+  pub ends : v ≡ ended_values (record before { woven = next; tries = left }) (Refused seam)
 
 -- no end by a weaver
 abbrev pub IsUnrefused : Stop → Type 0

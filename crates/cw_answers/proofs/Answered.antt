@@ -6,10 +6,10 @@ use Rattle.cw_text_lines.proofs.Fronts.{one_whole, one_other, not_both, HasAnswe
 use Rattle.cw_value.specs.Shown.{Answers}
 use Rattle.cw_answers.specs.declared.fault.AnswersFault.{AnswersFault}
 use Rattle.cw_answers.specs.declared.fault.AnswersFault.TheVariants.{Line, NoMemory}
-use Rattle.cw_answers.specs.AnswerLines.{AnswerLine, Head, Name, Try, Call, End, line_words, FitsLine}
+use Rattle.cw_answers.specs.AnswerLines.{AnswerLine, Head, Name, Try, Call, End, line_fields, FitsLine}
 use Rattle.cw_answers.specs.AnswersText.{lines_of, Spells}
 use Rattle.cw_answers.specs.Faults.{AreAnswers, IsRead}
-use Rattle.cw_answers.proofs.Words.{tell, are_told}
+use Rattle.cw_answers.proofs.Fields.{tell, are_decided}
 use Rattle.cw_answers.proofs.Stages.{lines_fit, empty_front, goes, ends}
 
 -- ---- the answers whose lines these are
@@ -38,16 +38,16 @@ whole : (text : List ℕ) (a : Answers) → Spells text a → AreAnswers (lines_
 whole text a h = (a, h.fits, refl)
 
 pub one_answer : (text : List ℕ) (a b : Result Answers AnswersFault) → IsRead text a → IsRead text b → a ≡ b
-one_answer text (Ok a) (Ok b) h k = ap Ok (same_lines a b (one_whole FitsLine line_words tell AreAnswers lines_fit (lines_of a) (lines_of b) (whole text a h) (whole text b k) (sym h.spelled ∙ k.spelled)))
-one_answer text (Ok a) (Err (Line n)) h k = absurd (not_both FitsLine line_words tell AreAnswers lines_fit text (lines_of a) n (whole text a h) h.spelled k)
-one_answer text (Err (Line n)) (Ok b) h k = absurd (not_both FitsLine line_words tell AreAnswers lines_fit text (lines_of b) n (whole text b k) k.spelled h)
-one_answer text (Err (Line m)) (Err (Line n)) h k = ap (λ (n : ℕ). Err (Line n)) (one_other FitsLine line_words tell AreAnswers lines_fit text m n h k)
+one_answer text (Ok a) (Ok b) h k = ap Ok (same_lines a b (one_whole FitsLine line_fields tell AreAnswers lines_fit (lines_of a) (lines_of b) (whole text a h) (whole text b k) (sym h.spelled ∙ k.spelled)))
+one_answer text (Ok a) (Err (Line n)) h k = absurd (not_both FitsLine line_fields tell AreAnswers lines_fit text (lines_of a) n (whole text a h) h.spelled k)
+one_answer text (Err (Line n)) (Ok b) h k = absurd (not_both FitsLine line_fields tell AreAnswers lines_fit text (lines_of b) n (whole text b k) k.spelled h)
+one_answer text (Err (Line m)) (Err (Line n)) h k = ap (λ (n : ℕ). Err (Line n)) (one_other FitsLine line_fields tell AreAnswers lines_fit text m n h k)
 one_answer text a (Err NoMemory) h k = absurd k
 one_answer text (Err NoMemory) b h k = absurd h
 
 pub some_answer : (text : List ℕ) → (answer : Result Answers AnswersFault) × IsRead text answer
-some_answer text = go (has_answer FitsLine line_words tell AreAnswers lines_fit are_told goes ends text empty_front)
+some_answer text = go (has_answer FitsLine line_fields tell AreAnswers lines_fit are_decided goes ends text empty_front)
   where
-    go : HasAnswer FitsLine line_words tell AreAnswers lines_fit text → (answer : Result Answers AnswersFault) × IsRead text answer
-    go (inl (ls, (a, fits, is), e)) = (Ok a, record { fits = fits; spelled = e ∙ ap (whole_lines line_words) is })
+    go : HasAnswer FitsLine line_fields tell AreAnswers lines_fit text → (answer : Result Answers AnswersFault) × IsRead text answer
+    go (inl (ls, (a, fits, is), e)) = (Ok a, record { fits = fits; spelled = e ∙ ap (whole_lines line_fields) is })
     go (inr h) = (Err (Line h.0), h.1)

@@ -1,6 +1,6 @@
 -- The proofs.
 pub mod Numbers
-pub mod Words
+pub mod Fields
 pub mod Stages
 pub mod Answered
 pub mod Behind

@@ -1,4 +1,4 @@
--- Signed numbers as words.
+-- Signed numbers as fields.
 use Rattle.std.proofs.Common.{◌≡◌, ◌≢◌, ◌⊎◌, ℕ, suc, ◌-◌, ◌^◌, ◌<◌, cond, eqb, ℤ, pos, negsuc, List, [], ◌∷◌, length, false, Option, Some, None, refl, sym, ap, ◌∙◌, arith}
 use Rattle.std.specs.List.{list_all}
 use Rattle.std.specs.Char.{is_ascii_digit}
@@ -29,17 +29,17 @@ no_decimal n small e = let some = decimal_nonempty n small in omega (arith, some
 no_sign : (n : ℕ) (bs : List ℕ) → n < 2 ^ 64 → decimal n ≢ 45 ∷ bs
 no_sign n bs small e = let digits = and_parts (is_ascii_digit 45) (list_all is_ascii_digit bs) (sym (ap (list_all is_ascii_digit) e) ∙ decimal_has_digits n small) in false≢true digits.0
 
-pub value_free : (mark : ℕ) → is_ascii_digit mark ≡ false → eqb 45 mark ≡ false → (z : ℤ) → FitsValue z → IsFree mark (signed_decimal z)
-value_free mark differs sign (pos n) fits = decimal_free mark n differs (omega (arith, fits))
-value_free mark differs sign (negsuc n) fits = All-cons (λ (b : ℕ). eqb b mark ≡ false) 45 (decimal (suc n)) sign (decimal_free mark (suc n) differs (omega (arith, fits)))
+pub value_free : (separator : ℕ) → is_ascii_digit separator ≡ false → eqb 45 separator ≡ false → (z : ℤ) → FitsValue z → IsFree separator (signed_decimal z)
+value_free separator differs sign (pos n) fits = decimal_free separator n differs (omega (arith, fits))
+value_free separator differs sign (negsuc n) fits = All-cons (λ (b : ℕ). eqb b separator ≡ false) 45 (decimal (suc n)) sign (decimal_free separator (suc n) differs (omega (arith, fits)))
 
--- ---- a number from its word
+-- ---- a number from its field
 
 abbrev pub value_from : List ℕ → ℤ
 value_from [] = pos 0
 value_from (b ∷ bs) = cond (eqb b 45) (negsuc (digits_value 10 bs - 1)) (pos (digits_value 10 (b ∷ bs)))
 
-plain : (word : List ℕ) → ((bs : List ℕ) → word ≢ 45 ∷ bs) → word ≢ [] → value_from word ≡ pos (digits_value 10 word)
+plain : (field : List ℕ) → ((bs : List ℕ) → field ≢ 45 ∷ bs) → field ≢ [] → value_from field ≡ pos (digits_value 10 field)
 plain [] unsigned some = absurd (some refl)
 plain (b ∷ bs) unsigned some = ap (λ t. cond t (negsuc (digits_value 10 bs - 1)) (pos (digits_value 10 (b ∷ bs)))) (ne_eqb b 45 (λ e. unsigned bs (ap (λ c. c ∷ bs) e)))
 
@@ -58,19 +58,19 @@ value_or_not (negsuc n) = below_or_not n (2 ^ 63)
 
 -- ---- what the reader answers
 
-pub no_bytes : (word : List ℕ) → length word ≡ 0 → Reads FitsValue signed_decimal word None
-no_bytes word empty = record { some = tt; none = by }
+pub no_bytes : (field : List ℕ) → length field ≡ 0 → Reads FitsValue signed_decimal field None
+no_bytes field empty = record { some = tt; none = by }
   where
-    by : (z : ℤ) → FitsValue z → signed_decimal z ≢ word
+    by : (z : ℤ) → FitsValue z → signed_decimal z ≢ field
     by (pos n) fits e = let some = decimal_nonempty n (omega (arith, fits)) in omega (arith, some, ap length e, empty)
     by (negsuc n) fits e = omega (arith, ap length e, empty)
 
-pub with_sign : (word digits : List ℕ) (first : ℕ) (read : Option ℤ) → word ≡ first ∷ digits → first ≡ 45 → Reads IsNegative unsigned digits read → Reads FitsValue signed_decimal word read
-with_sign word digits first (Some (pos n)) e sign reads = absurd reads.some.0
-with_sign word digits first (Some (negsuc n)) e sign reads = record { some = (reads.some.0, ap (λ t. 45 ∷ t) reads.some.1 ∙ ap (λ (b : ℕ). b ∷ digits) (sym sign) ∙ sym e); none = tt }
-with_sign word digits first None e sign reads = record { some = tt; none = by }
+pub with_sign : (field digits : List ℕ) (first : ℕ) (read : Option ℤ) → field ≡ first ∷ digits → first ≡ 45 → Reads IsNegative unsigned digits read → Reads FitsValue signed_decimal field read
+with_sign field digits first (Some (pos n)) e sign reads = absurd reads.some.0
+with_sign field digits first (Some (negsuc n)) e sign reads = record { some = (reads.some.0, ap (λ t. 45 ∷ t) reads.some.1 ∙ ap (λ (b : ℕ). b ∷ digits) (sym sign) ∙ sym e); none = tt }
+with_sign field digits first None e sign reads = record { some = tt; none = by }
   where
-    by : (z : ℤ) → FitsValue z → signed_decimal z ≢ word
+    by : (z : ℤ) → FitsValue z → signed_decimal z ≢ field
     by (pos n) fits is = no_sign n digits (omega (arith, fits)) (is ∙ e ∙ ap (λ (b : ℕ). b ∷ digits) sign)
     by (negsuc n) fits is = reads.none (negsuc n) fits (ap tail_of (is ∙ e))
 

@@ -14,11 +14,11 @@ use Rattle.cw_certs.specs.declared.moves.Move.{Move}
 use Rattle.cw_text_lines.specs.Lines.{IsFront}
 use Rattle.cw_text_lines.proofs.Fronts.{front_fits}
 use Rattle.cw_value.specs.Shown.{Answers, IsAnswer, AreInOrder}
-use Rattle.cw_answers.specs.AnswerLines.{AnswerLine, Head, Name, Try, Call, End, line_words, FitsLine}
+use Rattle.cw_answers.specs.AnswerLines.{AnswerLine, Head, Name, Try, Call, End, line_fields, FitsLine}
 use Rattle.cw_answers.specs.AnswersText.{name_line, lines_of, Fits}
 use Rattle.cw_answers.specs.Faults.{AreAnswers}
 use Rattle.cw_answers.specs.Reading.{by_name, is_behind, last_of}
-use Rattle.cw_answers.proofs.Words.{tell}
+use Rattle.cw_answers.proofs.Fields.{tell}
 
 -- ---- names that ascend
 
@@ -359,7 +359,7 @@ lines_fit ls w = subst (All FitsLine) (sym w.2) w.1.lines
 
 front_shape : (before : List AnswerLine) → IsFront AreAnswers before → Shape before
 front_shape [] front = inl refl
-front_shape (l ∷ ls) front = by (front_fits FitsLine line_words tell AreAnswers lines_fit (l ∷ ls) front) (front_run (l ∷ ls) front)
+front_shape (l ∷ ls) front = by (front_fits FitsLine line_fields tell AreAnswers lines_fit (l ∷ ls) front) (front_run (l ∷ ls) front)
   where
     at : (l : AnswerLine) → All FitsLine ls → run (after begins l) ls ≢ lost → Shape (l ∷ ls)
     at Head all may = shape ls nothing nothing_fits all may
@@ -382,8 +382,8 @@ whole_front a fits = ([], (a, fits, append-nil (lines_of a)))
 pub empty_front : IsFront AreAnswers []
 empty_front = (lines_of nothing, (nothing, nothing_fits, refl))
 
-abbrev IsTold : AnswerLine → List AnswerLine → Type 0
-IsTold next before = IsFront AreAnswers (before ++ next ∷ []) ⊎ (IsFront AreAnswers (before ++ next ∷ []) → ⊥)
+abbrev IsDecided : AnswerLine → List AnswerLine → Type 0
+IsDecided next before = IsFront AreAnswers (before ++ next ∷ []) ⊎ (IsFront AreAnswers (before ++ next ∷ []) → ⊥)
 
 pub goes : (before : List AnswerLine) (next : AnswerLine) → IsFront AreAnswers before → FitsLine next → IsFront AreAnswers (before ++ next ∷ []) ⊎ (IsFront AreAnswers (before ++ next ∷ []) → ⊥)
 goes before next front f = by (front_shape before front)
@@ -395,18 +395,18 @@ goes before next front f = by (front_shape before front)
     first (Call v) = inr (λ h. front_run (Call v ∷ []) h refl)
     first End = inr (λ h. front_run (End ∷ []) h refl)
 
-    on : (b : Answers) → Fits b → Next b next → IsTold next (body b)
+    on : (b : Answers) → Fits b → Next b next → IsDecided next (body b)
     on b fits (inl e) = inl (subst (λ l. IsFront AreAnswers (body b ++ l ∷ [])) (sym e) (subst (IsFront AreAnswers) (lines-body b) (whole_front b fits)))
     on b fits (inr (d, h)) = inl (subst (IsFront AreAnswers) h.lines (body_front d h.fits))
 
-    body_told : (b : Answers) → Fits b → (after (stage_of b) next ≡ lost) ⊎ (after (stage_of b) next ≢ lost) → IsTold next (body b)
-    body_told b fits (inl is) = inr (λ h. may_follow b fits.in_order next h is)
-    body_told b fits (inr may) = on b fits (follows b fits next f may)
+    body_decided : (b : Answers) → Fits b → (after (stage_of b) next ≡ lost) ⊎ (after (stage_of b) next ≢ lost) → IsDecided next (body b)
+    body_decided b fits (inl is) = inr (λ h. may_follow b fits.in_order next h is)
+    body_decided b fits (inr may) = on b fits (follows b fits next f may)
 
-    by : Shape before → IsTold next before
-    by (inl e) = subst (IsTold next) (sym e) (first next)
-    by (inr (inl (b, fits, e))) = subst (IsTold next) (sym e) (body_told b fits (lost_or_not (after (stage_of b) next)))
-    by (inr (inr (b, fits, e))) = subst (IsTold next) (sym e) (inr (nothing_follows b fits.in_order next))
+    by : Shape before → IsDecided next before
+    by (inl e) = subst (IsDecided next) (sym e) (first next)
+    by (inr (inl (b, fits, e))) = subst (IsDecided next) (sym e) (body_decided b fits (lost_or_not (after (stage_of b) next)))
+    by (inr (inr (b, fits, e))) = subst (IsDecided next) (sym e) (inr (nothing_follows b fits.in_order next))
 
 pub ends : (before : List AnswerLine) → IsFront AreAnswers before → AreAnswers before ⊎ (AreAnswers before → ⊥)
 ends before front = by (front_shape before front)

@@ -15,12 +15,12 @@ pub data AnswerLine : Type 0 where
   End : AnswerLine
 
 -- `capweave answers 1`; `name NAME VALUE`; `try grant`, `try refuse`; `call VALUE`; `end`
-abbrev pub line_words : AnswerLine → List (List ℕ)
-line_words Head = codes "capweave" ∷ codes "answers" ∷ codes "1" ∷ []
-line_words (Name name value) = codes "name" ∷ name ∷ signed_decimal value ∷ []
-line_words (Try by) = codes "try" ∷ move_name by ∷ []
-line_words (Call value) = codes "call" ∷ signed_decimal value ∷ []
-line_words End = codes "end" ∷ []
+abbrev pub line_fields : AnswerLine → List (List ℕ)
+line_fields Head = codes "capweave" ∷ codes "answers" ∷ codes "1" ∷ []
+line_fields (Name name value) = codes "name" ∷ name ∷ signed_decimal value ∷ []
+line_fields (Try by) = codes "try" ∷ move_name by ∷ []
+line_fields (Call value) = codes "call" ∷ signed_decimal value ∷ []
+line_fields End = codes "end" ∷ []
 
 -- from -2^63 to 2^63 - 1
 abbrev pub FitsValue : ℤ → Type 0

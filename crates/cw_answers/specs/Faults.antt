@@ -4,7 +4,7 @@ use Rattle.cw_text_lines.specs.Lines.{IsFirstOther}
 use Rattle.cw_value.specs.Shown.{Answers}
 use Rattle.cw_answers.specs.declared.fault.AnswersFault.{AnswersFault}
 use Rattle.cw_answers.specs.declared.fault.AnswersFault.TheVariants.{Line, NoMemory}
-use Rattle.cw_answers.specs.AnswerLines.{AnswerLine, line_words}
+use Rattle.cw_answers.specs.AnswerLines.{AnswerLine, line_fields}
 use Rattle.cw_answers.specs.AnswersText.{lines_of, Fits, Spells}
 
 -- these lines are those of some answers
@@ -12,7 +12,7 @@ abbrev pub AreAnswers : List AnswerLine → Type 0
 AreAnswers lines = (a : Answers) × Fits a × (lines ≡ lines_of a)
 
 abbrev pub IsFault : (text : List ℕ) → (number : ℕ) → Type 0
-IsFault text number = IsFirstOther AreAnswers line_words text number
+IsFault text number = IsFirstOther AreAnswers line_fields text number
 
 -- why a reader has no answers to give: a line, or want of memory
 abbrev pub IsCause : (text : List ℕ) → AnswersFault → Type 0

@@ -7,7 +7,7 @@ use Rattle.std.specs.declared.cmp.Ordering.{Ordering}
 use Rattle.std.specs.Fmt.{decimal}
 use Rattle.cw_certs.specs.declared.moves.Move.{Move}
 use Rattle.cw_text_lines.specs.Lines.{StartsWith}
-use Rattle.cw_answers.specs.AnswerLines.{Name, Try, Call, line_words, FitsLine}
+use Rattle.cw_answers.specs.AnswerLines.{Name, Try, Call, line_fields, FitsLine}
 
 abbrev pub IsNegative : ℤ → Type 0
 IsNegative (pos n) = ⊥
@@ -36,10 +36,10 @@ last_of last (n ∷ ns) = last_of (Some n.0) ns
 
 -- no name that stands behind the last one goes on; no answer to a try; no answer of a call
 abbrev pub NoName : List (List ℕ × ℤ) → List ℕ → Type 0
-NoName names text = (name : List ℕ) (value : ℤ) (more : List ℕ) → is_behind (last_of None names) name ≡ true → StartsWith FitsLine line_words text (Name name value) more → ⊥
+NoName names text = (name : List ℕ) (value : ℤ) (more : List ℕ) → is_behind (last_of None names) name ≡ true → StartsWith FitsLine line_fields text (Name name value) more → ⊥
 
 abbrev pub NoTry : List ℕ → Type 0
-NoTry text = (by : Move) (more : List ℕ) → StartsWith FitsLine line_words text (Try by) more → ⊥
+NoTry text = (by : Move) (more : List ℕ) → StartsWith FitsLine line_fields text (Try by) more → ⊥
 
 abbrev pub NoCall : List ℕ → Type 0
-NoCall text = (value : ℤ) (more : List ℕ) → StartsWith FitsLine line_words text (Call value) more → ⊥
+NoCall text = (value : ℤ) (more : List ℕ) → StartsWith FitsLine line_fields text (Call value) more → ⊥

@@ -6,7 +6,7 @@ ghost use Rattle.std.specs.List.Sorted.{IsStrictlySortedBy};
 ghost use Rattle.cw_text_lines.specs.Lines.{whole_lines};
 ghost use Rattle.cw_value.specs.Shown.{answers_of, AreInOrder};
 ghost use Rattle.cw_answers.specs.declared.fault.AnswersFault.TheVariants.{NoMemory};
-ghost use Rattle.cw_answers.specs.AnswerLines.{line_words, FitsLine, Try, Call};
+ghost use Rattle.cw_answers.specs.AnswerLines.{line_fields, FitsLine, Try, Call};
 ghost use Rattle.cw_answers.specs.AnswersText.{name_line, Spells};
 ghost use Rattle.cw_answers.specs.Faults.{IsCause};
 ghost use Rattle.cw_answers.specs.Reading.{name_of, by_name, is_behind, last_of, NoName, NoTry, NoCall};
@@ -47,7 +47,7 @@ pub fn read_answers(alloc: Global, text: &[u8]) -> Result<Answers, AnswersFault>
 
 /// The names that a text begins with, ascending strictly, and the text after them.
 fn read_names(alloc: Global, text: &[u8]) -> Result<(Vec<(Vec<u8>, i64)>, &[u8]), AnswersFault>
-    ensures text { IfOk result (λ (names, rest). text.now ≡ whole_lines line_words (map name_line (map name_of names.items)) ++ rest.now) }
+    ensures text { IfOk result (λ (names, rest). text.now ≡ whole_lines line_fields (map name_line (map name_of names.items)) ++ rest.now) }
     ensures fits { IfOk result (λ (names, _). All FitsLine (map name_line (map name_of names.items))) }
     ensures ascend { IfOk result (λ (names, _). IsStrictlySortedBy by_name (map name_of names.items)) }
     ensures stops { IfOk result (λ (names, rest). NoName (map name_of names.items) rest.now) }
@@ -79,7 +79,7 @@ fn stands_behind(names: &[(Vec<u8>, i64)], name: &[u8]) -> bool
 
 /// The answers to tries that a text begins with, and the text after them.
 fn read_tries(alloc: Global, text: &[u8]) -> Result<(Vec<Move>, &[u8]), AnswersFault>
-    ensures text { IfOk result (λ (tries, rest). text.now ≡ whole_lines line_words (map Try tries.items) ++ rest.now) }
+    ensures text { IfOk result (λ (tries, rest). text.now ≡ whole_lines line_fields (map Try tries.items) ++ rest.now) }
     ensures fits { IfOk result (λ (tries, _). All FitsLine (map Try tries.items)) }
     ensures stops { IfOk result (λ (_, rest). NoTry rest.now) }
     ensures memory { IfErr result (λ fault. fault ≡ NoMemory) }
@@ -97,7 +97,7 @@ fn read_tries(alloc: Global, text: &[u8]) -> Result<(Vec<Move>, &[u8]), AnswersF
 
 /// What external calls give that a text begins with, and the text after it.
 fn read_calls(alloc: Global, text: &[u8]) -> Result<(Vec<i64>, &[u8]), AnswersFault>
-    ensures text { IfOk result (λ (calls, rest). text.now ≡ whole_lines line_words (map Call calls.items) ++ rest.now) }
+    ensures text { IfOk result (λ (calls, rest). text.now ≡ whole_lines line_fields (map Call calls.items) ++ rest.now) }
     ensures fits { IfOk result (λ (calls, _). All FitsLine (map Call calls.items)) }
     ensures stops { IfOk result (λ (_, rest). NoCall rest.now) }
     ensures memory { IfErr result (λ fault. fault ≡ NoMemory) }

@@ -1,4 +1,4 @@
-//! Signed numbers as words.
+//! Signed numbers as fields.
 
 ghost use Rattle.std.specs.Fmt.{signed_decimal};
 ghost use Rattle.cw_text.specs.Lines.{Reads};
@@ -7,17 +7,17 @@ ghost use Rattle.cw_answers.specs.Reading.{IsNegative, unsigned};
 
 use cw_text::number_of;
 
-/// The number from -2^63 to 2^63 - 1 whose decimal a word is: `-` before a negative one, and no leading zero.
-pub(crate) fn value_of(word: &[u8]) -> Option<i64>
-    ensures { Reads FitsValue signed_decimal word.now result }
+/// The number from -2^63 to 2^63 - 1 whose decimal a field is: `-` before a negative one, and no leading zero.
+pub(crate) fn value_of(field: &[u8]) -> Option<i64>
+    ensures { Reads FitsValue signed_decimal field.now result }
 {
-    let Some((first, digits)) = word.split_first() else {
+    let Some((first, digits)) = field.split_first() else {
         return None;
     };
     if *first == b'-' {
         negative(digits)
     } else {
-        let size = number_of(word, i64::MAX as u64)?;
+        let size = number_of(field, i64::MAX as u64)?;
         Some(size as i64)
     }
 }

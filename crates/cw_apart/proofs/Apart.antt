@@ -3,7 +3,7 @@ use Rattle.std.proofs.Common.{◌≡◌, ℕ, zero, suc, ◌+◌, ◌<◌, ◌�
 use Rattle.std.specs.Prelude.{find}
 use Rattle.std.proofs.lemmas.Option.{none-some, same_Some}
 use Rattle.cw_lex.proofs.Ordered.{tokens_in_order}
-use Rattle.cw_grammar.specs.declared.words.Lexeme.{Lexeme}
+use Rattle.cw_grammar.specs.declared.terminals.Lexeme.{Lexeme}
 use Rattle.cw_grammar.specs.Lexemes.{from_of, AreAll, statements}
 use Rattle.cw_grammar.specs.Expressions.{IsExpression, nesting_limit}
 use Rattle.cw_grammar.specs.Declarations.{Expressions}
@@ -12,7 +12,7 @@ use Rattle.cw_grammar.specs.Statements.{Place, InBlock, BeforeElse, Elsewhere, l
 use Rattle.cw_grammar.specs.Files.{Part, Declares as DeclaresPart, Holds, Defines, IsPart, IsFunction, IsProgram, file_of}
 use Rattle.cw_syntax.specs.Trees.{Statement, Stated, Form, Block, Declares, Evaluates, Empties, Labels, Chooses, Whiles, Does, Fors, Breaks, Continues, Returns, Perhaps, nothing, just, Definition, File}
 use Rattle.cw_source.specs.Read.{ReadsAs}
-use Rattle.cw_source.proofs.Lying.{Lie, lie_of, lie_le, split, first_within, lie_at, some_words, some_declaration}
+use Rattle.cw_source.proofs.Lying.{Lie, lie_of, lie_le, split, first_within, lie_at, some_terminals, some_declaration}
 use Rattle.cw_value.specs.Deeds.{said, said_in, said_init, said_all, begins_at, form_of, form_at}
 use Rattle.cw_apart.specs.Starts.{start_of, Ascend}
 use Rattle.cw_apart.proofs.Between.{wider, both, found}
@@ -55,7 +55,7 @@ module _ (E : Expressions) (P : Place → List Lexeme → Statement → Type 0) 
       )
   form_ascends place ts (Declares d) from to is lie = leaf ts from to (some_declaration E ts d is.1) lie
   form_ascends place ts (Evaluates e) from to (inner, c, whole, closes, is) lie = leaf ts from to (omega (arith, ap length whole, length-append inner (c ∷ []))) lie
-  form_ascends place ts Empties from to is lie = leaf ts from to (some_words ts _ _ is) lie
+  form_ascends place ts Empties from to is lie = leaf ts from to (some_terminals ts _ _ is) lie
   form_ascends place ts (Labels name mark body) from to (n, k, x, whole, n_is, k_is, name_is, mark_is, is) lie =
       let p = lie_at from to ts (n ∷ k ∷ x) whole lie in
       let at : from_of ts ≡ n.from = ap from_of whole in (
@@ -102,8 +102,8 @@ module _ (E : Expressions) (P : Place → List Lexeme → Statement → Type 0) 
       let inner = wider u.0 to q.0 to (said body) head (omega arith) (h (last place) v body u.0 to is u.2) in
       let parts = both o.to q.0 to (said_init init) (said body) (init_ascend x init o.to q.0 init_is q.1) inner in
       ((let a = p.0 in omega (arith, at, a)), wider o.to to (from_of ts + 1) to (said_init init ++ said body) (let a = p.1 in let b = p.2.0 in let c = p.2.1 in omega (arith, at, a, b, c)) (omega arith) parts)
-  form_ascends place ts Breaks from to is lie = leaf ts from to (some_words ts _ _ is) lie
-  form_ascends place ts Continues from to is lie = leaf ts from to (some_words ts _ _ is) lie
+  form_ascends place ts Breaks from to is lie = leaf ts from to (some_terminals ts _ _ is) lie
+  form_ascends place ts Continues from to is lie = leaf ts from to (some_terminals ts _ _ is) lie
   form_ascends place ts (Returns value) from to (r, b, whole, r_is, is) lie = leaf ts from to (omega (arith, ap length whole)) lie
 
 module _ (limit : ℕ) where

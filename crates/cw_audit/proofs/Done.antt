@@ -20,38 +20,38 @@ use Rattle.cw_game.proofs.Linking.{linked}
 use Rattle.cw_audit_search.specs.Searches.{Found}
 use Rattle.cw_audit_search.specs.Sound.{IsFair, IsSound}
 use Rattle.cw_audit_search.specs.Settled.{IsSettled, IsBound, IsRowBelow}
-use Rattle.cw_audit_search.specs.Counted.{Place, is_place, HasRow}
+use Rattle.cw_audit_search.specs.Counted.{RowKey, is_row_key, HasRow}
 use Rattle.cw_audit_search.specs.Listing.{AreListed, IsListing}
 use Rattle.cw_audit_search.specs.Grouped.{AreBelow}
 use Rattle.cw_audit_search.specs.Laws.{IsDone}
 use Rattle.cw_audit_search.proofs.Counting.{rows_at_most}
 use Rattle.cw_audit_search.proofs.Lawful.{listings_stated, counted_stated, stated_found, cut_far}
 use Rattle.cw_audit_search.proofs.Positive.{distance_positive}
-use Rattle.cw_audit_store.specs.declared.place.Hit.{Hit}
+use Rattle.cw_audit_store.specs.declared.row_key.Hit.{Hit}
 use Rattle.cw_audit_moves.specs.Writing.{IsRunTo}
 use Rattle.cw_audit.specs.Audits.{IsFew, IsAuditOf, IsPlayed, IsFaultOf, AreManyRows, AreManyMoves}
 use Rattle.cw_audit.specs.Bounds.{bound_of, early_bound, IsEarly, is_far}
 
 -- Too many rows are below the distance; or there are too many at all, where it is cut.
-pub many_rows : (g : Game) (functions : ℕ) (s : Found) (bound : ℕ) (D D2 : Option ℕ) (places : List Place) → IsDone g functions s bound D → (D2 ≡ D) ⊎ (D ≡ Some 65537)
-    → AreBelow s D2 places → IsDistinct is_place places → 65536 < length places → AreManyRows g
-many_rows g functions s bound D D2 places d same below distinct many = λ t stated.
-    let least = counted_stated g functions s bound D places d distinct
+pub many_rows : (g : Game) (functions : ℕ) (s : Found) (bound : ℕ) (D D2 : Option ℕ) (row_keys : List RowKey) → IsDone g functions s bound D → (D2 ≡ D) ⊎ (D ≡ Some 65537)
+    → AreBelow s D2 row_keys → IsDistinct is_row_key row_keys → 65536 < length row_keys → AreManyRows g
+many_rows g functions s bound D D2 row_keys d same below distinct many = λ t stated.
+    let least = counted_stated g functions s bound D row_keys d distinct
     (λ i k e.
     let w = below.found i k e in
     (w.0, w.1, w.2.0, w.2.1, elim same [ inl h ↦ inl (subst (λ o. is_before o (w.0 + w.1) ≡ true) h w.2.2) | inr h ↦ inr h ])) t stated in
     omega (arith, many, least)
 
 -- All is settled, and the nearest violation was cut.
-pub many_moves : (g : Game) (functions : ℕ) (s : Found) (places : List Place) → IsFair g functions → IsSound g functions s → IsSettled g s 65538 → s.best ≡ Some 65537
-    → AreBelow s None places → length places ≤ 65536 → AreManyMoves g
-many_moves g functions s places fair sound settled e below few =
+pub many_moves : (g : Game) (functions : ℕ) (s : Found) (row_keys : List RowKey) → IsFair g functions → IsSound g functions s → IsSettled g s 65538 → s.best ≡ Some 65537
+    → AreBelow s None row_keys → length row_keys ≤ 65536 → AreManyMoves g
+many_moves g functions s row_keys fair sound settled e below few =
     let far = cut_far g functions s fair sound settled e in
     record {
       hit = far.0;
       far = far.1;
       few_rows = λ t order stated.
-          let most = stated_found g functions s places fair sound settled
+          let most = stated_found g functions s row_keys fair sound settled
           (λ f q p x a ea. let r = sound.known f q p x a ea in below.whole f q r.0 p x a (r.1, ea, refl)) t order stated in
           omega (arith, most, few);
     }
@@ -71,10 +71,10 @@ row_listed s D t l f q p x h =
     )
 
 -- The table of a search that is done.
-pub audit_done : (g : Game) (functions : ℕ) (s : Found) (bound : ℕ) (t : Audit) (places : List Place) → IsDone g functions s bound s.best → ((d : ℕ) → s.best ≡ Some d → d ≤ 65536)
-    → t.states ≡ g.states.count → t.distance ≡ s.best → AreListed s s.best t.groups → AreBelow s s.best places → length places ≤ 65536
+pub audit_done : (g : Game) (functions : ℕ) (s : Found) (bound : ℕ) (t : Audit) (row_keys : List RowKey) → IsDone g functions s bound s.best → ((d : ℕ) → s.best ≡ Some d → d ≤ 65536)
+    → t.states ≡ g.states.count → t.distance ≡ s.best → AreListed s s.best t.groups → AreBelow s s.best row_keys → length row_keys ≤ 65536
     → ((T : ℕ) → s.best ≡ Some T → IsRunTo g t.moves T) → (s.best ≡ None → t.moves ≡ []) → IsAuditOf g functions t
-audit_done g functions s bound t places d low states distance listed below few run none =
+audit_done g functions s bound t row_keys d low states distance listed below few run none =
     let l : IsListing g s s.best t = record { states = states; distance = distance; groups = listed } in
     let both = listings_stated g functions s bound s.best t d l refl low in
     record {
@@ -83,7 +83,7 @@ audit_done g functions s bound t places d low states distance listed below few r
       shown = λ T e. run T (sym distance ∙ e);
       needed = λ e. none (sym distance ∙ e);
       few_rows =
-          let most = rows_at_most (λ (k : Place). k) t places (record { groups_ascend = listed.groups_ascend; rows_ascend = listed.rows_ascend })
+          let most = rows_at_most (λ (k : RowKey). k) t row_keys (record { groups_ascend = listed.groups_ascend; rows_ascend = listed.rows_ascend })
           (λ k h.
           let w = row_listed s s.best t listed k.0 k.1 k.2 k.3 h in
           let m = below.whole k.0 k.1 w.0 k.2 k.3 w.1 w.2 in

@@ -2,7 +2,7 @@
 use Rattle.std.specs.Prelude.{◌≡◌, ℕ, ◌+◌, ◌<◌, ◌≤◌, List, [], Bool, false, cond, Option, Some, None, min, nat_le, nat_lt}
 use Rattle.cw_certs.specs.declared.moves.Move.{Move}
 use Rattle.cw_game.specs.Games.{Game}
-use Rattle.cw_audit_store.specs.declared.place.Hit.{Hit}
+use Rattle.cw_audit_store.specs.declared.row_key.Hit.{Hit}
 use Rattle.cw_audit_moves.specs.Writing.{IsRunTo}
 
 -- to the nearest violation; or everywhere, where there is none that wasn't cut
@@ -24,8 +24,8 @@ is_far None = false
 is_far (Some h) = nat_lt 65536 h.distance
 
 -- there is no violation, or one that can be told
-abbrev pub IsTold : Option Hit → Type 0
-IsTold h = is_far h ≡ false
+abbrev pub IsNoted : Option Hit → Type 0
+IsNoted h = is_far h ≡ false
 
 -- the moves lead to the nearest violation; without one there are none
 abbrev pub AreMovesTo : Game → List Move → Option Hit → Type 0

@@ -7,13 +7,13 @@ ghost use Rattle.cw_audit_search.specs.Settled.{IsSettled};
 ghost use Rattle.cw_audit_store.specs.Finding.{found_of};
 ghost use Rattle.cw_audit_visits.specs.Searching.{IsFairGame, IsKept, functions_of, left};
 ghost use Rattle.cw_audit.specs.Audits.{AreManyRows, IsAuditOf, IsFaultOf};
-ghost use Rattle.cw_audit.specs.Bounds.{AreMovesTo, IsEarly, IsTold, early_bound, bound_of, is_far};
+ghost use Rattle.cw_audit.specs.Bounds.{AreMovesTo, IsEarly, IsNoted, early_bound, bound_of, is_far};
 ghost use Rattle.cw_audit_listing.specs.Lists.{AreAllBelow};
 
 use crate::fault::AuditFault;
 use cw_audit_listing::{below, list, ordered};
 use cw_audit_moves::tell;
-use cw_audit_store::{Place, Store};
+use cw_audit_store::{RowKey, Store};
 use cw_audit_table::AuditTable;
 use cw_audit_visits::{Search, settle};
 use cw_certs::Move;
@@ -62,8 +62,8 @@ fn are_many(alloc: Global, game: &Game, search: &Search, bound: u32) -> Result<b
     ensures { IfOk result (λ many. many ≡ true → AreManyRows (game_of game.now)) }
 {
     let limit = if bound == CUT { ALL } else { bound };
-    let places = below(alloc, &search.store, limit)?;
-    Ok(places.len() > MOST as usize)
+    let row_keys = below(alloc, &search.store, limit)?;
+    Ok(row_keys.len() > MOST as usize)
 }
 
 /// Whether the rows that were found as near as this are too many for a table, and the search is settled so far that each table of the
@@ -100,7 +100,7 @@ fn moves_of(alloc: Global, game: &Game, search: &Search) -> Result<Vec<Move>, No
     requires fair { IsFairGame game.now }
     requires kept { IsKept (game_of game.now) (functions_of game.now) search.now }
     requires settled { IsSettled (game_of game.now) (found_of search.now.store) (bound_of search.now.store.hit) }
-    requires near { IsTold search.now.store.hit }
+    requires near { IsNoted search.now.store.hit }
     ensures { IfOk result (λ moves. AreMovesTo (game_of game.now) moves.items search.now.store.hit) }
 {
     match search.store.hit {
@@ -114,18 +114,18 @@ fn table_of(
     alloc: Global,
     game: &Game,
     search: &Search,
-    places: Vec<Place>,
+    row_keys: Vec<RowKey>,
 ) -> Result<AuditTable, NoMemory>
     requires fair { IsFairGame game.now }
     requires kept { IsKept (game_of game.now) (functions_of game.now) search.now }
     requires settled { IsSettled (game_of game.now) (found_of search.now.store) (bound_of search.now.store.hit) }
-    requires near { IsTold search.now.store.hit }
-    requires below { AreAllBelow search.now.store (bound_of search.now.store.hit) places.items }
-    requires few { length places.items ≤ 65536 }
+    requires near { IsNoted search.now.store.hit }
+    requires below { AreAllBelow search.now.store (bound_of search.now.store.hit) row_keys.items }
+    requires few { length row_keys.items ≤ 65536 }
     ensures { IfOk result (λ t. IsAuditOf (game_of game.now) (functions_of game.now) (audit_of t)) }
 {
     let moves = moves_of(alloc, game, search)?;
-    let ordered = ordered(places)?;
+    let ordered = ordered(row_keys)?;
     let groups = list(alloc, &search.store, &ordered)?;
     Ok(AuditTable {
         states: game.states(),
@@ -153,13 +153,13 @@ pub(crate) fn finish(alloc: Global, game: &Game, search: &Search) -> Result<Audi
     ensures table { IfOk result (λ t. IsAuditOf (game_of game.now) (functions_of game.now) (audit_of t)) }
     ensures fault { IfErr result (λ fault. IsFaultOf (game_of game.now) fault) }
 {
-    let places = below(alloc, &search.store, bound_of(&search.store))?;
-    if places.len() > MOST as usize {
+    let row_keys = below(alloc, &search.store, bound_of(&search.store))?;
+    if row_keys.len() > MOST as usize {
         return Err(AuditFault::TooManyRows);
     }
     if is_far(&search.store) {
         return Err(AuditFault::TooManyMoves);
     }
-    let table = table_of(alloc, game, search, places)?;
+    let table = table_of(alloc, game, search, row_keys)?;
     Ok(table)
 }

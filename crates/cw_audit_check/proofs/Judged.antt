@@ -14,17 +14,17 @@ use Rattle.cw_product.specs.declared.turn.Turn.{Turn}
 use Rattle.cw_product.specs.declared.turn.Turn.TheVariants as turn
 use Rattle.cw_product.specs.Moves.{pos_id, turn_in}
 use Rattle.cw_audit_table.specs.Tables.{PlainRow}
-use Rattle.cw_audit_table.specs.Conditions.{is_free, is_place}
+use Rattle.cw_audit_table.specs.Conditions.{is_free, is_pair}
 use Rattle.cw_audit_table.proofs.Turns.{function_in, back_in}
 
--- what a row's place says
-pub record IsPlaced (g : Game) (r : PlainRow) : Type 0 where
+-- what a row's pair says
+pub record IsPaired (g : Game) (r : PlainRow) : Type 0 where
   pub position : r.pos < length g.spots
   pub state : r.state < g.states.count
   pub free : is_free (slice_get g.spots r.pos) ≡ true
 
-pub placed : (g : Game) (f : ℕ) (r : PlainRow) → is_place g f r ≡ true → IsPlaced g r
-placed g f r h =
+pub paired : (g : Game) (f : ℕ) (r : PlainRow) → is_pair g f r ≡ true → IsPaired g r
+paired g f r h =
     let a = and_parts (is_position g r.pos) _ h in
     let b = and_parts (is_state g r.state) _ a.1 in
     let c = and_parts (nat_le (g.entry f) r.pos) _ b.1 in

@@ -12,7 +12,7 @@ use Rattle.cw_lemmas.proofs.Rising.{Rises, ascends_from}
 use Rattle.cw_game.proofs.Goods.{taken, none_first}
 use Rattle.std.proofs.lemmas.Bool.{and_parts}
 use Rattle.cw_audit_check.specs.Checks.{row_cmp, group_cmp, IsInRange, AreInRange}
-use Rattle.cw_audit_table.proofs.Closing.{places_at}
+use Rattle.cw_audit_table.proofs.Closing.{pairs_at}
 use Rattle.cw_audit_check.proofs.LookUps.{key_of as row_key, key_total, group_key, group_total as group_key_total}
 use Rattle.std.specs.Prelude.{slice_get}
 use Rattle.std.proofs.lemmas.Option.{none-some, same_Some, slice_get-map}
@@ -26,32 +26,32 @@ use Rattle.cw_game.specs.Conditions.{first_failing}
 use Rattle.cw_game.proofs.Failing.{append_none, append_some}
 use Rattle.cw_audit_table.specs.declared.table.Group.{Group}
 use Rattle.cw_audit_table.specs.Tables.{row_of, group_of}
-use Rattle.cw_audit_table.specs.Conditions.{GroupFault, fault_at, is_after, is_group, is_place, key_of, pair_of, places, ranges}
+use Rattle.cw_audit_table.specs.Conditions.{GroupFault, fault_at, is_after, is_group, is_pair, key_of, pair_of, pairs, ranges}
 
 abbrev pub ARow : Type 0
 ARow = PosId × StateId × ℕ
 
 module _ (g : Game) (f group : ℕ) (rows : List ARow) where
   -- what fails first from a row on, after this pair
-  abbrev pub PlacesFrom : Option (ℕ × ℕ) → ℕ → Option GroupFault
-  PlacesFrom last n = first_failing (places g f group last (enumerate_from n (map row_of (drop n rows))))
+  abbrev pub PairsFrom : Option (ℕ × ℕ) → ℕ → Option GroupFault
+  PairsFrom last n = first_failing (pairs g f group last (enumerate_from n (map row_of (drop n rows))))
 
   step : (last : Option (ℕ × ℕ)) (n : ℕ) (d : ARow) → n < length rows
-      → PlacesFrom last n ≡ first_failing (places g f group last (enumerate_from n (map row_of (get_or rows n d ∷ drop (n + 1) rows))))
+      → PairsFrom last n ≡ first_failing (pairs g f group last (enumerate_from n (map row_of (get_or rows n d ∷ drop (n + 1) rows))))
   step last n d lt =
       let next : suc n ≡ n + 1 = omega arith in
-      ap (λ (rs : List ARow). first_failing (places g f group last (enumerate_from n (map row_of rs)))) (subst (λ k. drop n rows ≡ get_or rows n d ∷ drop k rows) next (drop-cons rows n d lt))
+      ap (λ (rs : List ARow). first_failing (pairs g f group last (enumerate_from n (map row_of rs)))) (subst (λ k. drop n rows ≡ get_or rows n d ∷ drop k rows) next (drop-cons rows n d lt))
 
-  pub place_next : (last : Option (ℕ × ℕ)) (n : ℕ) (d : ARow) → n < length rows → (is_place g f (row_of (get_or rows n d)) && is_after last (pair_of (row_of (get_or rows n d)))) ≡ true
-      → PlacesFrom last n ≡ PlacesFrom (Some (pair_of (row_of (get_or rows n d)))) (n + 1)
-  place_next last n d lt e = step last n d lt ∙ ap (λ b. cond b (PlacesFrom (Some (pair_of (row_of (get_or rows n d)))) (n + 1)) (Some (fault_at group n 1))) e
+  pub pair_next : (last : Option (ℕ × ℕ)) (n : ℕ) (d : ARow) → n < length rows → (is_pair g f (row_of (get_or rows n d)) && is_after last (pair_of (row_of (get_or rows n d)))) ≡ true
+      → PairsFrom last n ≡ PairsFrom (Some (pair_of (row_of (get_or rows n d)))) (n + 1)
+  pair_next last n d lt e = step last n d lt ∙ ap (λ b. cond b (PairsFrom (Some (pair_of (row_of (get_or rows n d)))) (n + 1)) (Some (fault_at group n 1))) e
 
-  pub place_here : (last : Option (ℕ × ℕ)) (n : ℕ) (d : ARow) → n < length rows → (is_place g f (row_of (get_or rows n d)) && is_after last (pair_of (row_of (get_or rows n d)))) ≡ false
-      → PlacesFrom last n ≡ Some (fault_at group n 1)
-  place_here last n d lt e = step last n d lt ∙ ap (λ b. cond b (PlacesFrom (Some (pair_of (row_of (get_or rows n d)))) (n + 1)) (Some (fault_at group n 1))) e
+  pub pair_here : (last : Option (ℕ × ℕ)) (n : ℕ) (d : ARow) → n < length rows → (is_pair g f (row_of (get_or rows n d)) && is_after last (pair_of (row_of (get_or rows n d)))) ≡ false
+      → PairsFrom last n ≡ Some (fault_at group n 1)
+  pair_here last n d lt e = step last n d lt ∙ ap (λ b. cond b (PairsFrom (Some (pair_of (row_of (get_or rows n d)))) (n + 1)) (Some (fault_at group n 1))) e
 
-  pub place_end : (last : Option (ℕ × ℕ)) (n : ℕ) → length rows ≤ n → PlacesFrom last n ≡ None
-  place_end last n le = ap (λ (rs : List ARow). first_failing (places g f group last (enumerate_from n (map row_of rs)))) (drop_all n rows le)
+  pub pair_end : (last : Option (ℕ × ℕ)) (n : ℕ) → length rows ≤ n → PairsFrom last n ≡ None
+  pair_end last n le = ap (λ (rs : List ARow). first_failing (pairs g f group last (enumerate_from n (map row_of rs)))) (drop_all n rows le)
 
 module _ (g : Game) (functions : ℕ) (groups : List Group) where
   abbrev pub RangesFrom : Option (ℕ × ℕ) → ℕ → Option GroupFault
@@ -61,7 +61,7 @@ module _ (g : Game) (functions : ℕ) (groups : List Group) where
   own x last = is_group g functions (group_of x) && is_after last (key_of (group_of x))
 
   abbrev rows_in : ℕ → Group → List (GroupFault × Bool)
-  rows_in n x = places g x.function n None (enumerate_from 0 (map row_of x.rows.items))
+  rows_in n x = pairs g x.function n None (enumerate_from 0 (map row_of x.rows.items))
 
   abbrev rest : ℕ → Group → List (GroupFault × Bool)
   rest n x = ranges g functions (Some (key_of (group_of x))) (enumerate_from (n + 1) (map group_of (drop (n + 1) groups)))
@@ -97,21 +97,21 @@ after_less : (a b p x : ℕ) → (nat_lt a p || (nat_eq a p && nat_lt b x)) ≡ 
 after_less a b p x h = grind (arith, nat_tests)
 
 module _ (g : Game) where
-  rises : (f group m : ℕ) (r : ARow) (rows : List ARow) → first_failing (places g f group (Some (pair_of (row_of r))) (enumerate_from m (map row_of rows))) ≡ None
+  rises : (f group m : ℕ) (r : ARow) (rows : List ARow) → first_failing (pairs g f group (Some (pair_of (row_of r))) (enumerate_from m (map row_of rows))) ≡ None
       → Rises row_cmp (r ∷ rows) (length (r ∷ rows))
   rises f group m r [] h k d lt = absurd (omega (arith, lt))
   rises f group m r (x ∷ rows) h zero d lt =
-      let t = taken (is_place g f (row_of x) && is_after (Some (pair_of (row_of r))) (pair_of (row_of x))) _ (fault_at group m 1) h in
-      after_less r.0.0 r.1.0 x.0.0 x.1.0 (and_parts (is_place g f (row_of x)) _ t.0).1
+      let t = taken (is_pair g f (row_of x) && is_after (Some (pair_of (row_of r))) (pair_of (row_of x))) _ (fault_at group m 1) h in
+      after_less r.0.0 r.1.0 x.0.0 x.1.0 (and_parts (is_pair g f (row_of x)) _ t.0).1
   rises f group m r (x ∷ rows) h (suc k) d lt =
-      let t = taken (is_place g f (row_of x) && is_after (Some (pair_of (row_of r))) (pair_of (row_of x))) _ (fault_at group m 1) h in
+      let t = taken (is_pair g f (row_of x) && is_after (Some (pair_of (row_of r))) (pair_of (row_of x))) _ (fault_at group m 1) h in
       let next : suc (k + 1) ≡ suc k + 1 = omega arith in
       subst (λ n. row_cmp (get_or (r ∷ x ∷ rows) (suc k) d) (get_or (r ∷ x ∷ rows) n d) ≡ Less) next (rises f group (m + 1) x rows t.1 k d (omega (arith, lt)))
 
-  pub rows_sorted : (f group : ℕ) (rows : List ARow) → first_failing (places g f group None (enumerate_from 0 (map row_of rows))) ≡ None → IsStrictlySortedBy row_cmp rows
+  pub rows_sorted : (f group : ℕ) (rows : List ARow) → first_failing (pairs g f group None (enumerate_from 0 (map row_of rows))) ≡ None → IsStrictlySortedBy row_cmp rows
   rows_sorted f group [] h = ascends_from row_total [] (λ k d lt. absurd (omega (arith, lt)))
   rows_sorted f group (x ∷ rows) h =
-      let t = taken (is_place g f (row_of x) && is_after None (pair_of (row_of x))) _ (fault_at group 0 1) h in
+      let t = taken (is_pair g f (row_of x) && is_after None (pair_of (row_of x))) _ (fault_at group 0 1) h in
       ascends_from row_total (x ∷ rows) (rises f group 1 x rows t.1)
 
   group_rises : (functions m : ℕ) (x : Group) (groups : List Group) → first_failing (ranges g functions (Some (key_of (group_of x))) (enumerate_from m (map group_of groups))) ≡ None
@@ -122,7 +122,7 @@ module _ (g : Game) where
       after_less x.function x.entered.0 y.function y.entered.0 (and_parts (is_group g functions (group_of y)) _ t.0).1
   group_rises functions m x (y ∷ groups) h (suc k) d lt =
       let t = taken (is_group g functions (group_of y) && is_after (Some (key_of (group_of x))) (key_of (group_of y))) _ (fault_at m 0 1) h in
-      let s = none_first (places g y.function m None (enumerate_from 0 (map row_of y.rows.items))) (ranges g functions (Some (key_of (group_of y))) (enumerate_from (m + 1) (map group_of groups)))
+      let s = none_first (pairs g y.function m None (enumerate_from 0 (map row_of y.rows.items))) (ranges g functions (Some (key_of (group_of y))) (enumerate_from (m + 1) (map group_of groups)))
       t.1 in
       let next : suc (k + 1) ≡ suc k + 1 = omega arith in
       subst (λ n. group_cmp (get_or (x ∷ y ∷ groups) (suc k) d) (get_or (x ∷ y ∷ groups) n d) ≡ Less) next (group_rises functions (m + 1) y groups s.1 k d (omega (arith, lt)))
@@ -131,7 +131,7 @@ module _ (g : Game) where
   groups_sorted functions [] h = ascends_from group_total [] (λ k d lt. absurd (omega (arith, lt)))
   groups_sorted functions (x ∷ groups) h =
       let t = taken (is_group g functions (group_of x) && is_after None (key_of (group_of x))) _ (fault_at 0 0 1) h in
-      let s = none_first (places g x.function 0 None (enumerate_from 0 (map row_of x.rows.items))) (ranges g functions (Some (key_of (group_of x))) (enumerate_from 1 (map group_of groups))) t.1 in
+      let s = none_first (pairs g x.function 0 None (enumerate_from 0 (map row_of x.rows.items))) (ranges g functions (Some (key_of (group_of x))) (enumerate_from 1 (map group_of groups))) t.1 in
       ascends_from group_total (x ∷ groups) (group_rises functions 1 x groups s.1)
 
   -- each group with its rows
@@ -140,18 +140,18 @@ module _ (g : Game) where
   groups_at functions m last [] h i x e = absurd (none-some x e)
   groups_at functions m last (y ∷ groups) h zero x e =
       let t = taken (is_group g functions (group_of y) && is_after last (key_of (group_of y))) _ (fault_at m 0 1) h in
-      let s = none_first (places g y.function m None (enumerate_from 0 (map row_of y.rows.items))) (ranges g functions (Some (key_of (group_of y))) (enumerate_from (m + 1) (map group_of groups)))
+      let s = none_first (pairs g y.function m None (enumerate_from 0 (map row_of y.rows.items))) (ranges g functions (Some (key_of (group_of y))) (enumerate_from (m + 1) (map group_of groups)))
       t.1 in
       let own = and_parts (nat_lt y.function functions) (nat_lt y.entered.0 g.states.count) (and_parts (is_group g functions (group_of y)) _ t.0).0 in
       subst (IsInRange g functions) (same_Some y x e)
       (record {
         there = ltb-true y.function functions own.0;
-        places = λ n r er. places_at g y.function m 0 None (map row_of y.rows.items) s.0 n (row_of r) (slice_get-map row_of y.rows.items n ∙ ap (option_map row_of) er);
+        pairs = λ n r er. pairs_at g y.function m 0 None (map row_of y.rows.items) s.0 n (row_of r) (slice_get-map row_of y.rows.items n ∙ ap (option_map row_of) er);
         ascend = rows_sorted y.function m y.rows.items s.0;
       })
   groups_at functions m last (y ∷ groups) h (suc i) x e =
       let t = taken (is_group g functions (group_of y) && is_after last (key_of (group_of y))) _ (fault_at m 0 1) h in
-      let s = none_first (places g y.function m None (enumerate_from 0 (map row_of y.rows.items))) (ranges g functions (Some (key_of (group_of y))) (enumerate_from (m + 1) (map group_of groups)))
+      let s = none_first (pairs g y.function m None (enumerate_from 0 (map row_of y.rows.items))) (ranges g functions (Some (key_of (group_of y))) (enumerate_from (m + 1) (map group_of groups)))
       t.1 in
       groups_at functions (m + 1) (Some (key_of (group_of y))) groups s.1 i x e
 

@@ -14,7 +14,7 @@ use Rattle.cw_product.specs.Moves.{next_at}
 use Rattle.cw_audit_table.specs.declared.table.Group.{Group}
 use Rattle.cw_audit_table.specs.Plays.{IsViolating}
 use Rattle.cw_audit_table.specs.Tables.{PlainRow, PlainGroup, Audit, row_of, group_at}
-use Rattle.cw_audit_table.specs.Conditions.{GroupFault, fault_at, is_before, has_within, is_place, enters, begins, row_faults}
+use Rattle.cw_audit_table.specs.Conditions.{GroupFault, fault_at, is_before, has_within, is_pair, enters, begins, row_faults}
 use Rattle.cw_audit_check.specs.declared.check.BadGroup.{BadGroup}
 
 abbrev pub fault_of : BadGroup → GroupFault
@@ -35,7 +35,7 @@ group_cmp a b = ordering_then (nat_cmp a.function b.function) (nat_cmp a.entered
 -- A group's function is there, its rows are in range and ascend strictly; and so each group, the groups ascending strictly.
 pub record IsInRange (g : Game) (functions : ℕ) (grp : Group) : Type 0 where
   pub there : grp.function < functions
-  pub places : (n : ℕ) (r : PosId × StateId × ℕ) → slice_get grp.rows.items n ≡ Some r → is_place g grp.function (row_of r) ≡ true
+  pub pairs : (n : ℕ) (r : PosId × StateId × ℕ) → slice_get grp.rows.items n ≡ Some r → is_pair g grp.function (row_of r) ≡ true
   pub ascend : IsStrictlySortedBy row_cmp grp.rows.items
 
 pub record AreInRange (g : Game) (functions : ℕ) (groups : List Group) : Type 0 where

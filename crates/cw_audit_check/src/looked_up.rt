@@ -28,7 +28,7 @@ fn inside_at(rows: &[(PosId, StateId, u32)], pos: PosId, state: StateId) -> Opti
     ensures { result ≡ inside_at (map row_of rows.now) pos.0 state.0 }
 {
     match rows.binary_search_by_key(&(pos, state), |row| (row.0, row.1)) {
-        Ok(place) => Some(rows[place].2),
+        Ok(pair) => Some(rows[pair].2),
         Err(_) => None,
     }
 }
@@ -71,7 +71,7 @@ pub(crate) fn group_at(groups: &[Group], function: u16, entered: StateId) -> Opt
         &(function, entered),
         |group| (group.function, group.entered),
     ) {
-        Ok(place) => Some(&groups[place]),
+        Ok(pair) => Some(&groups[pair]),
         Err(_) => None,
     }
 }

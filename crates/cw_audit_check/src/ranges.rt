@@ -5,7 +5,7 @@ ghost use Rattle.std.specs.List.{enumerate_from};
 ghost use Rattle.cw_game.specs.Conditions.{first_failing};
 ghost use Rattle.cw_product.specs.Product.{game_of};
 ghost use Rattle.cw_audit_table.specs.Tables.{AreFew, row_of, group_of};
-ghost use Rattle.cw_audit_table.specs.Conditions.{fault_at, is_after, is_group, is_place, is_free, key_of, pair_of, places, ranges};
+ghost use Rattle.cw_audit_table.specs.Conditions.{fault_at, is_after, is_group, is_pair, is_free, key_of, pair_of, pairs, ranges};
 
 use cw_audit_table::Group;
 use cw_core::{PosId, StateId};
@@ -24,9 +24,9 @@ fn is_free(spot: Spot) -> bool
 }
 
 // Whether a row's numbers are in range, and its position is a free one of the function.
-fn is_place(game: &Game, function: u16, row: (PosId, StateId, u32)) -> bool
+fn is_pair(game: &Game, function: u16, row: (PosId, StateId, u32)) -> bool
     requires { function < length game.now.graph.parts.items }
-    ensures { result ≡ is_place (game_of game.now) function (row_of row) }
+    ensures { result ≡ is_pair (game_of game.now) function (row_of row) }
 {
     row.0.0 < game.positions()
         && row.1.0 < game.states()
@@ -46,28 +46,28 @@ fn is_after(last: Option<(u32, u16)>, next: (u32, u16)) -> bool
 }
 
 // Whether a row is in range, and after the pair before it.
-fn is_next_place(
+fn is_next_pair(
     game: &Game,
     function: u16,
     last: Option<(u32, u16)>,
     row: (PosId, StateId, u32),
 ) -> bool
     requires { function < length game.now.graph.parts.items }
-    ensures { result ≡ (is_place (game_of game.now) function (row_of row) && is_after last (pair_of (row_of row))) }
+    ensures { result ≡ (is_pair (game_of game.now) function (row_of row) && is_after last (pair_of (row_of row))) }
 {
-    is_place(game, function, row) && is_after(last, (row.0.0, row.1.0))
+    is_pair(game, function, row) && is_after(last, (row.0.0, row.1.0))
 }
 
 // The first row of a group that isn't in range, or not after the one before it.
-fn first_bad_place(game: &Game, function: u16, rows: &[(PosId, StateId, u32)]) -> Option<u32>
+fn first_bad_pair(game: &Game, function: u16, rows: &[(PosId, StateId, u32)]) -> Option<u32>
     requires function { function < length game.now.graph.parts.items }
     requires few { length rows.now < 2 ^ 32 }
     ensures { (i : ℕ) → option_map (λ n. fault_at i n 1) result
-        ≡ first_failing (places (game_of game.now) function i None (enumerate_from 0 (map row_of rows.now))) }
+        ≡ first_failing (pairs (game_of game.now) function i None (enumerate_from 0 (map row_of rows.now))) }
 {
     let mut last = None;
     for (number, row) in rows.iter().enumerate() {
-        if !is_next_place(game, function, last, *row) {
+        if !is_next_pair(game, function, last, *row) {
             return Some(number as u32);
         }
         last = Some((row.0.0, row.1.0));
@@ -100,7 +100,7 @@ pub(crate) fn first_bad_range(game: &Game, groups: &[Group]) -> Option<(u32, u32
         if !is_next_group(game, last, group) {
             return Some((number as u32, 0));
         }
-        if let Some(row) = first_bad_place(game, group.function, &group.rows) {
+        if let Some(row) = first_bad_pair(game, group.function, &group.rows) {
             return Some((number as u32, row));
         }
         last = Some((group.function as u32, group.entered.0));

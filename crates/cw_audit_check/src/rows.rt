@@ -9,7 +9,7 @@ ghost use Rattle.cw_product.specs.Moves.{IsPosition, IsState, numbers, next_at};
 ghost use Rattle.cw_product.specs.MovesAt.{first_move, second_move};
 ghost use Rattle.cw_product.specs.Product.{game_of};
 ghost use Rattle.cw_audit_table.specs.Tables.{row_of, group_of, audit_of, group_at};
-ghost use Rattle.cw_audit_table.specs.Conditions.{is_place, is_inner, moves_on, comes_back, enters, row_conditions};
+ghost use Rattle.cw_audit_table.specs.Conditions.{is_pair, is_inner, moves_on, comes_back, enters, row_conditions};
 ghost use Rattle.cw_audit_check.specs.Checks.{IsInRange, AreInRange, row_cmp, takes_pair, takes_if, unless, calls_by};
 
 use crate::looked_up::{group_at, has_within, is_before};
@@ -189,7 +189,7 @@ fn calls_on(
 
 /// The first condition that fails of a row.
 pub(crate) fn row_fault(game: &Game, table: &AuditTable, group: &Group, row: Row) -> Option<u8>
-    requires place { is_place (game_of game.now) group.now.function (row_of row) ≡ true }
+    requires pair { is_pair (game_of game.now) group.now.function (row_of row) ≡ true }
     requires ascend { IsStrictlySortedBy row_cmp group.now.rows.items }
     requires range { AreInRange (game_of game.now) (length game.now.graph.parts.items) table.now.groups.items }
     ensures { let g = game_of game.now in

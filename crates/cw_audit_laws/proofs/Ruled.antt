@@ -12,7 +12,7 @@ use Rattle.cw_certs.specs.declared.moves.Move.TheVariants.{Skip}
 use Rattle.cw_syntax.specs.Names.{Names}
 use Rattle.cw_syntax.specs.Trees.{File}
 use Rattle.cw_syntax.specs.Plans.{Stm, Plain, Break, Continue, Return, Open, Close, Call, Group, Label, If, While, Do, For, Plan, plan_of}
-use Rattle.cw_syntax.specs.Frames.{Entry, Todo, Test, After, Mark, End, Frame, Way, pass, start_stack}
+use Rattle.cw_syntax.specs.Frames.{Entry, Todo, Test, After, LoopEnd, End, Frame, Way, pass, start_stack}
 use Rattle.cw_syntax.specs.Frames.{Opened as OpenedWay}
 use Rattle.cw_resolve.specs.Scenes.{names_of}
 use Rattle.cw_model.specs.Boards.{Problem, problem_of, Phase, Visit, Free, Over, Board, primitives_in, onward, begin, letters, start_board, Violates, way_of}
@@ -68,7 +68,7 @@ module _ (x : PlainPolicy) where
   caps_seen ((Entry f j ∷ is) ∷ frames) kept way caps = refl
   caps_seen ((Test at decided stepped s ∷ is) ∷ frames) kept way caps = refl
   caps_seen ((After at ∷ is) ∷ frames) kept way caps = refl
-  caps_seen ((Mark ∷ is) ∷ frames) kept way caps = refl
+  caps_seen ((LoopEnd ∷ is) ∷ frames) kept way caps = refl
 
 kept_stm : (s : Stm) (is : Frame) (frames : List Frame) (kept : List (Option Caps)) → kept_after None ((Todo s ∷ is) ∷ frames) kept ≡ kept_after None (whole_stack ((Todo s ∷ is) ∷ frames)) kept
 kept_stm (Call at j callee) is frames kept = refl
@@ -94,7 +94,7 @@ kept_seen ((End f ∷ is) ∷ frames) (k ∷ kept) = refl
 kept_seen ((Entry f j ∷ is) ∷ frames) kept = refl
 kept_seen ((Test at decided stepped s ∷ is) ∷ frames) kept = refl
 kept_seen ((After at ∷ is) ∷ frames) kept = refl
-kept_seen ((Mark ∷ is) ∷ frames) kept = refl
+kept_seen ((LoopEnd ∷ is) ∷ frames) kept = refl
 
 letters_stm : (s : Stm) (is : Frame) (frames : List Frame) (caps : Caps) → letters ((Todo s ∷ is) ∷ frames) caps ≡ letters (whole_stack ((Todo s ∷ is) ∷ frames)) caps
 letters_stm (Label at mark j l s) is frames caps = refl
@@ -119,7 +119,7 @@ letters_seen ((End f ∷ is) ∷ frames) caps = refl
 letters_seen ((Entry f j ∷ is) ∷ frames) caps = refl
 letters_seen ((Test at decided stepped s ∷ is) ∷ frames) caps = refl
 letters_seen ((After at ∷ is) ∷ frames) caps = refl
-letters_seen ((Mark ∷ is) ∷ frames) caps = refl
+letters_seen ((LoopEnd ∷ is) ∷ frames) caps = refl
 
 no_front : (stack : List Frame) (caps : Caps) → stack ≡ [] → letters stack caps ≡ []
 no_front [] caps e = refl

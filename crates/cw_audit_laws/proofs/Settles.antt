@@ -15,7 +15,7 @@ use Rattle.cw_audit_table.specs.Conditions.{is_inner}
 use Rattle.cw_audit_search.specs.Searches.{Found, is_group, is_row, IsNumberSet, IsReachSet, IsBestSet}
 use Rattle.cw_audit_search.specs.Sound.{IsFair, IsArrival, IsSound, IsProposal, IsHitCut, HasFallen}
 use Rattle.cw_audit_search.specs.Settled.{IsCovered, IsClosedAt, IsSettled}
-use Rattle.cw_audit_search.proofs.Proposing.{main_arrival, call_arrival, entry_proposal, move_proposal, return_proposal, proposal_hits, proposal_place}
+use Rattle.cw_audit_search.proofs.Proposing.{main_arrival, call_arrival, entry_proposal, move_proposal, return_proposal, proposal_hits, proposal_row_key}
 use Rattle.cw_audit_search.proofs.Setting.{row_itself, group_itself, number_falls, number_sound, reach_falls, reach_sound, best_falls, best_sound, begins_sound}
 
 -- ---- finitely many cases
@@ -176,7 +176,7 @@ module _ (g : Game) (functions : ℕ) (fair : IsFair g functions) (s : Found) (s
       let set : IsNumberSet s s2 f q z x n = record { reach = λ f2 q2. refl; number = λ f2 q2 p2 x2. refl; best = refl } in
       let falls : (a : ℕ) → s.number f q z x ≡ Some a → n ≤ a = λ a e. not_more (s.number f q z x) n a l e in
       let good = number_sound g functions fair s s2 sound f q p x n set falls o fine in
-      let place = proposal_place g functions fair s sound f q p x n o fine in
+      let place = proposal_row_key g functions fair s sound f q p x n o fine in
       let short = fair.short f place.function in
       let within : z < length g.spots = let le = place.position.1 in omega (arith, le, short) in
       let here : s2.number f q z x ≡ Some n = ap (λ b. cond b (Some n) (s.number f q z x)) (row_itself f q z x) in

@@ -12,7 +12,7 @@ use Rattle.cw_syntax.specs.Plans.{Callee, Action, Computes, Opens, Closes, Invok
 use Rattle.cw_syntax.specs.Plans.{Stm, Plain, Break, Continue, Return, Open, Close, Call, Group, Label, If, While, Do, For, Stms, end, then}
 use Rattle.cw_syntax.specs.Plans.{acting, place_if, steps_of, steps_of_form, steps_of_arm, steps_of_all}
 use Rattle.cw_syntax.specs.Plans.{seams, seams_all, numbered, numbered_all, Routine, Plan, routines_from, scene_of, plan_of}
-use Rattle.cw_syntax.specs.Frames.{Item, Entry, Todo, Test, After, Mark, End, Frame, items_of, new_frame, frame_of, opened, opened_all, settle, broken, continued, ended}
+use Rattle.cw_syntax.specs.Frames.{Item, Entry, Todo, Test, After, LoopEnd, End, Frame, items_of, new_frame, frame_of, expanded, expanded_all, settle, broken, continued, ended}
 use Rattle.cw_syntax.specs.Frames.{Way, On, Left, Right, Opened, Failed, after, popped, pushed, pass, stack_of, start_stack}
 
 -- ---- statements without the splits of their calls
@@ -51,7 +51,7 @@ whole_item (Entry f j) = Entry f j
 whole_item (Todo s) = Todo (whole_stm s)
 whole_item (Test at decided stepped s) = Test at decided stepped (whole_stm s)
 whole_item (After at) = After at
-whole_item Mark = Mark
+whole_item LoopEnd = LoopEnd
 whole_item (End f) = End f
 
 abbrev pub whole_frame : Frame → Frame
@@ -201,40 +201,40 @@ items_whole end rest = refl
 items_whole (then s ss) rest = ap (λ (frame : Frame). Todo (whole_stm s) ∷ frame) (items_whole ss rest)
 
 mutual
-  opened_whole : (s : Stm) (rest next : Frame) → whole_frame (opened s rest next) ≡ opened (whole_stm s) (whole_frame rest) (whole_frame next)
-  opened_whole (Plain at) rest next = refl
-  opened_whole (Break at) rest next = refl
-  opened_whole (Continue at) rest next = refl
-  opened_whole (Return at) rest next = refl
-  opened_whole (Open at j d) rest next = refl
-  opened_whole (Close at j d) rest next = refl
-  opened_whole (Call at j callee) rest next = refl
-  opened_whole (Group ss) rest next = all_opened_whole ss rest next
-  opened_whole (Label at mark j l s) rest next = refl
-  opened_whole (If at s t) rest next = refl
-  opened_whole (While at s) rest next = refl
-  opened_whole (Do at s) rest next = opened_whole s (Test at true false s ∷ (Mark ∷ rest)) (Test at true false s ∷ (Mark ∷ rest))
-  opened_whole (For at None decided stepped s) rest next = refl
-  opened_whole (For at (Some init) decided stepped s) rest next = refl
+  expanded_whole : (s : Stm) (rest next : Frame) → whole_frame (expanded s rest next) ≡ expanded (whole_stm s) (whole_frame rest) (whole_frame next)
+  expanded_whole (Plain at) rest next = refl
+  expanded_whole (Break at) rest next = refl
+  expanded_whole (Continue at) rest next = refl
+  expanded_whole (Return at) rest next = refl
+  expanded_whole (Open at j d) rest next = refl
+  expanded_whole (Close at j d) rest next = refl
+  expanded_whole (Call at j callee) rest next = refl
+  expanded_whole (Group ss) rest next = all_expanded_whole ss rest next
+  expanded_whole (Label at mark j l s) rest next = refl
+  expanded_whole (If at s t) rest next = refl
+  expanded_whole (While at s) rest next = refl
+  expanded_whole (Do at s) rest next = expanded_whole s (Test at true false s ∷ (LoopEnd ∷ rest)) (Test at true false s ∷ (LoopEnd ∷ rest))
+  expanded_whole (For at None decided stepped s) rest next = refl
+  expanded_whole (For at (Some init) decided stepped s) rest next = refl
 
-  all_opened_whole : (ss : Stms) (rest next : Frame) → whole_frame (opened_all ss rest next) ≡ opened_all (whole_stms ss) (whole_frame rest) (whole_frame next)
-  all_opened_whole end rest next = refl
-  all_opened_whole (then s ss) rest next =
-      opened_whole s (items_of ss rest) (opened_all ss rest next)
-      ∙ ap₂ (λ (a b : Frame). opened (whole_stm s) a b) (items_whole ss rest) (all_opened_whole ss rest next)
+  all_expanded_whole : (ss : Stms) (rest next : Frame) → whole_frame (expanded_all ss rest next) ≡ expanded_all (whole_stms ss) (whole_frame rest) (whole_frame next)
+  all_expanded_whole end rest next = refl
+  all_expanded_whole (then s ss) rest next =
+      expanded_whole s (items_of ss rest) (expanded_all ss rest next)
+      ∙ ap₂ (λ (a b : Frame). expanded (whole_stm s) a b) (items_whole ss rest) (all_expanded_whole ss rest next)
 
 settle_whole : (frame : Frame) → whole_frame (settle frame) ≡ settle (whole_frame frame)
 settle_whole [] = refl
 settle_whole (Entry f j ∷ rest) = refl
-settle_whole (Todo s ∷ rest) = opened_whole s rest (settle rest) ∙ ap (λ (next : Frame). opened (whole_stm s) (whole_frame rest) next) (settle_whole rest)
+settle_whole (Todo s ∷ rest) = expanded_whole s rest (settle rest) ∙ ap (λ (next : Frame). expanded (whole_stm s) (whole_frame rest) next) (settle_whole rest)
 settle_whole (Test at decided stepped s ∷ rest) = refl
 settle_whole (After at ∷ rest) = refl
-settle_whole (Mark ∷ rest) = settle_whole rest
+settle_whole (LoopEnd ∷ rest) = settle_whole rest
 settle_whole (End f ∷ rest) = refl
 
 broken_whole : (frame : Frame) → option_map whole_frame (broken frame) ≡ broken (whole_frame frame)
 broken_whole [] = refl
-broken_whole (Mark ∷ rest) = refl
+broken_whole (LoopEnd ∷ rest) = refl
 broken_whole (Entry f j ∷ rest) = broken_whole rest
 broken_whole (Todo s ∷ rest) = broken_whole rest
 broken_whole (Test at decided stepped s ∷ rest) = broken_whole rest
@@ -245,7 +245,7 @@ continued_whole : (frame : Frame) → option_map whole_frame (continued frame) �
 continued_whole [] = refl
 continued_whole (Test at decided stepped s ∷ rest) = refl
 continued_whole (After at ∷ rest) = refl
-continued_whole (Mark ∷ rest) = continued_whole rest
+continued_whole (LoopEnd ∷ rest) = continued_whole rest
 continued_whole (Entry f j ∷ rest) = continued_whole rest
 continued_whole (Todo s ∷ rest) = continued_whole rest
 continued_whole (End f ∷ rest) = continued_whole rest
@@ -253,7 +253,7 @@ continued_whole (End f ∷ rest) = continued_whole rest
 ended_whole : (frame : Frame) → whole_frame (ended frame) ≡ ended (whole_frame frame)
 ended_whole [] = refl
 ended_whole (End f ∷ rest) = ap (λ (frame : Frame). End f ∷ frame) (ended_whole rest)
-ended_whole (Mark ∷ rest) = ended_whole rest
+ended_whole (LoopEnd ∷ rest) = ended_whole rest
 ended_whole (Entry f j ∷ rest) = ended_whole rest
 ended_whole (Todo s ∷ rest) = ended_whole rest
 ended_whole (Test at decided stepped s ∷ rest) = ended_whole rest
@@ -309,8 +309,8 @@ after_whole (Todo s) way rest = after_stm s way rest
 after_whole (Test at decided stepped s) way rest = after_test at decided stepped s way rest
 after_whole (After at) On rest = refl
 after_whole (After at) _ rest = refl
-after_whole Mark On rest = refl
-after_whole Mark _ rest = refl
+after_whole LoopEnd On rest = refl
+after_whole LoopEnd _ rest = refl
 after_whole (End f) On rest = refl
 after_whole (End f) _ rest = refl
 
@@ -369,7 +369,7 @@ pass_whole plan ((End f ∷ is) ∷ frames) _ = refl
 pass_whole plan ((Entry f j ∷ is) ∷ frames) way = on_whole (Entry f j) way is frames
 pass_whole plan ((Test at decided stepped s ∷ is) ∷ frames) way = on_whole (Test at decided stepped s) way is frames
 pass_whole plan ((After at ∷ is) ∷ frames) way = on_whole (After at) way is frames
-pass_whole plan ((Mark ∷ is) ∷ frames) way = on_whole Mark way is frames
+pass_whole plan ((LoopEnd ∷ is) ∷ frames) way = on_whole LoopEnd way is frames
 
 pub start_whole : (plan : Plan) → whole_stack (start_stack plan) ≡ start_stack (whole_plan plan)
 start_whole plan = by (frame_of plan plan.main) ∙ ap stack_of (frame_whole plan plan.main)

@@ -4,13 +4,13 @@ use Rattle.std.proofs.lemmas.Option.{same_Some}
 use Rattle.cw_certs.specs.declared.moves.Move.{Move}
 use Rattle.cw_game.specs.Games.{Game}
 use Rattle.cw_audit_table.specs.Runs.{IsHit}
-use Rattle.cw_audit_store.specs.declared.place.Place.{Place}
-use Rattle.cw_audit_store.specs.declared.place.Row.{Row as StoredRow}
-use Rattle.cw_audit_store.specs.declared.place.Way.{Way}
-use Rattle.cw_audit_store.specs.declared.place.Way.TheVariants.{Begun, Moved, Returned}
-use Rattle.cw_audit_store.specs.declared.place.Entrance.{Entrance}
-use Rattle.cw_audit_store.specs.declared.place.Entered.{Entered}
-use Rattle.cw_audit_store.specs.declared.place.Hit.{Hit}
+use Rattle.cw_audit_store.specs.declared.row_key.RowKey.{RowKey}
+use Rattle.cw_audit_store.specs.declared.row_key.Row.{Row as StoredRow}
+use Rattle.cw_audit_store.specs.declared.row_key.Way.{Way}
+use Rattle.cw_audit_store.specs.declared.row_key.Way.TheVariants.{Begun, Moved, Returned}
+use Rattle.cw_audit_store.specs.declared.row_key.Entrance.{Entrance}
+use Rattle.cw_audit_store.specs.declared.row_key.Entered.{Entered}
+use Rattle.cw_audit_store.specs.declared.row_key.Hit.{Hit}
 use Rattle.cw_audit_store.specs.declared.store.Store.{Store}
 use Rattle.cw_audit_store.specs.Stores.{row_at, group_at}
 use Rattle.cw_audit_store.specs.Finding.{found_of, ways_of, way_of, caller_of, bad_way_of}
@@ -105,17 +105,17 @@ module _ (g : Game) (functions : ℕ) (s : Found) (w : Ways) (ready : IsReady g 
       }))
 
 -- The look-ups of a store.
-pub row_way : (s : Store) (at : Place) (r : StoredRow) → Some r ≡ row_at s at → (ways_of s).row at.entrance.function at.entrance.state.0 at.pos.0 at.state.0 ≡ Some (way_of r.way)
+pub row_way : (s : Store) (at : RowKey) (r : StoredRow) → Some r ≡ row_at s at → (ways_of s).row at.entrance.function at.entrance.state.0 at.pos.0 at.state.0 ≡ Some (way_of r.way)
 row_way s at r e = ap (option_map (λ (r : StoredRow). way_of r.way)) (sym e)
 
-pub row_number : (s : Store) (at : Place) (r : StoredRow) → Some r ≡ row_at s at → (found_of s).number at.entrance.function at.entrance.state.0 at.pos.0 at.state.0 ≡ Some r.inside
+pub row_number : (s : Store) (at : RowKey) (r : StoredRow) → Some r ≡ row_at s at → (found_of s).number at.entrance.function at.entrance.state.0 at.pos.0 at.state.0 ≡ Some r.inside
 row_number s at r e = ap (option_map (λ (r : StoredRow). r.inside)) (sym e)
 
-pub group_call : (s : Store) (at : Entrance) (r : Entered) (c : Option Place) → Some r ≡ group_at s at → r.call ≡ c
+pub group_call : (s : Store) (at : Entrance) (r : Entered) (c : Option RowKey) → Some r ≡ group_at s at → r.call ≡ c
     → (ways_of s).call at.function at.state.0 ≡ Some (option_map caller_of c)
 group_call s at r c e ec = ap (option_map (λ (e : Entered). option_map caller_of e.call)) (sym e) ∙ ap (λ o. Some (option_map caller_of o)) ec
 
-pub row_callee : (g : Game) (functions : ℕ) (s : Store) → IsReady g functions (found_of s) (ways_of s) → (at : Place) (r : StoredRow) → Some r ≡ row_at s at → IsCallee functions r.way
+pub row_callee : (g : Game) (functions : ℕ) (s : Store) → IsReady g functions (found_of s) (ways_of s) → (at : RowKey) (r : StoredRow) → Some r ≡ row_at s at → IsCallee functions r.way
 row_callee g functions s ready at r e =
     let z = ready.ways.rows at.entrance.function at.entrance.state.0 at.pos.0 at.state.0 r.inside (row_number s at r e) in
     callee_below g functions (found_of s) (ways_of s) ready at.entrance.function at.entrance.state.0 at.pos.0 at.state.0 r.inside r.way

@@ -4,8 +4,8 @@ use Rattle.cw_certs.specs.declared.moves.Move.{Move}
 use Rattle.cw_game.specs.Games.{Game, Config}
 use Rattle.cw_game.specs.Linked.{is_bad_at}
 use Rattle.cw_audit_table.specs.Runs.{Goes, start_at}
-use Rattle.cw_audit_store.specs.declared.place.Way.{Way}
-use Rattle.cw_audit_store.specs.declared.place.Way.TheVariants.{Returned}
+use Rattle.cw_audit_store.specs.declared.row_key.Way.{Way}
+use Rattle.cw_audit_store.specs.declared.row_key.Way.TheVariants.{Returned}
 use Rattle.cw_audit_search.specs.Searches.{Found}
 use Rattle.cw_audit_search.specs.Sound.{IsFair, IsSound}
 use Rattle.cw_audit_search.specs.Ways as way

@@ -27,11 +27,11 @@ fn write(
 {
     match next {
         Todo::Step(by) => moves.push(by)?,
-        Todo::Row(place) => {
-            let Some(row) = store.row(place) else {
+        Todo::Row(row_key) => {
+            let Some(row) = store.row(row_key) else {
                 return Ok(());
             };
-            put_way(todo, game, place.entrance, row.way)?;
+            put_way(todo, game, row_key.entrance, row.way)?;
         }
         Todo::Reach(entrance) => {
             let Some(entered) = store.group(entrance) else {

@@ -6,16 +6,16 @@ ghost use Rattle.cw_audit_store.specs.Finding.{way_of, caller_of};
 ghost use Rattle.cw_audit_search.specs.Ways.{unfold_way, unfold_call};
 ghost use Rattle.cw_audit_moves.specs.Writing.{stack_of, IsCallee};
 
-use cw_audit_store::{Entrance, Place, Way};
+use cw_audit_store::{Entrance, RowKey, Way};
 use cw_certs::Move;
 use cw_core::NoMemory;
 use cw_product::Game;
 
-/// The moves from the start to an entrance, those from its entrance to a place, or a move.
+/// The moves from the start to an entrance, those from its entrance to a row key, or a move.
 #[derive(Clone, Copy, Drop)]
 pub enum Todo {
     Reach(Entrance),
-    Row(Place),
+    Row(RowKey),
     Step(Move),
 }
 
@@ -33,7 +33,7 @@ pub(crate) fn put_way(
         Way::Begun => {}
         Way::Moved(state, pos, by) => {
             todo.push(Todo::Step(by))?;
-            todo.push(Todo::Row(Place {
+            todo.push(Todo::Row(RowKey {
                 entrance,
                 pos,
                 state,
@@ -41,7 +41,7 @@ pub(crate) fn put_way(
         }
         Way::Returned(state, pos, callee, ended) => {
             todo.push(Todo::Step(Move::On))?;
-            todo.push(Todo::Row(Place {
+            todo.push(Todo::Row(RowKey {
                 entrance: Entrance {
                     function: callee,
                     state,
@@ -50,7 +50,7 @@ pub(crate) fn put_way(
                 state: ended,
             }))?;
             todo.push(Todo::Step(Move::On))?;
-            todo.push(Todo::Row(Place {
+            todo.push(Todo::Row(RowKey {
                 entrance,
                 pos,
                 state,
@@ -62,11 +62,15 @@ pub(crate) fn put_way(
 
 /// What a call in this state stands for is to be written first: the moves to the entrance in which it lies, those to the call, and
 /// the call itself. The one error is want of memory.
-pub(crate) fn put_call(todo: &mut Vec<Todo>, call: Place, entered: Entrance) -> Result<(), NoMemory>
+pub(crate) fn put_call(
+    todo: &mut Vec<Todo>,
+    call: RowKey,
+    entered: Entrance,
+) -> Result<(), NoMemory>
     ensures { OnOk result (stack_of todo.new.items ≡ unfold_call entered.state.0 (Some (caller_of call)) ++ stack_of todo.old.items) }
 {
     todo.push(Todo::Step(Move::On))?;
-    todo.push(Todo::Row(Place {
+    todo.push(Todo::Row(RowKey {
         state: entered.state,
         ..call
     }))?;

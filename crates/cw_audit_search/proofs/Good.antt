@@ -8,7 +8,7 @@ use Rattle.cw_game.specs.Games.{Game}
 use Rattle.cw_game.specs.Conditions.{first_failing}
 use Rattle.cw_game.proofs.Failing.{none_append, none_mapped, none_more}
 use Rattle.cw_audit_table.specs.Tables.{PlainRow, PlainGroup, Audit, group_at}
-use Rattle.cw_audit_table.specs.Conditions.{fault_at, is_after, key_of, pair_of, is_group, is_place, places, ranges}
+use Rattle.cw_audit_table.specs.Conditions.{fault_at, is_after, key_of, pair_of, is_group, is_pair, pairs, ranges}
 use Rattle.cw_audit_table.specs.Conditions.{begins, is_good, moves_on, calls_on, row_conditions, row_faults, group_faults}
 use Rattle.cw_audit_table.specs.Conditions.{IsGoodAudit}
 use Rattle.cw_audit_search.specs.Ordered.{AscendAfter}
@@ -20,17 +20,17 @@ all_true test (x ∷ xs) h = both (test x) (list_all test xs) (h 0 x refl) (all_
 
 module _ (g : Game) (functions : ℕ) where
   -- condition 1, of rows in order
-  places_none : (f i m : ℕ) (last : Option (ℕ × ℕ)) (rows : List PlainRow) → AscendAfter last (map pair_of rows)
-      → ((n : ℕ) (r : PlainRow) → slice_get rows n ≡ Some r → is_place g f r ≡ true) → first_failing (places g f i last (enumerate_from m rows)) ≡ None
-  places_none f i m last [] h k = refl
-  places_none f i m last (x ∷ rows) h k =
-      none_more (is_place g f x && is_after last (pair_of x)) _ (fault_at i m 1) (both (is_place g f x) (is_after last (pair_of x)) (k 0 x refl) h.0)
-      (places_none f i (m + 1) (Some (pair_of x)) rows h.1 (λ n r e. k (suc n) r e))
+  row_keys_none : (f i m : ℕ) (last : Option (ℕ × ℕ)) (rows : List PlainRow) → AscendAfter last (map pair_of rows)
+      → ((n : ℕ) (r : PlainRow) → slice_get rows n ≡ Some r → is_pair g f r ≡ true) → first_failing (pairs g f i last (enumerate_from m rows)) ≡ None
+  row_keys_none f i m last [] h k = refl
+  row_keys_none f i m last (x ∷ rows) h k =
+      none_more (is_pair g f x && is_after last (pair_of x)) _ (fault_at i m 1) (both (is_pair g f x) (is_after last (pair_of x)) (k 0 x refl) h.0)
+      (row_keys_none f i (m + 1) (Some (pair_of x)) rows h.1 (λ n r e. k (suc n) r e))
 
   pub record IsInRange (grp : PlainGroup) : Type 0 where
     pub group : is_group g functions grp ≡ true
     pub ascend : AscendAfter None (map pair_of grp.rows)
-    pub rows : (n : ℕ) (r : PlainRow) → slice_get grp.rows n ≡ Some r → is_place g grp.function r ≡ true
+    pub rows : (n : ℕ) (r : PlainRow) → slice_get grp.rows n ≡ Some r → is_pair g grp.function r ≡ true
 
   ranges_none : (m : ℕ) (last : Option (ℕ × ℕ)) (groups : List PlainGroup) → AscendAfter last (map key_of groups)
       → ((i : ℕ) (grp : PlainGroup) → slice_get groups i ≡ Some grp → IsInRange grp) → first_failing (ranges g functions last (enumerate_from m groups)) ≡ None
@@ -38,8 +38,8 @@ module _ (g : Game) (functions : ℕ) where
   ranges_none m last (x ∷ groups) h k =
       let z = k 0 x refl in
       none_more (is_group g functions x && is_after last (key_of x)) _ (fault_at m 0 1) (both (is_group g functions x) (is_after last (key_of x)) z.group h.0)
-      (none_append (places g x.function m None (enumerate_from 0 x.rows)) (ranges g functions (Some (key_of x)) (enumerate_from (m + 1) groups))
-      (places_none x.function m 0 None x.rows z.ascend z.rows) (ranges_none (m + 1) (Some (key_of x)) groups h.1 (λ i grp e. k (suc i) grp e)))
+      (none_append (pairs g x.function m None (enumerate_from 0 x.rows)) (ranges g functions (Some (key_of x)) (enumerate_from (m + 1) groups))
+      (row_keys_none x.function m 0 None x.rows z.ascend z.rows) (ranges_none (m + 1) (Some (key_of x)) groups h.1 (λ i grp e. k (suc i) grp e)))
 
   -- conditions 2 to 5
   module _ (t : Audit) where

@@ -16,13 +16,13 @@ listings_stated g functions s bound D t d l same few =
     (listing_is_good g functions d.fair s d.sound bound D d.far d.settled t l, listing_stated g functions d.fair s d.sound bound D d.far d.settled t l same few)
 
 pub counted_stated : CountedRowsAreStated
-counted_stated g functions s bound D places d distinct counted t stated =
-    rows_at_least (λ k. k) t places distinct
+counted_stated g functions s bound D row_keys d distinct counted t stated =
+    rows_at_least (λ k. k) t row_keys distinct
     (λ i k e. let c = counted i k e in stated_has g functions d.fair s d.sound bound D d.far d.settled t stated k.0 k.1 k.2 k.3 c.0 c.1 c.2 c.3 c.4)
 
 pub stated_found : StatedRowsAreFound
-stated_found g functions s places fair sound settled there t order stated =
-    rows_at_most (λ k. k) t places order
+stated_found g functions s row_keys fair sound settled there t order stated =
+    rows_at_most (λ k. k) t row_keys order
     (λ k h.
     let a = stated_known g functions fair s sound settled t stated k.0 k.1 k.2 k.3 h in
     let z = there k.0 k.1 k.2 k.3 a.0 a.1 in

@@ -21,7 +21,7 @@ use Rattle.cw_audit_table.proofs.Bounds.{IsClosedBy}
 use Rattle.cw_audit_table.proofs.Closing.{group_found, row_found, before_lower}
 use Rattle.cw_audit_table.proofs.Least.{attained_stated}
 use Rattle.cw_audit_search.specs.Searches.{Found}
-use Rattle.cw_audit_search.specs.Sound.{IsFair, IsSound, IsPlace}
+use Rattle.cw_audit_search.specs.Sound.{IsFair, IsSound, IsRowKey}
 use Rattle.cw_audit_search.specs.Settled.{IsSettled, IsBound, IsRowBelow}
 use Rattle.cw_audit_search.specs.Listing.{IsListed, IsListing}
 use Rattle.cw_audit_search.proofs.Front.{front}
@@ -44,7 +44,7 @@ module _ (g : Game) (functions : ℕ) (fair : IsFair g functions) (s : Found) (s
       record {
         listed = z;
         group = group_there t.groups z.index z.group f q l.groups.groups_ascend z.there z.function z.entered;
-        inside = row_there z.group.rows z.place z.row p x (l.groups.rows_ascend z.index z.group z.there) z.stands z.pos z.state ∙ ap (λ n. Some n) z.inside;
+        inside = row_there z.group.rows z.row_key z.row p x (l.groups.rows_ascend z.index z.group z.there) z.stands z.pos z.state ∙ ap (λ n. Some n) z.inside;
       }
 
   row_of : (i n : ℕ) (grp : PlainGroup) (r : PlainRow) → slice_get t.groups i ≡ Some grp → slice_get grp.rows n ≡ Some r
@@ -67,18 +67,18 @@ module _ (g : Game) (functions : ℕ) (fair : IsFair g functions) (s : Found) (s
       let z = (sound.inside grp.function grp.entered (skipped g p) x b w.1).2 in
       ap (is_within n) (in_group i grp r (skipped g p) x b e w) ∙ le-leb b (cut n) (omega (arith, z, le))
 
-  place_of : (f q r p x a : ℕ) → IsRowBelow s D f q r p x a → IsPlace g functions f q p x
-  place_of f q r p x a w = sound.placed f q p x a w.1
+  row_key_of : (f q r p x a : ℕ) → IsRowBelow s D f q r p x a → IsRowKey g functions f q p x
+  row_key_of f q r p x a w = sound.placed f q p x a w.1
 
   in_range : (i : ℕ) (grp : PlainGroup) → slice_get t.groups i ≡ Some grp → IsInRange g functions grp
   in_range i grp e =
       let first = l.groups.some i grp e in
-      let at = place_of grp.function grp.entered grp.reach first.0.pos first.0.state first.0.inside (row_of i 0 grp first.0 e first.1) in
+      let at = row_key_of grp.function grp.entered grp.reach first.0.pos first.0.state first.0.inside (row_of i 0 grp first.0 e first.1) in
       record {
         group = both (nat_lt grp.function functions) (is_state g grp.entered) (lt-ltb grp.function functions at.below) (lt-ltb grp.entered g.states.count at.entered);
         ascend = l.groups.rows_ascend i grp e;
         rows = λ n r er.
-            let k = place_of grp.function grp.entered grp.reach r.pos r.state r.inside (row_of i n grp r e er) in
+            let k = row_key_of grp.function grp.entered grp.reach r.pos r.state r.inside (row_of i n grp r e er) in
             let short = fair.short grp.function k.function in
             both (is_position g r.pos) _ (lt-ltb r.pos _ (omega (arith, k.position.1, short)))
             (both (is_state g r.state) _ (lt-ltb r.state g.states.count k.state)

@@ -7,7 +7,7 @@ use Rattle.cw_game.specs.Games.{Game, Config, leads_in, bad_in}
 use Rattle.cw_audit_table.specs.Runs.{is_step, skipped, cut, at_start}
 use Rattle.cw_audit_table.specs.Conditions.{is_inner}
 use Rattle.cw_audit_search.specs.Searches.{Found}
-use Rattle.cw_audit_search.specs.Sound.{IsFair, IsPlace, IsArrival, IsSound, IsProposal, IsHitCut, HasFallen}
+use Rattle.cw_audit_search.specs.Sound.{IsFair, IsRowKey, IsArrival, IsSound, IsProposal, IsHitCut, HasFallen}
 use Rattle.cw_audit_search.proofs.Runs.{entry_run, move_run, return_run, within_run, through, run_of, call_enters, run_hits}
 
 module _ (g : Game) (functions : ℕ) (fair : IsFair g functions) where
@@ -83,8 +83,8 @@ module _ (g : Game) (functions : ℕ) (fair : IsFair g functions) where
         (e.moves + o.moves, run_hits g f q p x e.moves o.moves e.run o.run bad, omega (arith, e.number, o.number))
 
     -- else a row may stand there
-    pub proposal_place : (f q p x n : ℕ) → IsProposal g s f q p x n → bad_in g x (slice_get g.spots (skipped g p)) ≡ false → IsPlace g functions f q (skipped g p) x
-    proposal_place f q p x n o good =
+    pub proposal_row_key : (f q p x n : ℕ) → IsProposal g s f q p x n → bad_in g x (slice_get g.spots (skipped g p)) ≡ false → IsRowKey g functions f q (skipped g p) x
+    proposal_row_key f q p x n o good =
         let e = sound.entered f q o.known.0 o.known.1 in
         let w = within_run g f q p x o.moves o.run good in
         let z = through g f q (skipped g p) x e.moves o.moves e.run (run_of g f q (skipped g p) x o.moves w) in

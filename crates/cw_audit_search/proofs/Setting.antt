@@ -8,11 +8,11 @@ use Rattle.cw_lemmas.proofs.Numbers.{nat_eq_self}
 use Rattle.cw_game.specs.Games.{Game, bad_in}
 use Rattle.cw_audit_table.specs.Runs.{skipped, cut, IsWithin}
 use Rattle.cw_audit_search.specs.Searches.{Found, is_group, is_row, IsNumberSet, IsReachSet, IsBestSet}
-use Rattle.cw_audit_search.specs.Sound.{IsFair, IsPlace, IsArrival, IsSound, IsProposal, IsHitCut, HasFallen}
+use Rattle.cw_audit_search.specs.Sound.{IsFair, IsRowKey, IsArrival, IsSound, IsProposal, IsHitCut, HasFallen}
 use Rattle.cw_audit_search.proofs.Runs.{within_run}
-use Rattle.cw_audit_search.proofs.Proposing.{proposal_place}
+use Rattle.cw_audit_search.proofs.Proposing.{proposal_row_key}
 
--- what holds at a place holds where the place is said to be the same
+-- what holds at a row key holds where the row key is said to be the same
 pub same_row : (P : (f q p x : ℕ) → Type 0) (f q p x f2 q2 p2 x2 : ℕ) → is_row f q p x f2 q2 p2 x2 ≡ true → P f q p x → P f2 q2 p2 x2
 same_row P f q p x f2 q2 p2 x2 e h =
     let a = and_parts (nat_eq f2 f) _ e in
@@ -98,7 +98,7 @@ module _ (g : Game) (functions : ℕ) (fair : IsFair g functions) (s s2 : Found)
             | inr h ↦ sound.inside f2 q2 p2 x2 a h.1
           ];
           placed = λ f2 q2 p2 x2 a e. elim (was f2 q2 p2 x2 a e) [
-            | inl h ↦ same_row (IsPlace g functions) f q (skipped g p) x f2 q2 p2 x2 h.0 (proposal_place g functions fair s sound f q p x n o good)
+            | inl h ↦ same_row (IsRowKey g functions) f q (skipped g p) x f2 q2 p2 x2 h.0 (proposal_row_key g functions fair s sound f q p x n o good)
             | inr h ↦ sound.placed f2 q2 p2 x2 a h.1
           ];
           begun = still_begun;

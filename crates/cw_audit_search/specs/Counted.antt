@@ -8,15 +8,15 @@ abbrev pub row_count : Audit → ℕ
 row_count t = sum_by (λ grp. length grp.rows) t.groups
 
 -- a function, the state in which it is entered, a position and a state
-abbrev pub Place : Type 0
-Place = ℕ × ℕ × ℕ × ℕ
+abbrev pub RowKey : Type 0
+RowKey = ℕ × ℕ × ℕ × ℕ
 
-abbrev pub is_place : Place → Place → Bool
-is_place k j = is_row k.0 k.1 k.2 k.3 j.0 j.1 j.2 j.3
+abbrev pub is_row_key : RowKey → RowKey → Bool
+is_row_key k j = is_row k.0 k.1 k.2 k.3 j.0 j.1 j.2 j.3
 
-abbrev pub places_of : List PlainGroup → List Place
-places_of groups = flat_map (λ grp. map (λ r. (grp.function, grp.entered, r.pos, r.state)) grp.rows) groups
+abbrev pub row_keys_of : List PlainGroup → List RowKey
+row_keys_of groups = flat_map (λ grp. map (λ r. (grp.function, grp.entered, r.pos, r.state)) grp.rows) groups
 
--- the table has a row at this place
+-- the table has a row at this row key
 abbrev pub HasRow : Audit → (f q p x : ℕ) → Type 0
 HasRow t f q p x = (grp : PlainGroup) × (group_at t.groups f q ≡ Some grp) × ((a : ℕ) × (inside_at grp.rows p x ≡ Some a))

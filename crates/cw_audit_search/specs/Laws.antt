@@ -17,7 +17,7 @@ use Rattle.cw_audit_table.specs.Stated.{IsStated}
 use Rattle.cw_audit_search.specs.Searches.{Found}
 use Rattle.cw_audit_search.specs.Sound.{IsFair, IsSound}
 use Rattle.cw_audit_search.specs.Settled.{IsSettled, IsBound}
-use Rattle.cw_audit_search.specs.Counted.{row_count, Place, is_place}
+use Rattle.cw_audit_search.specs.Counted.{row_count, RowKey, is_row_key}
 use Rattle.cw_audit_search.specs.Ways.{BadWay, Ways, AreWays, unfold_hit, Unfolds}
 use Rattle.cw_audit_search.specs.Listing.{IsListing}
 use Rattle.cw_audit_search.specs.Ordered.{AreInOrder}
@@ -45,14 +45,14 @@ IsCounted s D f q p x = (r : ℕ) × (a : ℕ) × (s.reach f q ≡ Some r) × (s
 
 -- Each table of the game has at least as many rows as the search has that count.
 abbrev pub CountedRowsAreStated : Type 0
-CountedRowsAreStated = (g : Game) (functions : ℕ) (s : Found) (bound : ℕ) (D : Option ℕ) (places : List Place) → IsDone g functions s bound D → IsDistinct is_place places
-    → ((i : ℕ) (k : Place) → slice_get places i ≡ Some k → IsCounted s D k.0 k.1 k.2 k.3) → (t : Audit) → IsStated g t → length places ≤ row_count t
+CountedRowsAreStated = (g : Game) (functions : ℕ) (s : Found) (bound : ℕ) (D : Option ℕ) (row_keys : List RowKey) → IsDone g functions s bound D → IsDistinct is_row_key row_keys
+    → ((i : ℕ) (k : RowKey) → slice_get row_keys i ≡ Some k → IsCounted s D k.0 k.1 k.2 k.3) → (t : Audit) → IsStated g t → length row_keys ≤ row_count t
 
 -- Where all is settled each table of the game that is in order has at most as many rows as the search.
 abbrev pub StatedRowsAreFound : Type 0
-StatedRowsAreFound = (g : Game) (functions : ℕ) (s : Found) (places : List Place) → IsFair g functions → IsSound g functions s → IsSettled g s 65538
-    → ((f q p x a : ℕ) → s.number f q p x ≡ Some a → (i : ℕ) × (slice_get places i ≡ Some (f, q, p, x))) → (t : Audit) → AreInOrder t.groups → IsStated g t
-    → row_count t ≤ length places
+StatedRowsAreFound = (g : Game) (functions : ℕ) (s : Found) (row_keys : List RowKey) → IsFair g functions → IsSound g functions s → IsSettled g s 65538
+    → ((f q p x a : ℕ) → s.number f q p x ≡ Some a → (i : ℕ) × (slice_get row_keys i ≡ Some (f, q, p, x))) → (t : Audit) → AreInOrder t.groups → IsStated g t
+    → row_count t ≤ length row_keys
 
 -- Where all is settled and the nearest violation was cut some run hits, and each by more than 65,536 moves.
 abbrev pub CutHitsAreFar : Type 0

@@ -17,7 +17,7 @@ is_group f q f2 q2 = nat_eq f2 f && nat_eq q2 q
 abbrev pub is_row : (f q p x f2 q2 p2 x2 : ℕ) → Bool
 is_row f q p x f2 q2 p2 x2 = nat_eq f2 f && (nat_eq q2 q && (nat_eq p2 p && nat_eq x2 x))
 
--- The second has this number at one place, and is else as the first.
+-- The second has this number at one row key, and is else as the first.
 pub record IsNumberSet (s s2 : Found) (f q p x n : ℕ) : Type 0 where
   pub reach : (f2 q2 : ℕ) → s2.reach f2 q2 ≡ s.reach f2 q2
   pub number : (f2 q2 p2 x2 : ℕ) → s2.number f2 q2 p2 x2 ≡ cond (is_row f q p x f2 q2 p2 x2) (Some n) (s.number f2 q2 p2 x2)

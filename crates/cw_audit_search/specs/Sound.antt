@@ -31,8 +31,8 @@ pub record IsFair (g : Game) (functions : ℕ) : Type 0 where
 abbrev pub IsRun : Game → (f q p x n : ℕ) → Type 0
 IsRun g f q p x n = (ms : List Move) × (length ms ≡ n) × Goes g (at_pair (g.entry f) q []) ms (at_pair p x [])
 
--- The place of a row: a function and a state in which it is entered, a position of that function and a state, and nothing is skipped, tried, asked or split there.
-pub record IsPlace (g : Game) (functions f q p x : ℕ) : Type 0 where
+-- The row key of a row: a function and a state in which it is entered, a position of that function and a state, and nothing is skipped, tried, asked or split there.
+pub record IsRowKey (g : Game) (functions f q p x : ℕ) : Type 0 where
   pub below : f < functions
   pub function : IsFunction g f
   pub entered : q < g.states.count
@@ -58,7 +58,7 @@ pub record IsSound (g : Game) (functions : ℕ) (s : Found) : Type 0 where
   pub entered : (f q r : ℕ) → s.reach f q ≡ Some r → IsArrival g f q r
   pub known : (f q p x a : ℕ) → s.number f q p x ≡ Some a → (r : ℕ) × (s.reach f q ≡ Some r)
   pub inside : (f q p x a : ℕ) → s.number f q p x ≡ Some a → (n : ℕ) × IsWithin g f q p x n × (a ≡ cut n)
-  pub placed : (f q p x a : ℕ) → s.number f q p x ≡ Some a → IsPlace g functions f q p x
+  pub placed : (f q p x a : ℕ) → s.number f q p x ≡ Some a → IsRowKey g functions f q p x
   pub begun : (f q p x a : ℕ) → s.number f q p x ≡ Some a → s.number f q (skipped g (g.entry f)) q ≡ Some 0
   pub violated : (k : ℕ) → s.best ≡ Some k → IsHitCut g k
 

@@ -1,4 +1,4 @@
--- Places and entrances are in order, and those that compare as equal are the same.
+-- Row keys and entrances are in order, and those that compare as equal are the same.
 use Rattle.std.proofs.Common.{◌≡◌, ℕ, ◌∙◌, Bool, true, false, refl, sym, ap, arith}
 use Rattle.std.specs.Prelude.{nat_eq, ◌&&◌}
 use Rattle.std.specs.declared.cmp.Ordering.{Ordering}
@@ -8,18 +8,18 @@ use Rattle.std.specs.BTreeMap.{is_at}
 use Rattle.std.specs.Cmp.{IsTotalOrder, both_ways, on_total, then_total, nat_cmp_total}
 use Rattle.cw_audit_search.specs.Searches.{is_row}
 use Rattle.cw_audit_search.proofs.Setting.{same_row, same_group}
-use Rattle.cw_audit_store.specs.declared.place.Entrance.{Entrance}
-use Rattle.cw_audit_store.specs.declared.place.Place.{Place}
-use Rattle.cw_audit_store.specs.Stores.{entrance_cmp, entrance_eq, place_cmp, place_eq}
-use Rattle.cw_audit_store.specs.Finding.{entrance, place}
+use Rattle.cw_audit_store.specs.declared.row_key.Entrance.{Entrance}
+use Rattle.cw_audit_store.specs.declared.row_key.RowKey.{RowKey}
+use Rattle.cw_audit_store.specs.Stores.{entrance_cmp, entrance_eq, row_key_cmp, row_key_eq}
+use Rattle.cw_audit_store.specs.Finding.{entrance, row_key}
 
 pub entrance_total : IsTotalOrder entrance_cmp
 entrance_total = then_total (on_total (λ (a : Entrance). a.function) nat_cmp_total) (on_total (λ (a : Entrance). a.state.0) nat_cmp_total)
 
-pub place_total : IsTotalOrder place_cmp
-place_total =
-    then_total (on_total (λ (a : Place). a.entrance) entrance_total)
-    (then_total (on_total (λ (a : Place). a.pos.0) nat_cmp_total) (on_total (λ (a : Place). a.state.0) nat_cmp_total))
+pub row_key_total : IsTotalOrder row_key_cmp
+row_key_total =
+    then_total (on_total (λ (a : RowKey). a.entrance) entrance_total)
+    (then_total (on_total (λ (a : RowKey). a.pos.0) nat_cmp_total) (on_total (λ (a : RowKey). a.state.0) nat_cmp_total))
 
 eq_nat : (m n : ℕ) → is_eq (nat_cmp m n) ≡ nat_eq n m
 eq_nat m n = both_ways (is_eq (nat_cmp m n)) (nat_eq n m) (λ e. grind (arith, e)) (λ e. grind (arith, e))
@@ -29,16 +29,16 @@ eq_then Less b = refl
 eq_then Equal b = refl
 eq_then Greater b = refl
 
--- entrances that compare as equal have the same numbers, and so have places
+-- entrances that compare as equal have the same numbers, and so have row keys
 pub same_entrance : (a b : Entrance) → is_at (entrance_cmp a) b ≡ (nat_eq b.function a.function && nat_eq b.state.0 a.state.0)
 same_entrance a b =
     eq_then (nat_cmp a.function b.function) (nat_cmp a.state.0 b.state.0)
     ∙ ap (λ s. s && is_eq (nat_cmp a.state.0 b.state.0)) (eq_nat a.function b.function)
     ∙ ap (λ s. nat_eq b.function a.function && s) (eq_nat a.state.0 b.state.0)
 
-pub same_place : (a b : Place) → is_at (place_cmp a) b
+pub same_row_key : (a b : RowKey) → is_at (row_key_cmp a) b
     ≡ ((nat_eq b.entrance.function a.entrance.function && nat_eq b.entrance.state.0 a.entrance.state.0) && (nat_eq b.pos.0 a.pos.0 && nat_eq b.state.0 a.state.0))
-same_place a b =
+same_row_key a b =
     let pair = ordering_then (nat_cmp a.pos.0 b.pos.0) (nat_cmp a.state.0 b.state.0) in
     eq_then (entrance_cmp a.entrance b.entrance) pair
     ∙ ap (λ s. s && is_eq pair) (same_entrance a.entrance b.entrance)
@@ -54,17 +54,17 @@ pub and_by : (a b c d : Bool) → ((a && b) && (c && d)) ≡ (a && (b && (c && d
 and_by true b c d = refl
 and_by false b c d = refl
 
--- places are equal that have the same numbers
-pub eq_place : (a b : Place)
-    → place_eq a b ≡ is_row a.entrance.function a.entrance.state.0 a.pos.0 a.state.0 b.entrance.function b.entrance.state.0 b.pos.0 b.state.0
-eq_place a b =
+-- row keys are equal that have the same numbers
+pub eq_row_key : (a b : RowKey)
+    → row_key_eq a b ≡ is_row a.entrance.function a.entrance.state.0 a.pos.0 a.state.0 b.entrance.function b.entrance.state.0 b.pos.0 b.state.0
+eq_row_key a b =
     (λ i. (flip a.entrance.function b.entrance.function i && flip a.entrance.state.0 b.entrance.state.0 i) && (flip a.pos.0 b.pos.0 i && flip a.state.0 b.state.0 i))
     ∙ and_by (nat_eq b.entrance.function a.entrance.function) (nat_eq b.entrance.state.0 a.entrance.state.0) (nat_eq b.pos.0 a.pos.0) (nat_eq b.state.0 a.state.0)
 
-pub equal_places : (a b : Place) → place_eq a b ≡ true → a ≡ b
-equal_places a b e =
-    same_row (λ f q p x. a ≡ place f q p x) a.entrance.function a.entrance.state.0 a.pos.0 a.state.0 b.entrance.function b.entrance.state.0 b.pos.0 b.state.0
-    (sym (eq_place a b) ∙ e) refl
+pub equal_row_keys : (a b : RowKey) → row_key_eq a b ≡ true → a ≡ b
+equal_row_keys a b e =
+    same_row (λ f q p x. a ≡ row_key f q p x) a.entrance.function a.entrance.state.0 a.pos.0 a.state.0 b.entrance.function b.entrance.state.0 b.pos.0 b.state.0
+    (sym (eq_row_key a b) ∙ e) refl
 
 pub equal_entrances : (a b : Entrance) → entrance_eq a b ≡ true → a ≡ b
 equal_entrances a b e =

@@ -4,13 +4,13 @@ use Rattle.std.specs.Prelude.{sum_by, option_map, cond}
 use Rattle.std.specs.Option.{unwrap_or}
 use Rattle.std.specs.Map.{lookup, values_of}
 use Rattle.indexmap.specs.IndexMap.{IndexMap, insert_entry}
-use Rattle.cw_audit_store.specs.declared.place.Entrance.{Entrance}
-use Rattle.cw_audit_store.specs.declared.place.Place.{Place}
-use Rattle.cw_audit_store.specs.declared.place.Row.{Row}
-use Rattle.cw_audit_store.specs.declared.place.Entered.{Entered}
-use Rattle.cw_audit_store.specs.declared.place.Hit.{Hit}
+use Rattle.cw_audit_store.specs.declared.row_key.Entrance.{Entrance}
+use Rattle.cw_audit_store.specs.declared.row_key.RowKey.{RowKey}
+use Rattle.cw_audit_store.specs.declared.row_key.Row.{Row}
+use Rattle.cw_audit_store.specs.declared.row_key.Entered.{Entered}
+use Rattle.cw_audit_store.specs.declared.row_key.Hit.{Hit}
 use Rattle.cw_audit_store.specs.declared.store.Store.{Store}
-use Rattle.cw_audit_store.specs.Stores.{entrance_eq, place_eq, is_lower_by, is_lower, is_sooner, is_nearer, gap, hit_gap, rows_done, groups_done, work}
+use Rattle.cw_audit_store.specs.Stores.{entrance_eq, row_key_eq, is_lower_by, is_lower, is_sooner, is_nearer, gap, hit_gap, rows_done, groups_done, work}
 use Rattle.std.proofs.lemmas.Map.Entries.{length-values_of}
 use Rattle.std.proofs.lemmas.Bool.{ltb-true}
 use Rattle.std.proofs.lemmas.List.Sums.{sum_by_from}
@@ -47,7 +47,7 @@ pub rises : {K X : Type 0} (eq : K → K → Bool) (number : X → ℕ) (es : Li
     → sum_by (λ (x : X). gap (number x)) (values_of es) < sum_by (λ (x : X). gap (number x)) (values_of (insert_entry eq es k v))
 rises eq number es k v low less = rises_at number v (lookup (eq k) es) _ _ (set_sum eq (λ x. gap (number x)) es k v) low less
 
-rows_low : {S : Type 0} (m : IndexMap Place Row S) → length m.entries < 2 ^ 63 → rows_done m + 65538 ≤ 2 ^ 63 * 65538
+rows_low : {S : Type 0} (m : IndexMap RowKey Row S) → length m.entries < 2 ^ 63 → rows_done m + 65538 ≤ 2 ^ 63 * 65538
 rows_low m few = let z = values_below (λ (r : Row). gap r.inside) (λ r. omega arith) m.entries in omega (arith, z, few)
 
 groups_low : {S : Type 0} (m : IndexMap Entrance Entered S) → length m.entries < 2 ^ 63 → groups_done m + 65538 ≤ 2 ^ 63 * 65538
@@ -57,10 +57,10 @@ hit_low : (h : Option Hit) → hit_gap h ≤ 65538
 hit_low None = omega arith
 hit_low (Some h) = omega arith
 
-pub row_lowered : (s t : Store) (k : Place) (v : Row) → t.groups ≡ s.groups → t.hit ≡ s.hit → t.rows.entries ≡ insert_entry place_eq s.rows.entries k v
-    → length s.rows.entries < 2 ^ 63 → length s.groups.entries < 2 ^ 63 → v.inside ≤ 65537 → is_lower v.inside (lookup (place_eq k) s.rows.entries) ≡ true → work t < work s
+pub row_lowered : (s t : Store) (k : RowKey) (v : Row) → t.groups ≡ s.groups → t.hit ≡ s.hit → t.rows.entries ≡ insert_entry row_key_eq s.rows.entries k v
+    → length s.rows.entries < 2 ^ 63 → length s.groups.entries < 2 ^ 63 → v.inside ≤ 65537 → is_lower v.inside (lookup (row_key_eq k) s.rows.entries) ≡ true → work t < work s
 row_lowered s t k v groups hit is few_rows few_groups low less =
-    let up = rises place_eq (λ (r : Row). r.inside) s.rows.entries k v low less in
+    let up = rises row_key_eq (λ (r : Row). r.inside) s.rows.entries k v low less in
     let more : rows_done s.rows < rows_done t.rows = subst (λ es. rows_done s.rows < sum_by (λ (r : Row). gap r.inside) (values_of es)) (sym is) up in
     let same : groups_done t.groups ≡ groups_done s.groups = ap (λ m. groups_done m) groups in
     let near : hit_gap t.hit ≡ hit_gap s.hit = ap hit_gap hit in

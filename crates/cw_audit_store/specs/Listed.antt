@@ -2,7 +2,7 @@
 use Rattle.std.specs.Prelude.{ℕ, List, [], Option, Some, None, slice_get}
 use Rattle.std.specs.Global.{Vec}
 use Rattle.indexmap.specs.IndexMap.{get}
-use Rattle.cw_audit_store.specs.declared.place.Entrance.{Entrance}
+use Rattle.cw_audit_store.specs.declared.row_key.Entrance.{Entrance}
 use Rattle.cw_audit_store.specs.declared.lists.Lists.{Lists}
 use Rattle.cw_audit_store.specs.declared.group_lists.GroupLists.{GroupLists}
 use Rattle.cw_audit_store.specs.Stores.{entrance_eq}

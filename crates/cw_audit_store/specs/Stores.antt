@@ -3,28 +3,28 @@ use Rattle.std.specs.Prelude.{ℕ, ◌+◌, ◌-◌, ◌*◌, ◌^◌, Bool, tru
 use Rattle.std.specs.declared.cmp.Ordering.{Ordering}
 use Rattle.std.specs.Ordering.{ordering_then, nat_cmp}
 use Rattle.indexmap.specs.IndexMap.{IndexMap, get, values}
-use Rattle.cw_audit_store.specs.declared.place.Entrance.{Entrance}
-use Rattle.cw_audit_store.specs.declared.place.Place.{Place}
-use Rattle.cw_audit_store.specs.declared.place.Row.{Row}
-use Rattle.cw_audit_store.specs.declared.place.Entered.{Entered}
-use Rattle.cw_audit_store.specs.declared.place.Hit.{Hit}
+use Rattle.cw_audit_store.specs.declared.row_key.Entrance.{Entrance}
+use Rattle.cw_audit_store.specs.declared.row_key.RowKey.{RowKey}
+use Rattle.cw_audit_store.specs.declared.row_key.Row.{Row}
+use Rattle.cw_audit_store.specs.declared.row_key.Entered.{Entered}
+use Rattle.cw_audit_store.specs.declared.row_key.Hit.{Hit}
 use Rattle.cw_audit_store.specs.declared.store.Store.{Store}
 
 abbrev pub entrance_cmp : Entrance → Entrance → Ordering
 entrance_cmp a b = ordering_then (nat_cmp a.function b.function) (nat_cmp a.state.0 b.state.0)
 
-abbrev pub place_cmp : Place → Place → Ordering
-place_cmp a b = ordering_then (entrance_cmp a.entrance b.entrance) (ordering_then (nat_cmp a.pos.0 b.pos.0) (nat_cmp a.state.0 b.state.0))
+abbrev pub row_key_cmp : RowKey → RowKey → Ordering
+row_key_cmp a b = ordering_then (entrance_cmp a.entrance b.entrance) (ordering_then (nat_cmp a.pos.0 b.pos.0) (nat_cmp a.state.0 b.state.0))
 
 -- whether two are the same
 abbrev pub entrance_eq : Entrance → Entrance → Bool
 entrance_eq a b = nat_eq a.function b.function && nat_eq a.state.0 b.state.0
 
-abbrev pub place_eq : Place → Place → Bool
-place_eq a b = entrance_eq a.entrance b.entrance && (nat_eq a.pos.0 b.pos.0 && nat_eq a.state.0 b.state.0)
+abbrev pub row_key_eq : RowKey → RowKey → Bool
+row_key_eq a b = entrance_eq a.entrance b.entrance && (nat_eq a.pos.0 b.pos.0 && nat_eq a.state.0 b.state.0)
 
-abbrev pub row_at : Store → Place → Option Row
-row_at s place = get place_eq s.rows place
+abbrev pub row_at : Store → RowKey → Option Row
+row_at s row_key = get row_key_eq s.rows row_key
 
 abbrev pub group_at : Store → Entrance → Option Entered
 group_at s entrance = get entrance_eq s.groups entrance
@@ -52,7 +52,7 @@ hit_gap None = 0
 hit_gap (Some h) = gap h.distance
 
 -- what was done: how far the numbers that were found are below those that are not
-abbrev pub rows_done : {S : Type 0} → IndexMap Place Row S → ℕ
+abbrev pub rows_done : {S : Type 0} → IndexMap RowKey Row S → ℕ
 rows_done m = sum_by (λ (r : Row). gap r.inside) (values m)
 
 abbrev pub groups_done : {S : Type 0} → IndexMap Entrance Entered S → ℕ

@@ -37,10 +37,10 @@ impl GroupLists {
         Ok(())
     }
 
-    /// A number of the group's list, by its place there.
-    pub fn get(&self, group: u32, place: usize) -> Option<usize>
-        ensures { result ≡ slice_get (numbers_of self.now group) place }
+    /// A number of the group's list, by its index there.
+    pub fn get(&self, group: u32, row_key: usize) -> Option<usize>
+        ensures { result ≡ slice_get (numbers_of self.now group) row_key }
     {
-        self.lists.get(group as usize)?.get(place).copied()
+        self.lists.get(group as usize)?.get(row_key).copied()
     }
 }

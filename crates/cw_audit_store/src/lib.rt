@@ -4,13 +4,13 @@
 mod frontier;
 mod group_lists;
 mod lists;
-mod place;
+mod row_key;
 mod store;
 mod waiting;
 
 pub use frontier::Frontier;
 pub use group_lists::GroupLists;
 pub use lists::Lists;
-pub use place::{Entered, Entrance, Hit, Place, Row, Way};
+pub use row_key::{Entered, Entrance, Hit, Row, RowKey, Way};
 pub use store::Store;
 pub use waiting::Waiting;

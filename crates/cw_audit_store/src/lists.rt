@@ -4,7 +4,7 @@ ghost use Rattle.std.specs.Prelude.{◌≡◌, ◌++◌, [], ◌∷◌, false, O
 ghost use Rattle.cw_audit_store.specs.Stores.{entrance_eq};
 ghost use Rattle.cw_audit_store.specs.Listed.{list_of};
 
-use crate::place::Entrance;
+use crate::row_key::Entrance;
 use cw_core::NoMemory;
 use indexmap::IndexMap;
 use std::alloc::Global;

@@ -3,9 +3,9 @@
 ghost use Rattle.std.specs.Prelude.{◌≡◌, ℕ, ◌<◌, ◌≤◌, true, Some, None, cond, length, nat_eq, slice_get, IfSome, IfOk, OnOk};
 ghost use Rattle.std.specs.BTreeMap.{is_at};
 ghost use Rattle.indexmap.specs.IndexMap.{index_of, insert_index};
-ghost use Rattle.cw_audit_store.specs.Stores.{row_at, group_at, entrance_eq, place_eq, place_cmp, entrance_cmp, is_lower, is_sooner, is_nearer, work};
+ghost use Rattle.cw_audit_store.specs.Stores.{row_at, group_at, entrance_eq, row_key_eq, row_key_cmp, entrance_cmp, is_lower, is_sooner, is_nearer, work};
 
-use crate::place::{Entered, Entrance, Hit, Place, Row};
+use crate::row_key::{Entered, Entrance, Hit, Row, RowKey};
 use cw_core::NoMemory;
 use indexmap::IndexMap;
 use std::alloc::Global;
@@ -14,7 +14,7 @@ use std::alloc::Global;
 /// they were found.
 #[derive(Drop)]
 pub struct Store {
-    pub rows: IndexMap<Place, Row>,
+    pub rows: IndexMap<RowKey, Row>,
     pub groups: IndexMap<Entrance, Entered>,
     pub hit: Option<Hit>,
 }
@@ -22,7 +22,7 @@ pub struct Store {
 impl Store {
     /// Nothing is found.
     pub fn make(alloc: Global) -> Store
-        ensures rows { (q : Place) → row_at result q ≡ None }
+        ensures rows { (q : RowKey) → row_at result q ≡ None }
         ensures groups { (q : Entrance) → group_at result q ≡ None }
         ensures hit { result.hit ≡ None }
     {
@@ -33,20 +33,20 @@ impl Store {
         }
     }
 
-    /// The row of a place.
-    pub fn row(&self, place: Place) -> Option<Row>
-        ensures { result ≡ row_at self.now place }
+    /// The row of a row key.
+    pub fn row(&self, row_key: RowKey) -> Option<Row>
+        ensures { result ≡ row_at self.now row_key }
     {
-        self.rows.get(&place).copied()
+        self.rows.get(&row_key).copied()
     }
 
-    /// The row with a number, and its place.
-    pub fn numbered(&self, number: usize) -> Option<(Place, Row)>
+    /// The row with a number, and its row key.
+    pub fn numbered(&self, number: usize) -> Option<(RowKey, Row)>
         ensures entry { result ≡ slice_get self.now.rows.entries number }
-        ensures row { IfSome result (λ (place, row). row_at self.now place ≡ Some row) }
+        ensures row { IfSome result (λ (row_key, row). row_at self.now row_key ≡ Some row) }
     {
-        let (place, row) = self.rows.get_index(number)?;
-        Some((*place, *row))
+        let (row_key, row) = self.rows.get_index(number)?;
+        Some((*row_key, *row))
     }
 
     /// The group of an entrance.
@@ -96,19 +96,19 @@ impl Store {
         self.rows.len()
     }
 
-    /// Sets the row of a place, and gives its number. Each other row keeps its number. The one error is want of memory.
-    pub fn put_row(&mut self, place: Place, row: Row) -> Result<usize, NoMemory>
+    /// Sets the row of a row key, and gives its number. Each other row keeps its number. The one error is want of memory.
+    pub fn put_row(&mut self, row_key: RowKey, row: Row) -> Result<usize, NoMemory>
         requires { row.inside ≤ 65537 }
-        ensures number { IfOk result (λ number. number ≡ insert_index place_eq self.old.rows place) }
-        ensures numbers { IfOk result (λ number. (n : ℕ) → slice_get self.new.rows.entries n ≡ cond (nat_eq n number) (Some (place, row)) (slice_get self.old.rows.entries n)) }
-        ensures rows { OnOk result ((q : Place) → row_at self.new q ≡ cond (is_at (place_cmp place) q) (Some row) (row_at self.old q)) }
+        ensures number { IfOk result (λ number. number ≡ insert_index row_key_eq self.old.rows row_key) }
+        ensures numbers { IfOk result (λ number. (n : ℕ) → slice_get self.new.rows.entries n ≡ cond (nat_eq n number) (Some (row_key, row)) (slice_get self.old.rows.entries n)) }
+        ensures rows { OnOk result ((q : RowKey) → row_at self.new q ≡ cond (is_at (row_key_cmp row_key) q) (Some row) (row_at self.old q)) }
         ensures groups { self.new.groups ≡ self.old.groups }
         ensures hit { self.new.hit ≡ self.old.hit }
-        ensures less { OnOk result (is_lower row.inside (row_at self.old place) ≡ true → work self.new < work self.old) }
+        ensures less { OnOk result (is_lower row.inside (row_at self.old row_key) ≡ true → work self.new < work self.old) }
     {
         let _ = self.rows.len();
         let _ = self.groups.len();
-        let (number, _) = self.rows.insert_full(place, row)?;
+        let (number, _) = self.rows.insert_full(row_key, row)?;
         Ok(number)
     }
 

@@ -20,7 +20,7 @@ use Rattle.std.proofs.lemmas.Bool.{not-true as is_false}
 use Rattle.cw_lemmas.proofs.Options.{option_map_some}
 use Rattle.cw_audit_table.specs.Runs.{is_step, skipped, cut}
 use Rattle.cw_audit_table.specs.Tables.{PlainRow, PlainGroup, Audit, group_at, inside_at}
-use Rattle.cw_audit_table.specs.Conditions.{GroupFault, fault_at, is_before, is_within, has_within, is_after, key_of, pair_of, is_free, is_group, is_place, places, ranges}
+use Rattle.cw_audit_table.specs.Conditions.{GroupFault, fault_at, is_before, is_within, has_within, is_after, key_of, pair_of, is_free, is_group, is_pair, pairs, ranges}
 use Rattle.cw_audit_table.specs.Conditions.{is_zero, is_mains, begins, is_good, is_inner, takes, moves_on, comes_back, enters, calls_on, row_conditions, row_faults, group_faults}
 use Rattle.cw_audit_table.specs.Conditions.{IsGoodAudit, EndAlone}
 use Rattle.cw_audit_table.proofs.Bounds.{IsClosedBy}
@@ -37,7 +37,7 @@ found_at test (y ∷ xs) x e = by (test y) refl e (found_at test xs x)
 
 -- what holds of a row, and of a group with its rows, by the conditions
 pub record RowHolds (g : Game) (t : Audit) (grp : PlainGroup) (r : PlainRow) : Type 0 where
-  pub place : is_place g grp.function r ≡ true
+  pub pair : is_pair g grp.function r ≡ true
   pub good : is_good g r (slice_get g.spots r.pos) ≡ true
   pub moves : moves_on g t.distance grp r (slice_get g.spots r.pos) ≡ true
   pub calls : calls_on g t grp r (slice_get g.spots r.pos) ≡ true
@@ -48,29 +48,29 @@ pub record GroupHolds (g : Game) (functions : ℕ) (t : Audit) (grp : PlainGroup
   pub rows : (n : ℕ) (r : PlainRow) → slice_get grp.rows n ≡ Some r → RowHolds g t grp r
 
 module _ (g : Game) where
-  pub places_at : (f i m : ℕ) (last : Option (ℕ × ℕ)) (rows : List PlainRow) → first_failing (places g f i last (enumerate_from m rows)) ≡ None
-      → (n : ℕ) (r : PlainRow) → slice_get rows n ≡ Some r → is_place g f r ≡ true
-  places_at f i m last [] h n r e = absurd (none-some r e)
-  places_at f i m last (x ∷ rows) h zero r e =
-      let k = taken (is_place g f x && is_after last (pair_of x)) _ (fault_at i m 1) h in
-      subst (λ (y : PlainRow). is_place g f y ≡ true) (same_Some x r e) (and_parts (is_place g f x) _ k.0).0
-  places_at f i m last (x ∷ rows) h (suc n) r e =
-      let k = taken (is_place g f x && is_after last (pair_of x)) _ (fault_at i m 1) h in
-      places_at f i (m + 1) (Some (pair_of x)) rows k.1 n r e
+  pub pairs_at : (f i m : ℕ) (last : Option (ℕ × ℕ)) (rows : List PlainRow) → first_failing (pairs g f i last (enumerate_from m rows)) ≡ None
+      → (n : ℕ) (r : PlainRow) → slice_get rows n ≡ Some r → is_pair g f r ≡ true
+  pairs_at f i m last [] h n r e = absurd (none-some r e)
+  pairs_at f i m last (x ∷ rows) h zero r e =
+      let k = taken (is_pair g f x && is_after last (pair_of x)) _ (fault_at i m 1) h in
+      subst (λ (y : PlainRow). is_pair g f y ≡ true) (same_Some x r e) (and_parts (is_pair g f x) _ k.0).0
+  pairs_at f i m last (x ∷ rows) h (suc n) r e =
+      let k = taken (is_pair g f x && is_after last (pair_of x)) _ (fault_at i m 1) h in
+      pairs_at f i (m + 1) (Some (pair_of x)) rows k.1 n r e
 
 module _ (g : Game) (functions : ℕ) (t : Audit) where
   ranges_at : (m : ℕ) (last : Option (ℕ × ℕ)) (groups : List PlainGroup) → first_failing (ranges g functions last (enumerate_from m groups)) ≡ None
       → (i : ℕ) (grp : PlainGroup) → slice_get groups i ≡ Some grp
-      → (is_group g functions grp ≡ true) × ((n : ℕ) (r : PlainRow) → slice_get grp.rows n ≡ Some r → is_place g grp.function r ≡ true)
+      → (is_group g functions grp ≡ true) × ((n : ℕ) (r : PlainRow) → slice_get grp.rows n ≡ Some r → is_pair g grp.function r ≡ true)
   ranges_at m last [] h i grp e = absurd (none-some grp e)
   ranges_at m last (x ∷ groups) h zero grp e =
       let k = taken (is_group g functions x && is_after last (key_of x)) _ (fault_at m 0 1) h in
-      let s = none_first (places g x.function m None (enumerate_from 0 x.rows)) (ranges g functions (Some (key_of x)) (enumerate_from (m + 1) groups)) k.1 in
-      subst (λ (y : PlainGroup). (is_group g functions y ≡ true) × ((n : ℕ) (r : PlainRow) → slice_get y.rows n ≡ Some r → is_place g y.function r ≡ true)) (same_Some x grp e)
-      ((and_parts (is_group g functions x) _ k.0).0, places_at g x.function m 0 None x.rows s.0)
+      let s = none_first (pairs g x.function m None (enumerate_from 0 x.rows)) (ranges g functions (Some (key_of x)) (enumerate_from (m + 1) groups)) k.1 in
+      subst (λ (y : PlainGroup). (is_group g functions y ≡ true) × ((n : ℕ) (r : PlainRow) → slice_get y.rows n ≡ Some r → is_pair g y.function r ≡ true)) (same_Some x grp e)
+      ((and_parts (is_group g functions x) _ k.0).0, pairs_at g x.function m 0 None x.rows s.0)
   ranges_at m last (x ∷ groups) h (suc i) grp e =
       let k = taken (is_group g functions x && is_after last (key_of x)) _ (fault_at m 0 1) h in
-      let s = none_first (places g x.function m None (enumerate_from 0 x.rows)) (ranges g functions (Some (key_of x)) (enumerate_from (m + 1) groups)) k.1 in
+      let s = none_first (pairs g x.function m None (enumerate_from 0 x.rows)) (ranges g functions (Some (key_of x)) (enumerate_from (m + 1) groups)) k.1 in
       ranges_at (m + 1) (Some (key_of x)) groups s.1 i grp e
 
   abbrev Three : PlainGroup → PlainRow → Type 0
@@ -134,7 +134,7 @@ module _ (g : Game) (functions : ℕ) (t : Audit) where
       record {
         group = r.0;
         begins = c.0;
-        rows = λ n row en. record { place = r.1 n row en; good = (c.1 n row en).0; moves = (c.1 n row en).1; calls = (c.1 n row en).2 };
+        rows = λ n row en. record { pair = r.1 n row en; good = (c.1 n row en).0; moves = (c.1 n row en).1; calls = (c.1 n row en).2 };
       }
 
 -- The rows of a table, by look-up.
@@ -274,23 +274,23 @@ module _ (g : Game) where
         by (Some grp) e s =
             subst (λ r. RowAt t g.main g.states.start r (skipped g (g.entry g.main)) g.states.start 0) (zero_reach grp e) (entry_row g.main g.states.start grp e)
 
-    record Placed (f p : ℕ) : Type 0 where
+    record Paired (f p : ℕ) : Type 0 where
       pub free : is_free (slice_get g.spots p) ≡ true
       pub low : g.entry f ≤ p
       pub high : p ≤ g.exit f
 
-    placed : (f : ℕ) (r : PlainRow) → is_place g f r ≡ true → Placed f r.pos
-    placed f r e =
+    paired : (f : ℕ) (r : PlainRow) → is_pair g f r ≡ true → Paired f r.pos
+    paired f r e =
         let a = and_parts (is_position g r.pos) _ e in
         let b = and_parts (is_state g r.state) _ a.1 in
         let c = and_parts (nat_le (g.entry f) r.pos) _ b.1 in
         let d = and_parts (nat_le r.pos (g.exit f)) _ c.1 in
         record { free = d.1; low = leb-true (g.entry f) r.pos c.0; high = leb-true r.pos (g.exit f) d.0 }
 
-    place_of : (f q r p x a : ℕ) → RowAt t f q r p x a → Placed f p
-    place_of f q r p x a w =
+    pair_stands : (f q r p x a : ℕ) → RowAt t f q r p x a → Paired f p
+    pair_stands f q r p x a w =
         let s = seen f q r p x a w in
-        subst (λ p. Placed f p) s.pos (subst (λ f. Placed f s.row.pos) s.function (placed s.group.function s.row s.row_holds.place))
+        subst (λ p. Paired f p) s.pos (subst (λ f. Paired f s.row.pos) s.function (paired s.group.function s.row s.row_holds.pair))
 
     closed_steps : (f q r p x a : ℕ) (by : Move) (c : Config) → RowAt t f q r p x a → is_inner (slice_get g.spots p) ≡ true → is_before t.distance (r + a + 1) ≡ true
         → is_step by ≡ true
@@ -359,10 +359,10 @@ module _ (g : Game) where
     pub closed : IsClosedBy g t.distance (RowAt t)
     closed = record {
       begins = main_row;
-      free = λ f q r p x a w. (place_of f q r p x a w).free;
+      free = λ f q r p x a w. (pair_stands f q r p x a w).free;
       ends = λ f q r p x a k w e.
           let s = seen f q r p x a w in
-          let l = place_of f q r p x a w in
+          let l = pair_stands f q r p x a w in
           let there = and_parts (nat_lt s.group.function functions) _ s.holds.group in
           alone f p k (subst (λ f. f < functions) s.function (ltb-true s.group.function functions there.0)) l.low l.high e;
       good = λ f q r p x a w.

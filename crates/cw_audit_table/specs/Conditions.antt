@@ -55,18 +55,18 @@ is_free _ = true
 abbrev pub is_group : Game → (functions : ℕ) → PlainGroup → Bool
 is_group g functions grp = nat_lt grp.function functions && is_state g grp.entered
 
-abbrev pub is_place : Game → (f : ℕ) → PlainRow → Bool
-is_place g f r = is_position g r.pos && (is_state g r.state && (nat_le (g.entry f) r.pos && (nat_le r.pos (g.exit f) && is_free (slice_get g.spots r.pos))))
+abbrev pub is_pair : Game → (f : ℕ) → PlainRow → Bool
+is_pair g f r = is_position g r.pos && (is_state g r.state && (nat_le (g.entry f) r.pos && (nat_le r.pos (g.exit f) && is_free (slice_get g.spots r.pos))))
 
-abbrev pub places : Game → (f group : ℕ) → Option (ℕ × ℕ) → List (ℕ × PlainRow) → List (GroupFault × Bool)
-places g f i last [] = []
-places g f i last (r ∷ rows) = (fault_at i r.0 1, is_place g f r.1 && is_after last (pair_of r.1)) ∷ places g f i (Some (pair_of r.1)) rows
+abbrev pub pairs : Game → (f group : ℕ) → Option (ℕ × ℕ) → List (ℕ × PlainRow) → List (GroupFault × Bool)
+pairs g f i last [] = []
+pairs g f i last (r ∷ rows) = (fault_at i r.0 1, is_pair g f r.1 && is_after last (pair_of r.1)) ∷ pairs g f i (Some (pair_of r.1)) rows
 
 abbrev pub ranges : Game → (functions : ℕ) → Option (ℕ × ℕ) → List (ℕ × PlainGroup) → List (GroupFault × Bool)
 ranges g functions last [] = []
 ranges g functions last (grp ∷ groups) =
     (fault_at grp.0 0 1, is_group g functions grp.1 && is_after last (key_of grp.1))
-    ∷ places g grp.1.function grp.0 None (enumerate_from 0 grp.1.rows)
+    ∷ pairs g grp.1.function grp.0 None (enumerate_from 0 grp.1.rows)
     ++ ranges g functions (Some (key_of grp.1)) groups
 
 -- 2: `main`'s group at the start has reach 0, and each group has the row behind its entry's skips, in its own state, with 0. That `main`'s group is there is asked

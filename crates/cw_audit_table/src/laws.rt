@@ -27,7 +27,7 @@ pub fn shown_audits_are_exact()
     ensures exact { ShownAuditsAreExact }
 {}
 
-/// A table that meets the conditions, each of whose numbers is that of some run, has in each place the least number that there is, and
+/// A table that meets the conditions, each of whose numbers is that of some run, has at each pair the least number that there is, and
 /// leaves out nothing but what is no nearer than its distance. So whoever makes a table need not show that any number is the least.
 pub fn attained_audits_are_stated()
     ensures stated { AttainedAuditsAreStated }

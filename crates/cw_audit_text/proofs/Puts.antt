@@ -17,9 +17,9 @@ use Rattle.cw_audit_text.specs.declared.text_line.TextLine.TheVariants.{Go, In, 
 use Rattle.cw_audit_text.specs.TextLines.{line_text, whole_line}
 use Rattle.cw_audit_text.specs.AuditText.{head_line, verdict_line, row_line, group_lines, whole_lines, audit_text}
 
-regrouped : (t0 word a b n : List ℕ) → ((((((t0 ++ (word ++ 32 ∷ [])) ++ a) ++ 32 ∷ []) ++ b) ++ 32 ∷ []) ++ n) ++ 10 ∷ []
-    ≡ t0 ++ ((word ++ (32 ∷ (a ++ (32 ∷ (b ++ (32 ∷ n)))))) ++ 10 ∷ [])
-regrouped t0 word a b n = simp append_assoc
+regrouped : (t0 field a b n : List ℕ) → ((((((t0 ++ (field ++ 32 ∷ [])) ++ a) ++ 32 ∷ []) ++ b) ++ 32 ∷ []) ++ n) ++ 10 ∷ []
+    ≡ t0 ++ ((field ++ (32 ∷ (a ++ (32 ∷ (b ++ (32 ∷ n)))))) ++ 10 ∷ [])
+regrouped t0 field a b n = simp append_assoc
 
 pub in_put : (f q r : ℕ) (t0 t1 t2 t3 t4 t5 t6 t7 : List ℕ) → t1 ≡ t0 ++ codes "in " → t2 ≡ t1 ++ decimal f → t3 ≡ t2 ++ codes " " → t4 ≡ t3 ++ decimal q → t5 ≡ t4 ++ codes " "
     → t6 ≡ t5 ++ decimal r → t7 ≡ t6 ++ codes "\n" → t7 ≡ t0 ++ whole_line (In f q r)
@@ -39,8 +39,8 @@ pub meets_put : (t0 t1 : List ℕ) → t1 ≡ t0 ++ codes "meets\n" → t1 ≡ t
 unfolding verdict_line
 meets_put t0 t1 h = h
 
-verdict_grouped : (t0 word n : List ℕ) → ((t0 ++ (word ++ 32 ∷ [])) ++ n) ++ 10 ∷ [] ≡ t0 ++ ((word ++ (32 ∷ n)) ++ 10 ∷ [])
-verdict_grouped t0 word n = simp append_assoc
+verdict_grouped : (t0 field n : List ℕ) → ((t0 ++ (field ++ 32 ∷ [])) ++ n) ++ 10 ∷ [] ≡ t0 ++ ((field ++ (32 ∷ n)) ++ 10 ∷ [])
+verdict_grouped t0 field n = simp append_assoc
 
 pub violates_put : (T : ℕ) (t0 t1 t2 t3 : List ℕ) → t1 ≡ t0 ++ codes "violates " → t2 ≡ t1 ++ decimal T → t3 ≡ t2 ++ codes "\n" → t3 ≡ t0 ++ verdict_line (Some T)
 unfolding verdict_line

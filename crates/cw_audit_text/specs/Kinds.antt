@@ -1,4 +1,4 @@
--- Working definitions: a line by its first word.
+-- Working definitions: a line by its first field.
 use Rattle.std.specs.Prelude.{◌≡◌, ℕ, List, [], ◌∷◌, codes}
 use Rattle.std.specs.Fmt.{decimal}
 use Rattle.cw_text.specs.Moves.{move_name, IsEnvironments}
@@ -18,25 +18,25 @@ kind_in (In f q r) = kind.In
 kind_in (At p x a) = kind.At
 kind_in End = kind.End
 
-abbrev pub kind_word : LineKind → List ℕ
-kind_word kind.Head = codes "capweave"
-kind_word kind.States = codes "states"
-kind_word kind.Meets = codes "meets"
-kind_word kind.Violates = codes "violates"
-kind_word (kind.Go by) = move_name by
-kind_word kind.In = codes "in"
-kind_word kind.At = codes "at"
-kind_word kind.End = codes "end"
+abbrev pub kind_field : LineKind → List ℕ
+kind_field kind.Head = codes "capweave"
+kind_field kind.States = codes "states"
+kind_field kind.Meets = codes "meets"
+kind_field kind.Violates = codes "violates"
+kind_field (kind.Go by) = move_name by
+kind_field kind.In = codes "in"
+kind_field kind.At = codes "at"
+kind_field kind.End = codes "end"
 
-abbrev pub rest_words : TextLine → List (List ℕ)
-rest_words Head = codes "audit" ∷ codes "1" ∷ []
-rest_words (States n) = decimal n ∷ []
-rest_words Meets = []
-rest_words (Violates T) = decimal T ∷ []
-rest_words (Go by) = []
-rest_words (In f q r) = decimal f ∷ decimal q ∷ decimal r ∷ []
-rest_words (At p x a) = decimal p ∷ decimal x ∷ decimal a ∷ []
-rest_words End = []
+abbrev pub rest_fields : TextLine → List (List ℕ)
+rest_fields Head = codes "audit" ∷ codes "1" ∷ []
+rest_fields (States n) = decimal n ∷ []
+rest_fields Meets = []
+rest_fields (Violates T) = decimal T ∷ []
+rest_fields (Go by) = []
+rest_fields (In f q r) = decimal f ∷ decimal q ∷ decimal r ∷ []
+rest_fields (At p x a) = decimal p ∷ decimal x ∷ decimal a ∷ []
+rest_fields End = []
 
 abbrev pub FitsKind : LineKind → Type 0
 FitsKind (kind.Go by) = IsEnvironments by

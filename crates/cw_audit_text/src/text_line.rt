@@ -2,12 +2,12 @@
 
 ghost use Rattle.std.specs.Prelude.{◌≡◌, [], IfSome};
 ghost use Rattle.cw_text.specs.Lines.{Reads};
-ghost use Rattle.cw_audit_text.specs.TextLines.{line_words, line_text, FitsLine};
-ghost use Rattle.cw_audit_text.specs.Kinds.{kind_word, rest_words, FitsKind, IsOf};
+ghost use Rattle.cw_audit_text.specs.TextLines.{line_fields, line_text, FitsLine};
+ghost use Rattle.cw_audit_text.specs.Kinds.{kind_field, rest_fields, FitsKind, IsOf};
 ghost use Rattle.cw_audit_text.specs.declared.text_line.LineKind.TheVariants as kind;
 
 use cw_certs::Move;
-use cw_text::{Words, environments_move};
+use cw_text::{Fields, environments_move};
 
 /// What a line says: the head; the number of states; that nothing violates, or after how many moves something does; a move; a group,
 /// by its function, its state and how many moves it is from the start; a row, by its position, its state and how many moves it is
@@ -41,75 +41,75 @@ enum LineKind {
 pub(crate) fn read_line(line: &[u8]) -> Option<TextLine>
     ensures { Reads FitsLine line_text line.now result }
 {
-    let mut words = Words::of(line, b' ');
-    take_line(&mut words)
+    let mut fields = Fields::of(line, b' ');
+    take_line(&mut fields)
 }
 
-/// What a line says, by its words.
-fn take_line(words: &mut Words) -> Option<TextLine>
-    ensures { Reads FitsLine line_words words.old result }
+/// What a line says, by its fields.
+fn take_line(fields: &mut Fields) -> Option<TextLine>
+    ensures { Reads FitsLine line_fields fields.old result }
 {
-    let Some(word) = words.take() else {
+    let Some(field) = fields.take() else {
         return None;
     };
-    let Some(kind) = kind_of(word) else {
+    let Some(kind) = kind_of(field) else {
         return None;
     };
-    read_as(kind, words)
+    read_as(kind, fields)
 }
 
-/// What a line says whose first word this is.
-fn kind_of(word: &[u8]) -> Option<LineKind>
-    ensures { Reads FitsKind kind_word word.now result }
+/// What a line says whose first field this is.
+fn kind_of(field: &[u8]) -> Option<LineKind>
+    ensures { Reads FitsKind kind_field field.now result }
 {
-    if word == b"in".as_slice() {
+    if field == b"in".as_slice() {
         return Some(LineKind::In);
     }
-    if word == b"at".as_slice() {
+    if field == b"at".as_slice() {
         return Some(LineKind::At);
     }
-    if word == b"capweave".as_slice() {
+    if field == b"capweave".as_slice() {
         return Some(LineKind::Head);
     }
-    if word == b"states".as_slice() {
+    if field == b"states".as_slice() {
         return Some(LineKind::States);
     }
-    if word == b"meets".as_slice() {
+    if field == b"meets".as_slice() {
         return Some(LineKind::Meets);
     }
-    if word == b"violates".as_slice() {
+    if field == b"violates".as_slice() {
         return Some(LineKind::Violates);
     }
-    if word == b"end".as_slice() {
+    if field == b"end".as_slice() {
         return Some(LineKind::End);
     }
-    Some(LineKind::Go(environments_move(word)?))
+    Some(LineKind::Go(environments_move(field)?))
 }
 
-/// What a line of this kind says, by the words behind its first one.
-fn read_as(kind: LineKind, words: &mut Words) -> Option<TextLine>
+/// What a line of this kind says, by the fields behind its first one.
+fn read_as(kind: LineKind, fields: &mut Fields) -> Option<TextLine>
     requires named { FitsKind kind }
-    ensures { Reads (IsOf kind) rest_words words.old result }
+    ensures { Reads (IsOf kind) rest_fields fields.old result }
 {
     match kind {
-        LineKind::Head => read_head(words),
-        LineKind::States => read_states(words),
-        LineKind::Meets => read_meets(words),
-        LineKind::Violates => read_violates(words),
-        LineKind::Go(by) => read_go(by, words),
-        LineKind::In => read_in(words),
-        LineKind::At => read_at(words),
-        LineKind::End => read_end(words),
+        LineKind::Head => read_head(fields),
+        LineKind::States => read_states(fields),
+        LineKind::Meets => read_meets(fields),
+        LineKind::Violates => read_violates(fields),
+        LineKind::Go(by) => read_go(by, fields),
+        LineKind::In => read_in(fields),
+        LineKind::At => read_at(fields),
+        LineKind::End => read_end(fields),
     }
 }
 
 /// `audit 1`, behind `capweave`.
-fn read_head(words: &mut Words) -> Option<TextLine>
-    ensures { Reads (IsOf kind.Head) rest_words words.old result }
+fn read_head(fields: &mut Fields) -> Option<TextLine>
+    ensures { Reads (IsOf kind.Head) rest_fields fields.old result }
 {
-    let audit = words.take()?;
-    let format = words.take()?;
-    if audit == b"audit".as_slice() && format == b"1".as_slice() && words.is_done() {
+    let audit = fields.take()?;
+    let format = fields.take()?;
+    if audit == b"audit".as_slice() && format == b"1".as_slice() && fields.is_done() {
         Some(TextLine::Head)
     } else {
         None
@@ -117,11 +117,11 @@ fn read_head(words: &mut Words) -> Option<TextLine>
 }
 
 /// How many states the game has.
-fn read_states(words: &mut Words) -> Option<TextLine>
-    ensures { Reads (IsOf kind.States) rest_words words.old result }
+fn read_states(fields: &mut Fields) -> Option<TextLine>
+    ensures { Reads (IsOf kind.States) rest_fields fields.old result }
 {
-    let states = words.take_u16()?;
-    if words.is_done() {
+    let states = fields.take_u16()?;
+    if fields.is_done() {
         Some(TextLine::States(states))
     } else {
         None
@@ -129,10 +129,10 @@ fn read_states(words: &mut Words) -> Option<TextLine>
 }
 
 /// Nothing stands behind `meets`.
-fn read_meets(words: &Words) -> Option<TextLine>
-    ensures { Reads (IsOf kind.Meets) rest_words words.now result }
+fn read_meets(fields: &Fields) -> Option<TextLine>
+    ensures { Reads (IsOf kind.Meets) rest_fields fields.now result }
 {
-    if words.is_done() {
+    if fields.is_done() {
         Some(TextLine::Meets)
     } else {
         None
@@ -140,11 +140,11 @@ fn read_meets(words: &Words) -> Option<TextLine>
 }
 
 /// The distance, in moves.
-fn read_violates(words: &mut Words) -> Option<TextLine>
-    ensures { Reads (IsOf kind.Violates) rest_words words.old result }
+fn read_violates(fields: &mut Fields) -> Option<TextLine>
+    ensures { Reads (IsOf kind.Violates) rest_fields fields.old result }
 {
-    let distance = words.take_u32()?;
-    if words.is_done() {
+    let distance = fields.take_u32()?;
+    if fields.is_done() {
         Some(TextLine::Violates(distance))
     } else {
         None
@@ -152,11 +152,11 @@ fn read_violates(words: &mut Words) -> Option<TextLine>
 }
 
 /// Nothing stands behind the name of a move.
-fn read_go(by: Move, words: &Words) -> Option<TextLine>
+fn read_go(by: Move, fields: &Fields) -> Option<TextLine>
     requires named { FitsKind (kind.Go by) }
-    ensures { Reads (IsOf (kind.Go by)) rest_words words.now result }
+    ensures { Reads (IsOf (kind.Go by)) rest_fields fields.now result }
 {
-    if words.is_done() {
+    if fields.is_done() {
         Some(TextLine::Go(by))
     } else {
         None
@@ -164,13 +164,13 @@ fn read_go(by: Move, words: &Words) -> Option<TextLine>
 }
 
 /// The head of a group: its function, the state in which that is entered, and the moves from the start up to there.
-fn read_in(words: &mut Words) -> Option<TextLine>
-    ensures { Reads (IsOf kind.In) rest_words words.old result }
+fn read_in(fields: &mut Fields) -> Option<TextLine>
+    ensures { Reads (IsOf kind.In) rest_fields fields.old result }
 {
-    let function = words.take_u16()?;
-    let entered = words.take_u16()?;
-    let reach = words.take_u32()?;
-    if words.is_done() {
+    let function = fields.take_u16()?;
+    let entered = fields.take_u16()?;
+    let reach = fields.take_u32()?;
+    if fields.is_done() {
         Some(TextLine::In(function, entered, reach))
     } else {
         None
@@ -178,13 +178,13 @@ fn read_in(words: &mut Words) -> Option<TextLine>
 }
 
 /// A row: its position, its state, and the moves from its group's entry.
-fn read_at(words: &mut Words) -> Option<TextLine>
-    ensures { Reads (IsOf kind.At) rest_words words.old result }
+fn read_at(fields: &mut Fields) -> Option<TextLine>
+    ensures { Reads (IsOf kind.At) rest_fields fields.old result }
 {
-    let pos = words.take_u32()?;
-    let state = words.take_u16()?;
-    let inside = words.take_u32()?;
-    if words.is_done() {
+    let pos = fields.take_u32()?;
+    let state = fields.take_u16()?;
+    let inside = fields.take_u32()?;
+    if fields.is_done() {
         Some(TextLine::At(pos, state, inside))
     } else {
         None
@@ -192,10 +192,10 @@ fn read_at(words: &mut Words) -> Option<TextLine>
 }
 
 /// Nothing stands behind `end`.
-fn read_end(words: &Words) -> Option<TextLine>
-    ensures { Reads (IsOf kind.End) rest_words words.now result }
+fn read_end(fields: &Fields) -> Option<TextLine>
+    ensures { Reads (IsOf kind.End) rest_fields fields.now result }
 {
-    if words.is_done() {
+    if fields.is_done() {
         Some(TextLine::End)
     } else {
         None

@@ -7,16 +7,16 @@ use Rattle.std.proofs.lemmas.Map.Entries.{place_from_lookup}
 use Rattle.cw_lemmas.proofs.Options.{option_map_some}
 use Rattle.cw_product.specs.Product.{Held}
 use Rattle.cw_audit_store.specs.declared.lists.Lists.{Lists}
-use Rattle.cw_audit_store.specs.declared.place.Entrance.{Entrance}
-use Rattle.cw_audit_store.specs.declared.place.Place.{Place}
-use Rattle.cw_audit_store.specs.declared.place.Row.{Row}
+use Rattle.cw_audit_store.specs.declared.row_key.Entrance.{Entrance}
+use Rattle.cw_audit_store.specs.declared.row_key.RowKey.{RowKey}
+use Rattle.cw_audit_store.specs.declared.row_key.Row.{Row}
 use Rattle.cw_audit_store.specs.declared.store.Store.{Store}
 use Rattle.cw_audit_store.specs.Listed.{list_of}
-use Rattle.cw_audit_store.specs.Stores.{entrance_eq, place_eq, row_at}
-use Rattle.cw_audit_store.proofs.Orders.{equal_entrances, equal_places}
+use Rattle.cw_audit_store.specs.Stores.{entrance_eq, row_key_eq, row_at}
+use Rattle.cw_audit_store.proofs.Orders.{equal_entrances, equal_row_keys}
 use Rattle.cw_audit_visits.specs.declared.met.Calling.{Calling}
 use Rattle.cw_audit_visits.specs.declared.under_way.Search.{Search}
-use Rattle.cw_audit_visits.specs.Searching.{AreEnds, AreEndsOf, AreEndsTold, AreEndsUpTo, IsEndIn, IsEndPut, IsEndTold, IsIn, IsReturnTold, end_of, entrance}
+use Rattle.cw_audit_visits.specs.Searching.{AreEnds, AreEndsOf, AreEndsNoted, AreEndsUpTo, IsEndIn, IsEndPut, IsEndNoted, IsIn, IsReturnNoted, end_of, entrance}
 use Rattle.cw_audit_visits.proofs.Oks.{by_truth}
 
 ahead : (ns : List ℕ) (n i m : ℕ) → slice_get ns i ≡ Some m → slice_get (ns ++ n ∷ []) i ≡ Some m
@@ -28,16 +28,16 @@ last_of : (ns : List ℕ) (n : ℕ) → slice_get (ns ++ n ∷ []) (length ns) �
 last_of [] n = refl
 last_of (k ∷ ns) n = last_of ns n
 
-module _ (h : Held) (s : Search) (number : ℕ) (ends ends2 : Lists) (at : Place) (row : Row) (there : slice_get s.store.rows.entries number ≡ Some (at, row)) where
-  same_place : (at2 : Place) (row2 : Row) → slice_get s.store.rows.entries number ≡ Some (at2, row2) → at ≡ at2
-  same_place at2 row2 e = ap (λ (p : Place × Row). p.0) (same_Some (at, row) (at2, row2) (sym there ∙ e))
+module _ (h : Held) (s : Search) (number : ℕ) (ends ends2 : Lists) (at : RowKey) (row : Row) (there : slice_get s.store.rows.entries number ≡ Some (at, row)) where
+  same_row_key : (at2 : RowKey) (row2 : Row) → slice_get s.store.rows.entries number ≡ Some (at2, row2) → at ≡ at2
+  same_row_key at2 row2 e = ap (λ (p : RowKey × Row). p.0) (same_Some (at, row) (at2, row2) (sym there ∙ e))
 
   -- the row is at the end of its function, and its number is put
   pub end_put : list_of ends2 at.entrance ≡ list_of ends at.entrance ++ number ∷ [] → ((q : Entrance) → entrance_eq at.entrance q ≡ false → list_of ends2 q ≡ list_of ends q)
       → IsEndPut h s number ends ends2
   end_put here others = record {
     one = λ at2 row2 e is.
-        subst (λ (p : Place). IsIn (list_of ends2 p.entrance) number) (same_place at2 row2 e)
+        subst (λ (p : RowKey). IsIn (list_of ends2 p.entrance) number) (same_row_key at2 row2 e)
         (length (list_of ends at.entrance), ap (λ ns. slice_get ns (length (list_of ends at.entrance))) here ∙ last_of (list_of ends at.entrance) number);
     others = λ q n i. by_truth {X = IsIn (list_of ends2 q) n} (entrance_eq at.entrance q)
         (λ e. subst (λ ns. IsIn ns n) (sym (others q e)) i)
@@ -47,7 +47,7 @@ module _ (h : Held) (s : Search) (number : ℕ) (ends ends2 : Lists) (at : Place
   }
 
 -- no row has the number
-pub end_nowhere : (h : Held) (s : Search) (number : ℕ) (ends : Lists) (o : Option (Place × Row)) → o ≡ slice_get s.store.rows.entries number → ((p : Place × Row) → o ≡ Some p → ⊥)
+pub end_nowhere : (h : Held) (s : Search) (number : ℕ) (ends : Lists) (o : Option (RowKey × Row)) → o ≡ slice_get s.store.rows.entries number → ((p : RowKey × Row) → o ≡ Some p → ⊥)
     → IsEndPut h s number ends ends
 end_nowhere h s number ends o is none = record { one = λ at row e end. absurd (none (at, row) (is ∙ e)); others = λ q n i. i }
 
@@ -62,47 +62,47 @@ pub all_ends : (h : Held) (s : Search) (ends : Lists) (count : ℕ) → count �
 all_ends h s ends count is each = λ n at row e end. each n (omega (arith, is, slice_get_within s.store.rows.entries n (at, row) e)) at row e end
 
 -- what was told of so many listed ends, and one more
-pub told_more : (h : Held) (s s1 : Search) (call : Calling) (ns : List ℕ) (n number : ℕ) → s1.store ≡ s.store → AreEndsTold h s call ns n → slice_get ns n ≡ Some number
-    → IsEndTold h s1 call number
-    → AreEndsTold h s call ns (n + 1)
-told_more h s s1 call ns n number same before there here = λ i m l e. elim (leb_tells n i) [
+pub noted_more : (h : Held) (s s1 : Search) (call : Calling) (ns : List ℕ) (n number : ℕ) → s1.store ≡ s.store → AreEndsNoted h s call ns n → slice_get ns n ≡ Some number
+    → IsEndNoted h s1 call number
+    → AreEndsNoted h s call ns (n + 1)
+noted_more h s s1 call ns n number same before there here = λ i m l e. elim (leb_tells n i) [
   | inl q ↦ let z : i ≡ n = omega (arith, q.1, l) in
       let k : number ≡ m = same_Some number m (sym there ∙ sym (ap (slice_get ns) z) ∙ e) in
-      subst (IsEndTold h s call) k (subst (λ t. IsEndTold h (record { store = t; frontier = s.frontier }) call number) same here)
+      subst (IsEndNoted h s call) k (subst (λ t. IsEndNoted h (record { store = t; frontier = s.frontier }) call number) same here)
   | inr q ↦ before i m q.1 e
 ]
 
 -- the list of the entrance to which the call leads has its ends
-pub call_ends : (h : Held) (s s1 : Search) (ends : Lists) (call : Calling) (ns : List ℕ) → s1.store ≡ s.store → ns ≡ list_of ends (entrance call.callee call.met.place.state.0)
+pub call_ends : (h : Held) (s s1 : Search) (ends : Lists) (call : Calling) (ns : List ℕ) → s1.store ≡ s.store → ns ≡ list_of ends (entrance call.callee call.met.row_key.state.0)
     → AreEnds h s ends
     → AreEndsOf h s1 call ns
 call_ends h s s1 ends call ns same is are = λ y number row there.
     subst (λ ns. IsIn ns number) (sym is) (are number (end_of h call y) row (sym (ap (λ (t : Store). slice_get t.rows.entries number) same) ∙ there) refl)
 
 -- each return is told of, where each listed end is
-pub returns_told : (h : Held) (s : Search) (call : Calling) (ns : List ℕ) (many : ℕ) → AreEndsOf h s call ns → many ≡ length ns → AreEndsTold h s call ns many
-    → (y : ℕ) → IsReturnTold h s call.met.place call.callee call.back.0 y
-returns_told h s call ns many are is told y = λ r a e er ea ee.
+pub returns_noted : (h : Held) (s : Search) (call : Calling) (ns : List ℕ) (many : ℕ) → AreEndsOf h s call ns → many ≡ length ns → AreEndsNoted h s call ns many
+    → (y : ℕ) → IsReturnNoted h s call.met.row_key call.callee call.back.0 y
+returns_noted h s call ns many are is noted y = λ r a e er ea ee.
     let end = end_of h call y in
     let row = option_map_some (λ (x : Row). x.inside) (row_at s.store end) e ee in
-    let found = place_from_lookup (place_eq end) s.store.rows.entries row.0 row.1 in
-    let same : end ≡ found.1 = equal_places end found.1 found.3 in
-    let there : slice_get s.store.rows.entries found.0 ≡ Some (end, row.0) = found.2 ∙ ap (λ (p : Place). Some (p, row.0)) (sym same) in
+    let found = place_from_lookup (row_key_eq end) s.store.rows.entries row.0 row.1 in
+    let same : end ≡ found.1 = equal_row_keys end found.1 found.3 in
+    let there : slice_get s.store.rows.entries found.0 ≡ Some (end, row.0) = found.2 ∙ ap (λ (p : RowKey). Some (p, row.0)) (sym same) in
     let i = are y found.0 row.0 there in
-    told i.0 found.0 (omega (arith, is, slice_get_within ns i.0 found.0 i.1)) i.1 y row.0 there r a e er ea ee
+    noted i.0 found.0 (omega (arith, is, slice_get_within ns i.0 found.0 i.1)) i.1 y row.0 there r a e er ea ee
 
 module _ (h : Held) (s : Search) (call : Calling) (number : ℕ) where
   -- no row has the number
-  pub no_end : (o : Option (Place × Row)) → o ≡ slice_get s.store.rows.entries number → ((p : Place × Row) → o ≡ Some p → ⊥) → IsEndTold h s call number
+  pub no_end : (o : Option (RowKey × Row)) → o ≡ slice_get s.store.rows.entries number → ((p : RowKey × Row) → o ≡ Some p → ⊥) → IsEndNoted h s call number
   no_end o is none = λ y row e. absurd (none (end_of h call y, row) (is ∙ e))
 
-  module _ (end : Place) (ended : Row) (there : slice_get s.store.rows.entries number ≡ Some (end, ended)) where
+  module _ (end : RowKey) (ended : Row) (there : slice_get s.store.rows.entries number ≡ Some (end, ended)) where
     same_end : (y : ℕ) (row : Row) → slice_get s.store.rows.entries number ≡ Some (end_of h call y, row) → end ≡ end_of h call y
-    same_end y row e = ap (λ (p : Place × Row). p.0) (same_Some (end, ended) (end_of h call y, row) (sym there ∙ e))
+    same_end y row e = ap (λ (p : RowKey × Row). p.0) (same_Some (end, ended) (end_of h call y, row) (sym there ∙ e))
 
     -- the row is at an end of the callee, and the return is told of
-    pub end_told : IsReturnTold h s call.met.place call.callee call.back.0 end.state.0 → IsEndTold h s call number
-    end_told told = λ y row e. subst (λ (p : Place). IsReturnTold h s call.met.place call.callee call.back.0 p.state.0) (same_end y row e) told
+    pub end_noted : IsReturnNoted h s call.met.row_key call.callee call.back.0 end.state.0 → IsEndNoted h s call number
+    end_noted noted = λ y row e. subst (λ (p : RowKey). IsReturnNoted h s call.met.row_key call.callee call.back.0 p.state.0) (same_end y row e) noted
 
-    pub end_at : row_at s.store end ≡ Some ended → place_eq end (end_of h call end.state.0) ≡ true → row_at s.store (end_of h call end.state.0) ≡ Some ended
-    end_at e is = subst (λ p. row_at s.store p ≡ Some ended) (equal_places end (end_of h call end.state.0) is) e
+    pub end_at : row_at s.store end ≡ Some ended → row_key_eq end (end_of h call end.state.0) ≡ true → row_at s.store (end_of h call end.state.0) ≡ Some ended
+    end_at e is = subst (λ p. row_at s.store p ≡ Some ended) (equal_row_keys end (end_of h call end.state.0) is) e

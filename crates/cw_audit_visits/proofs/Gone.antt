@@ -5,12 +5,12 @@ use Rattle.std.proofs.lemmas.Option.{same_Some}
 use Rattle.cw_lemmas.proofs.Options.{option_map_some}
 use Rattle.cw_game.specs.Games.{Game}
 use Rattle.cw_product.specs.Product.{Held, game_of}
-use Rattle.cw_audit_store.specs.declared.place.Entrance.{Entrance}
-use Rattle.cw_audit_store.specs.declared.place.Place.{Place}
+use Rattle.cw_audit_store.specs.declared.row_key.Entrance.{Entrance}
+use Rattle.cw_audit_store.specs.declared.row_key.RowKey.{RowKey}
 use Rattle.cw_core.specs.declared.ids.PosId.{PosId}
-use Rattle.cw_audit_store.specs.declared.place.Row.{Row}
-use Rattle.cw_audit_store.specs.declared.place.Way.TheVariants.{Begun, Returned}
-use Rattle.cw_audit_store.specs.declared.place.Entered.{Entered}
+use Rattle.cw_audit_store.specs.declared.row_key.Row.{Row}
+use Rattle.cw_audit_store.specs.declared.row_key.Way.TheVariants.{Begun, Returned}
+use Rattle.cw_audit_store.specs.declared.row_key.Entered.{Entered}
 use Rattle.cw_audit_store.specs.Stores.{row_at, group_at}
 use Rattle.cw_audit_table.specs.Runs.{cut, skipped}
 use Rattle.cw_audit_search.specs.Sound.{IsArrival, IsProposal}
@@ -21,8 +21,8 @@ use Rattle.cw_audit_search.proofs.Proposing.{entry_proposal, return_proposal, fa
 use Rattle.cw_audit_search.proofs.Setting.{reach_sound, reach_falls, group_itself}
 use Rattle.cw_audit_visits.specs.declared.met.Met.{Met}
 use Rattle.cw_audit_visits.specs.declared.under_way.Search.{Search}
-use Rattle.cw_audit_visits.specs.Searching.{place, found_of, functions_of, left, ways_of, caller_of, IsFairGame, IsKept, IsGoneOn, IsTold, Tells}
-use Rattle.cw_audit_visits.specs.Searching.{IsGroupFalling, IsGroupSet, IsCallAt, IsPlaced, IsReturnTold, IsDue, IsThere}
+use Rattle.cw_audit_visits.specs.Searching.{row_key, found_of, functions_of, left, ways_of, caller_of, IsFairGame, IsKept, IsGoneOn, IsNoted, Tells}
+use Rattle.cw_audit_visits.specs.Searching.{IsGroupFalling, IsGroupSet, IsCallAt, IsPlaced, IsReturnNoted, IsDue, IsThere}
 use Rattle.cw_audit_visits.proofs.Sets.{group_reach, group_call}
 use Rattle.cw_audit_visits.proofs.Oks.{by_truth}
 use Rattle.cw_audit_visits.proofs.Waits.{waits_same, wait_trans}
@@ -66,17 +66,17 @@ module _ (h : Held) (s s2 : Search) (at : Entrance) (entered : Entered) where
 -- the entry of a group may be proposed
 pub entry_due : (h : Held) (s : Search) (f q : ℕ) (p : PosId) → IsFairGame h → IsKept (game_of h) (functions_of h) s → p.0 ≡ (game_of h).entry f
     → (r : ℕ) × ((found_of s.store).reach f q ≡ Some r)
-    → IsDue h s (place f q p.0 q) 0 Begun
+    → IsDue h s (row_key f q p.0 q) 0 Begun
 entry_due h s f q p fair kept is known = record {
   proposal = subst (λ p. IsProposal (game_of h) (found_of s.store) f q p q 0) (sym is) (entry_proposal (game_of h) (functions_of h) fair (found_of s.store) kept.sound f q known.0 known.1);
   leads = (ap (skipped (game_of h)) is, refl);
 }
 
-module _ (h : Held) (s : Search) (at : Place) (f k y : ℕ) (call : IsCallAt h at f k) where
+module _ (h : Held) (s : Search) (at : RowKey) (f k y : ℕ) (call : IsCallAt h at f k) where
   -- behind a return
   pub return_due : (fair : IsFairGame h) (kept : IsKept (game_of h) (functions_of h) s) (row end : Row) (n : ℕ) → row_at s.store at ≡ Some row
-      → row_at s.store (place f at.state.0 ((game_of h).exit f) y) ≡ Some end → n ≡ cut (row.inside + end.inside + 2)
-      → IsDue h s (place at.entrance.function at.entrance.state.0 k y) n (Returned at.state at.pos f (record { 0 = y }))
+      → row_at s.store (row_key f at.state.0 ((game_of h).exit f) y) ≡ Some end → n ≡ cut (row.inside + end.inside + 2)
+      → IsDue h s (row_key at.entrance.function at.entrance.state.0 k y) n (Returned at.state at.pos f (record { 0 = y }))
   return_due fair kept row end n er ee number =
       let ra = ap (option_map (λ (r : Row). r.inside)) er in
       let re = ap (option_map (λ (r : Row). r.inside)) ee in
@@ -87,21 +87,21 @@ module _ (h : Held) (s : Search) (at : Place) (f k y : ℕ) (call : IsCallAt h a
         leads = (row.inside, end.inside, ra, re, omega (arith, number), (call.0, k, call.1, refl), refl);
       }
 
-  pub return_told : (row end : Row) (n : ℕ) → row_at s.store at ≡ Some row → row_at s.store (place f at.state.0 ((game_of h).exit f) y) ≡ Some end → n ≡ cut (row.inside + end.inside + 2)
-      → IsTold h s (place at.entrance.function at.entrance.state.0 k y) n → IsReturnTold h s at f k y
-  return_told row end n er ee number told = λ r a e rr ra re.
+  pub return_noted : (row end : Row) (n : ℕ) → row_at s.store at ≡ Some row → row_at s.store (row_key f at.state.0 ((game_of h).exit f) y) ≡ Some end → n ≡ cut (row.inside + end.inside + 2)
+      → IsNoted h s (row_key at.entrance.function at.entrance.state.0 k y) n → IsReturnNoted h s at f k y
+  return_noted row end n er ee number noted = λ r a e rr ra re.
       let same_a = same_Some row.inside a (sym (ap (option_map (λ (r : Row). r.inside)) er) ∙ ra) in
       let same_e = same_Some end.inside e (sym (ap (option_map (λ (r : Row). r.inside)) ee) ∙ re) in
-      subst (λ n. IsCovered (game_of h) (found_of s.store) at.entrance.function at.entrance.state.0 r k y n) (omega (arith, number, same_a, same_e)) (told r rr)
+      subst (λ n. IsCovered (game_of h) (found_of s.store) at.entrance.function at.entrance.state.0 r k y n) (omega (arith, number, same_a, same_e)) (noted r rr)
 
 -- where a row may stand, its position is the game's
-pub placed_position : (h : Held) (at : Place) → IsFairGame h → IsPlaced h at → at.pos.0 < length (game_of h).spots
+pub placed_position : (h : Held) (at : RowKey) → IsFairGame h → IsPlaced h at → at.pos.0 < length (game_of h).spots
 placed_position h at fair placed = omega (arith, placed.position.1, fair.short at.entrance.function placed.function)
 
 -- what a row within a function may go on from
-pub there_placed : (h : Held) (s : Search) (met : Met) → IsKept (game_of h) (functions_of h) s → IsThere s met → IsPlaced h met.place
+pub there_placed : (h : Held) (s : Search) (met : Met) → IsKept (game_of h) (functions_of h) s → IsThere s met → IsPlaced h met.row_key
 there_placed h s met kept there =
-    let at = met.place in
+    let at = met.row_key in
     kept.sound.placed at.entrance.function at.entrance.state.0 at.pos.0 at.state.0 met.row.inside (ap (option_map (λ (r : Row). r.inside)) there.row)
 
 -- nothing changed that is found or waits

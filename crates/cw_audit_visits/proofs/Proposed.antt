@@ -6,11 +6,11 @@ use Rattle.cw_lemmas.proofs.Truths.{not_both}
 use Rattle.cw_lemmas.proofs.Options.{option_map_some}
 use Rattle.cw_game.specs.Games.{Game, bad_in}
 use Rattle.cw_product.specs.Product.{Held, game_of}
-use Rattle.cw_audit_store.specs.declared.place.Place.{Place}
-use Rattle.cw_audit_store.specs.declared.place.Row.{Row}
-use Rattle.cw_audit_store.specs.declared.place.Entered.{Entered}
-use Rattle.cw_audit_store.specs.declared.place.Hit.{Hit}
-use Rattle.cw_audit_store.specs.declared.place.Way.{Way}
+use Rattle.cw_audit_store.specs.declared.row_key.RowKey.{RowKey}
+use Rattle.cw_audit_store.specs.declared.row_key.Row.{Row}
+use Rattle.cw_audit_store.specs.declared.row_key.Entered.{Entered}
+use Rattle.cw_audit_store.specs.declared.row_key.Hit.{Hit}
+use Rattle.cw_audit_store.specs.declared.row_key.Way.{Way}
 use Rattle.cw_audit_store.specs.declared.store.Store.{Store}
 use Rattle.indexmap.specs.IndexMap.{get}
 use Rattle.cw_audit_store.specs.Stores.{row_at, entrance_eq}
@@ -21,31 +21,31 @@ use Rattle.cw_audit_search.specs.Ways.{AreWays}
 use Rattle.cw_audit_search.proofs.Ways.{number_ways, best_ways}
 use Rattle.cw_audit_search.proofs.Setting.{number_sound, number_falls, best_sound, best_falls}
 use Rattle.cw_audit_visits.specs.declared.under_way.Search.{Search}
-use Rattle.cw_audit_visits.specs.Searching.{entrance, place, found_of, functions_of, ways_of, way_of, bad_way_of, reach_of, IsFairGame, IsKept, IsDue, IsTold}
+use Rattle.cw_audit_visits.specs.Searching.{entrance, row_key, found_of, functions_of, ways_of, way_of, bad_way_of, reach_of, IsFairGame, IsKept, IsDue, IsNoted}
 use Rattle.cw_audit_visits.specs.Searching.{IsNear, IsPut, IsRowSet, IsHitSet, IsRowFalling, IsHitFalling, IsGoneOn}
 use Rattle.cw_audit_visits.proofs.Waits.{waits_same, put_waits}
 use Rattle.cw_audit_visits.proofs.Sets.{row_number, hit_best, row_way, hit_way}
 
-abbrev pub at_rest : Place → ℕ → Place
-at_rest at p = place at.entrance.function at.entrance.state.0 p at.state.0
+abbrev pub at_rest : RowKey → ℕ → RowKey
+at_rest at p = row_key at.entrance.function at.entrance.state.0 p at.state.0
 
 -- the number of a row that is there
-number_at : (s : Search) (at : Place) (r : Row) → row_at s.store at ≡ Some r
+number_at : (s : Search) (at : RowKey) (r : Row) → row_at s.store at ≡ Some r
     → (found_of s.store).number at.entrance.function at.entrance.state.0 at.pos.0 at.state.0 ≡ Some r.inside
 number_at s at r e = ap (option_map (λ (r : Row). r.inside)) e
 
 -- the reach of a group is the same where the groups are
-pub reach_same : (s s2 : Search) (at : Place) (r : ℕ) → s2.store.groups ≡ s.store.groups → reach_of s at ≡ Some r → reach_of s2 at ≡ Some r
+pub reach_same : (s s2 : Search) (at : RowKey) (r : ℕ) → s2.store.groups ≡ s.store.groups → reach_of s at ≡ Some r → reach_of s2 at ≡ Some r
 reach_same s s2 at r groups e =
     ap (λ m. option_map (λ (e : Entered). e.reach) (get entrance_eq m (entrance at.entrance.function at.entrance.state.0))) groups ∙ e
 
-module _ (h : Held) (s : Search) (at : Place) (n p : ℕ) (is : p ≡ skipped (game_of h) at.pos.0) where
+module _ (h : Held) (s : Search) (at : RowKey) (n p : ℕ) (is : p ≡ skipped (game_of h) at.pos.0) where
   abbrev bad_at : ℕ → Bool
   bad_at p = bad_in (game_of h) at.state.0 (slice_get (game_of h).spots p)
 
   -- a row that isn't greater is there
-  pub told_row : bad_at p ≡ false → IsNear s (at_rest at p) n → IsTold h s at n
-  told_row good near = λ r er. record {
+  pub noted_row : bad_at p ≡ false → IsNear s (at_rest at p) n → IsNoted h s at n
+  noted_row good near = λ r er. record {
     bad = λ b. absurd (not_both (bad_at p) (ap bad_at is ∙ b) good);
     good = λ b. (
       near.0.inside,
@@ -126,7 +126,7 @@ stays h s s2 e rests kept = record {
 }
 
 -- the reach of a group that is known
-pub reach_low : (h : Held) (s : Search) (at : Place) (r : ℕ) → IsKept (game_of h) (functions_of h) s → reach_of s at ≡ Some r → r ≤ 65537
+pub reach_low : (h : Held) (s : Search) (at : RowKey) (r : ℕ) → IsKept (game_of h) (functions_of h) s → reach_of s at ≡ Some r → r ≤ 65537
 reach_low h s at r kept e =
     let a = kept.sound.entered at.entrance.function at.entrance.state.0 r e in
     omega (arith, a.number, min-le_right a.moves 65537)

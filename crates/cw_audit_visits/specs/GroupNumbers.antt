@@ -2,9 +2,9 @@
 use Rattle.std.specs.Prelude.{ℕ, List, [], ◌∷◌, Option, Some, None, length, min, slice_get}
 use Rattle.std.specs.Option.{unwrap_or}
 use Rattle.indexmap.specs.IndexMap.{index_of}
-use Rattle.cw_audit_store.specs.declared.place.Entrance.{Entrance}
-use Rattle.cw_audit_store.specs.declared.place.Place.{Place}
-use Rattle.cw_audit_store.specs.declared.place.Row.{Row}
+use Rattle.cw_audit_store.specs.declared.row_key.Entrance.{Entrance}
+use Rattle.cw_audit_store.specs.declared.row_key.RowKey.{RowKey}
+use Rattle.cw_audit_store.specs.declared.row_key.Row.{Row}
 use Rattle.cw_audit_store.specs.declared.store.Store.{Store}
 use Rattle.cw_audit_store.specs.Stores.{entrance_eq}
 
@@ -16,9 +16,9 @@ short number = min number 4294967295
 abbrev pub number_of : Store → Entrance → ℕ
 number_of s entrance = short (unwrap_or (index_of entrance_eq s.groups entrance) (length s.groups.entries))
 
-abbrev pub group_in : Option (Place × Row) → ℕ
+abbrev pub group_in : Option (RowKey × Row) → ℕ
 group_in None = 0
-group_in (Some (place, row)) = row.group
+group_in (Some (row_key, row)) = row.group
 
 -- that which the row with the first of the numbers has
 abbrev pub group_of : Store → List ℕ → ℕ

@@ -16,11 +16,11 @@ fn put_end(game: &Game, search: &Search, ends: &mut Lists, number: usize) -> Res
     requires kept { IsKept (game_of game.now) (functions_of game.now) search.now }
     ensures { OnOk result (IsEndPut game.now search.now number ends.old ends.new) }
 {
-    let Some((place, _row)) = search.store.numbered(number) else {
+    let Some((row_key, _row)) = search.store.numbered(number) else {
         return Ok(());
     };
-    if place.pos == game.exit(place.entrance.function) {
-        ends.put(place.entrance, number)?;
+    if row_key.pos == game.exit(row_key.entrance.function) {
+        ends.put(row_key.entrance, number)?;
     }
     Ok(())
 }

@@ -10,7 +10,7 @@ use crate::group_numbers::short;
 use crate::met::Calling;
 use crate::propose::propose;
 use crate::under_way::Search;
-use cw_audit_store::{Entered, Entrance, Frontier, Place, Row, Store, Way};
+use cw_audit_store::{Entered, Entrance, Frontier, Row, RowKey, Store, Way};
 use cw_audit_table::cut;
 use cw_core::NoMemory;
 use cw_product::Game;
@@ -60,7 +60,7 @@ fn enter(
     if !reach(search, number, entrance, entered)? {
         return Ok(false);
     }
-    let entry = Place {
+    let entry = RowKey {
         entrance,
         pos: game.entry(entrance.function),
         state: entrance.state,
@@ -87,7 +87,7 @@ pub(crate) fn call(
     number: u32,
 ) -> Result<bool, NoMemory>
     requires there { IsThere search.old call.met }
-    requires call { IsCallOf game.now call.met.place call.callee call.back.0 }
+    requires call { IsCallOf game.now call.met.row_key call.callee call.back.0 }
     requires fair { IsFairGame game.now }
     requires kept { IsKept (game_of game.now) (functions_of game.now) search.old }
     ensures tells { IfOk result (λ changed. Tells search.old search.new changed) }
@@ -97,11 +97,11 @@ pub(crate) fn call(
     let met = call.met;
     let entrance = Entrance {
         function: call.callee,
-        state: met.place.state,
+        state: met.row_key.state,
     };
     let entered = Entered {
         reach: cut(u64::from(met.reach) + u64::from(met.row.inside) + 1),
-        call: Some(met.place),
+        call: Some(met.row_key),
     };
     enter(game, search, number, entrance, entered)
 }
@@ -126,7 +126,7 @@ pub fn begin(alloc: Global, game: &Game) -> Result<Search, NoMemory>
         call: None,
     };
     search.store.put_group(entrance, entered)?;
-    let entry = Place {
+    let entry = RowKey {
         entrance,
         pos,
         state,

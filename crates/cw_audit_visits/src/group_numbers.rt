@@ -34,7 +34,7 @@ pub(crate) fn group_of(search: &Search, numbers: &[usize]) -> u32
         return 0;
     };
     match search.store.numbered(*first) {
-        Some((_place, row)) => row.group,
+        Some((_row_key, row)) => row.group,
         None => 0,
     }
 }

@@ -2,27 +2,27 @@
 
 ghost use Rattle.std.specs.Prelude.{◌≡◌, ◌<◌, false, length, IfOk, OnOk};
 ghost use Rattle.cw_product.specs.Product.{game_of};
-ghost use Rattle.cw_audit_store.specs.Stores.{place_eq};
-ghost use Rattle.cw_audit_visits.specs.Searching.{IsCallOf, IsEndTold, IsFairGame, IsGoneOn, IsKept, IsThere, Tells, functions_of, end_of};
+ghost use Rattle.cw_audit_store.specs.Stores.{row_key_eq};
+ghost use Rattle.cw_audit_visits.specs.Searching.{IsCallOf, IsEndNoted, IsFairGame, IsGoneOn, IsKept, IsThere, Tells, functions_of, end_of};
 
 use crate::met::{Calling, call_at, meet};
 use crate::propose::propose;
 use crate::under_way::Search;
-use cw_audit_store::{Entrance, Place, Row, Way};
+use cw_audit_store::{Entrance, Row, RowKey, Way};
 use cw_audit_table::cut;
 use cw_core::NoMemory;
 use cw_product::Game;
 
-// Whether the place is an end of the function that the call enters.
-fn is_end(game: &Game, call: Calling, end: Place) -> bool
+// Whether the row key is an end of the function that the call enters.
+fn is_end(game: &Game, call: Calling, end: RowKey) -> bool
     requires { call.callee < length game.now.graph.parts.items }
-    ensures { result ≡ place_eq end (end_of game.now call end.state.0) }
+    ensures { result ≡ row_key_eq end (end_of game.now call end.state.0) }
 {
     let entrance = Entrance {
         function: call.callee,
-        state: call.met.place.state,
+        state: call.met.row_key.state,
     };
-    let due = Place {
+    let due = RowKey {
         entrance,
         pos: game.exit(call.callee),
         state: end.state,
@@ -38,11 +38,11 @@ pub(crate) fn return_from(
     number: usize,
 ) -> Result<bool, NoMemory>
     requires there { IsThere search.old call.met }
-    requires call { IsCallOf game.now call.met.place call.callee call.back.0 }
+    requires call { IsCallOf game.now call.met.row_key call.callee call.back.0 }
     requires fair { IsFairGame game.now }
     requires kept { IsKept (game_of game.now) (functions_of game.now) search.old }
     ensures tells { IfOk result (λ changed. Tells search.old search.new changed) }
-    ensures told { IfOk result (λ changed. changed ≡ false → IsEndTold game.now search.old call number) }
+    ensures noted { IfOk result (λ changed. changed ≡ false → IsEndNoted game.now search.old call number) }
     ensures goes_on { OnOk result (IsGoneOn game.now search.old search.new) }
 {
     let met = call.met;
@@ -56,14 +56,14 @@ pub(crate) fn return_from(
         game,
         search,
         met.reach,
-        Place {
+        RowKey {
             pos: call.back,
             state: end.state,
-            ..met.place
+            ..met.row_key
         },
         Row {
             inside: cut(u64::from(met.row.inside) + u64::from(ended.inside) + 2),
-            way: Way::Returned(met.place.state, met.place.pos, call.callee, end.state),
+            way: Way::Returned(met.row_key.state, met.row_key.pos, call.callee, end.state),
             group: met.row.group,
         },
     )
@@ -79,7 +79,7 @@ fn join(game: &Game, search: &mut Search, caller: usize, end: usize) -> Result<b
     let Some(met) = meet(search, caller) else {
         return Ok(false);
     };
-    let Some((callee, back)) = call_at(game, met.place) else {
+    let Some((callee, back)) = call_at(game, met.row_key) else {
         return Ok(false);
     };
     return_from(game, search, Calling { met, callee, back }, end)
@@ -100,8 +100,8 @@ pub(crate) fn return_all(
 {
     search.frontier.calls.put(group, caller)?;
     let mut changed = false;
-    for place in 0..usize::MAX {
-        let Some(end) = search.frontier.ends.get(group, place) else {
+    for row_key in 0..usize::MAX {
+        let Some(end) = search.frontier.ends.get(group, row_key) else {
             break;
         };
         let joined = join(game, search, caller, end)?;
@@ -125,8 +125,8 @@ pub(crate) fn resume_all(
 {
     search.frontier.ends.put(group, end)?;
     let mut changed = false;
-    for place in 0..usize::MAX {
-        let Some(caller) = search.frontier.calls.get(group, place) else {
+    for row_key in 0..usize::MAX {
+        let Some(caller) = search.frontier.calls.get(group, row_key) else {
             break;
         };
         let joined = join(game, search, caller, end)?;

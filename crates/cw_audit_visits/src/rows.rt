@@ -2,7 +2,7 @@
 
 ghost use Rattle.std.specs.Prelude.{◌≡◌, false, IfOk, OnOk};
 ghost use Rattle.cw_product.specs.Product.{game_of};
-ghost use Rattle.cw_audit_visits.specs.Searching.{AreLeadsToldBy, IsFairGame, IsGoneOn, IsKept, Tells, functions_of};
+ghost use Rattle.cw_audit_visits.specs.Searching.{AreLeadsNotedBy, IsFairGame, IsGoneOn, IsKept, Tells, functions_of};
 
 use crate::enter::call;
 use crate::group_numbers::number_of;
@@ -23,7 +23,7 @@ pub fn visit(game: &Game, search: &mut Search, key: u32, number: usize) -> Resul
     requires fair { IsFairGame game.now }
     requires kept { IsKept (game_of game.now) (functions_of game.now) search.old }
     ensures tells { IfOk result (λ changed. Tells search.old search.new changed) }
-    ensures told { IfOk result (λ changed. changed ≡ false → AreLeadsToldBy game.now search.old key number) }
+    ensures noted { IfOk result (λ changed. changed ≡ false → AreLeadsNotedBy game.now search.old key number) }
     ensures goes_on { OnOk result (IsGoneOn game.now search.old search.new) }
 {
     let Some(met) = meet(search, number) else {
@@ -32,15 +32,15 @@ pub fn visit(game: &Game, search: &mut Search, key: u32, number: usize) -> Resul
     if u64::from(met.reach) + u64::from(met.row.inside) < u64::from(key) {
         return Ok(false);
     }
-    if is_within(game, met.place) {
+    if is_within(game, met.row_key) {
         return steps(game, search, met);
     }
-    let Some((callee, back)) = call_at(game, met.place) else {
+    let Some((callee, back)) = call_at(game, met.row_key) else {
         return resume_all(game, search, number, met.row.group);
     };
     let entrance = Entrance {
         function: callee,
-        state: met.place.state,
+        state: met.row_key.state,
     };
     let group = number_of(search, entrance);
     let entered = call(game, search, Calling { met, callee, back }, group)?;

@@ -3,7 +3,7 @@
 ghost use Rattle.std.specs.Prelude.{◌≡◌, ℕ, true, false, not, IfOk, OnOk};
 ghost use Rattle.cw_product.specs.Product.{game_of};
 ghost use Rattle.cw_audit_search.specs.Settled.{IsSettled};
-ghost use Rattle.cw_audit_visits.specs.Searching.{AreBegun, AreEnds, AreEndsOf, AreSettledAt, AreSettledBelow, IsBegunAt, IsCallOf, IsFairGame, IsGoneOn, IsKept, IsNumberSettled, IsReturnTold, IsThere, IsVisited, Tells, found_of, functions_of};
+ghost use Rattle.cw_audit_visits.specs.Searching.{AreBegun, AreEnds, AreEndsOf, AreSettledAt, AreSettledBelow, IsBegunAt, IsCallOf, IsFairGame, IsGoneOn, IsKept, IsNumberSettled, IsReturnNoted, IsThere, IsVisited, Tells, found_of, functions_of};
 
 use crate::ends::ends_of;
 use crate::enter::call;
@@ -13,7 +13,7 @@ use crate::propose::propose;
 use crate::returns::return_from;
 use crate::steps::steps;
 use crate::under_way::Search;
-use cw_audit_store::{Entrance, Lists, Place, Row, Way};
+use cw_audit_store::{Entrance, Lists, Row, RowKey, Way};
 use cw_audit_table::cut;
 use cw_core::NoMemory;
 use cw_product::Game;
@@ -30,7 +30,7 @@ fn begin_again(game: &Game, search: &mut Search, number: usize) -> Result<bool, 
     let Some((entrance, entered)) = search.store.numbered_group(number) else {
         return Ok(false);
     };
-    let entry = Place {
+    let entry = RowKey {
         entrance,
         pos: game.entry(entrance.function),
         state: entrance.state,
@@ -74,15 +74,15 @@ fn return_each(
 ) -> Result<bool, NoMemory>
     requires ends { AreEndsOf game.now search.old call numbers.now }
     requires there { IsThere search.old call.met }
-    requires call { IsCallOf game.now call.met.place call.callee call.back.0 }
+    requires call { IsCallOf game.now call.met.row_key call.callee call.back.0 }
     requires fair { IsFairGame game.now }
     requires kept { IsKept (game_of game.now) (functions_of game.now) search.old }
     ensures tells { IfOk result (λ changed. Tells search.old search.new changed) }
-    ensures told { IfOk result (λ changed. changed ≡ false → (y : ℕ) → IsReturnTold game.now search.old call.met.place call.callee call.back.0 y) }
+    ensures noted { IfOk result (λ changed. changed ≡ false → (y : ℕ) → IsReturnNoted game.now search.old call.met.row_key call.callee call.back.0 y) }
     ensures goes_on { OnOk result (IsGoneOn game.now search.old search.new) }
 {
-    for place in 0..numbers.len() {
-        if return_from(game, search, call, numbers[place])? {
+    for row_key in 0..numbers.len() {
+        if return_from(game, search, call, numbers[row_key])? {
             return Ok(true);
         }
     }
@@ -99,16 +99,16 @@ fn visit_call(
     requires begun { AreBegun game.now search.old }
     requires ends { AreEnds game.now search.old ends.now }
     requires there { IsThere search.old calling.met }
-    requires call { IsCallOf game.now calling.met.place calling.callee calling.back.0 }
+    requires call { IsCallOf game.now calling.met.row_key calling.callee calling.back.0 }
     requires fair { IsFairGame game.now }
     requires kept { IsKept (game_of game.now) (functions_of game.now) search.old }
     ensures tells { IfOk result (λ changed. Tells search.old search.new changed) }
-    ensures visited { IfOk result (λ changed. changed ≡ false → IsVisited game.now search.old calling.met.place) }
+    ensures visited { IfOk result (λ changed. changed ≡ false → IsVisited game.now search.old calling.met.row_key) }
     ensures goes_on { OnOk result (IsGoneOn game.now search.old search.new) }
 {
     let entrance = Entrance {
         function: calling.callee,
-        state: calling.met.place.state,
+        state: calling.met.row_key.state,
     };
     let numbers = ends.list(entrance);
     let group = group_of(search, numbers);
@@ -126,13 +126,13 @@ fn visit_row(game: &Game, search: &mut Search, ends: &Lists, met: Met) -> Result
     requires fair { IsFairGame game.now }
     requires kept { IsKept (game_of game.now) (functions_of game.now) search.old }
     ensures tells { IfOk result (λ changed. Tells search.old search.new changed) }
-    ensures visited { IfOk result (λ changed. changed ≡ false → IsVisited game.now search.old met.place) }
+    ensures visited { IfOk result (λ changed. changed ≡ false → IsVisited game.now search.old met.row_key) }
     ensures goes_on { OnOk result (IsGoneOn game.now search.old search.new) }
 {
-    if is_within(game, met.place) {
+    if is_within(game, met.row_key) {
         return steps(game, search, met);
     }
-    let Some((callee, back)) = call_at(game, met.place) else {
+    let Some((callee, back)) = call_at(game, met.row_key) else {
         return Ok(false);
     };
     visit_call(game, search, ends, Calling { met, callee, back })

@@ -6,9 +6,9 @@ mod faults;
 #[cfg(test)]
 mod files;
 #[cfg(test)]
-mod links;
+mod flags;
 #[cfg(test)]
-mod marks;
+mod links;
 #[cfg(test)]
 mod numerals;
 #[cfg(test)]

@@ -4,31 +4,31 @@ use cw_links::{Popped, Store};
 use std::alloc::Global;
 use std::process::Abort;
 
-/// So many places, of which none is a link.
-fn places(rt: &impl Abort, alloc: Global, many: u32) -> Store {
+/// So many indices, of which none is a link.
+fn indices(rt: &impl Abort, alloc: Global, many: u32) -> Store {
     let mut store = Store::make(alloc).expect(rt, "memory");
-    assert!(rt; store.places() == 0 && many < 1000);
+    assert!(rt; store.indices() == 0 && many < 1000);
     store.push_plain(many).expect(rt, "memory");
     store
 }
 
-/// Has the cell at a place wait for a height.
-fn ask(rt: &impl Abort, store: &mut Store, place: usize, height: u32) {
-    assert!(rt; place < store.places() && 0 < height && height < 1000);
-    store.ask_cell(place, height).expect(rt, "memory");
+/// Has the cell at an index wait for a height.
+fn ask(rt: &impl Abort, store: &mut Store, index: usize, height: u32) {
+    assert!(rt; index < store.indices() && 0 < height && height < 1000);
+    store.ask_cell(index, height).expect(rt, "memory");
 }
 
-/// The place and the key of the cell that is taken.
+/// The index and the key of the cell that is taken.
 fn take(store: &mut Store) -> Option<(usize, u32)> {
     match store.pop() {
-        Popped::Cell(place, key) => Some((place, key)),
+        Popped::Cell(index, key) => Some((index, key)),
         Popped::Nothing | Popped::Link(_, _) => None,
     }
 }
 
-fn height_of(store: &Store, place: usize) -> Option<u32> {
-    if place < store.places() {
-        Some(store.height(place))
+fn height_of(store: &Store, index: usize) -> Option<u32> {
+    if index < store.indices() {
+        Some(store.height(index))
     } else {
         None
     }
@@ -41,8 +41,8 @@ fn expect_cells(
     asks: &[(usize, u32)],
     takes: &[Option<(usize, u32)>],
 ) {
-    for (place, height) in asks {
-        ask(rt, store, *place, *height);
+    for (index, height) in asks {
+        ask(rt, store, *index, *height);
     }
     for taken in takes {
         assert!(rt; take(store) == *taken);
@@ -51,7 +51,7 @@ fn expect_cells(
 
 #[test]
 fn cells_have_the_heights_for_which_they_waited(rt: HostRuntime) {
-    let mut store = places(&rt, rt.alloc(), 4);
+    let mut store = indices(&rt, rt.alloc(), 4);
     expect_cells(
         &rt,
         &mut store,

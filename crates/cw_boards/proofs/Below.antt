@@ -5,7 +5,7 @@ use Rattle.std.proofs.lemmas.Option.{none-some, same_Some}
 use Rattle.cw_syntax.specs.declared.program.Function.{Function}
 use Rattle.cw_syntax.specs.Plans.{Stm, Plain, Break, Continue, Return, Open, Close, Call, Group, Label, If, While, Do, For, Stms, end, then, Scene, Plan, numbered, numbered_all, seams, seams_all}
 use Rattle.cw_syntax.specs.Plans.{Callee, Routine, routines_from}
-use Rattle.cw_syntax.specs.Frames.{Item, Entry, Todo, Test, After, Mark, End, Frame, items_of, after_if, opened, opened_all, settle, broken, continued, ended, Way}
+use Rattle.cw_syntax.specs.Frames.{Item, Entry, Todo, Test, After, LoopEnd, End, Frame, items_of, after_if, expanded, expanded_all, settle, broken, continued, ended, Way}
 use Rattle.cw_syntax.specs.Frames.{after, popped, pushed, pass, new_frame, frame_of, stack_of, start_stack}
 use Rattle.cw_syntax.specs.Frames.{On as OnWay, Left as LeftWay, Right as RightWay, Opened as OpenedWay, Failed as FailedWay}
 use Rattle.cw_rights.specs.declared.capabilities.Caps.{Caps}
@@ -75,74 +75,74 @@ module _ (n : ℕ) where
 
   -- a rewriting changes no seam
   mutual
-    opened_below : (s : Stm) (rest next : Frame) → SeamsBelow n s → FrameBelow n rest → FrameBelow n next → FrameBelow n (opened s rest next)
-    opened_below (Plain at) rest next h k m = (tt, k)
-    opened_below (Break at) rest next h k m = (tt, k)
-    opened_below (Continue at) rest next h k m = (tt, k)
-    opened_below (Return at) rest next h k m = (tt, k)
-    opened_below (Open at j d) rest next h k m = (h, k)
-    opened_below (Close at j d) rest next h k m = (h, k)
-    opened_below (Call at j callee) rest next h k m = (h, k)
-    opened_below (Group ss) rest next h k m = all_opened_below ss rest next h k m
-    opened_below (Label at mark j l s) rest next h k m = (h, k)
-    opened_below (If at s t) rest next h k m = (h, k)
-    opened_below (While at s) rest next h k m = (h, (tt, k))
-    opened_below (Do at s) rest next h k m = opened_below s (Test at true false s ∷ (Mark ∷ rest)) (Test at true false s ∷ (Mark ∷ rest)) h (h, (tt, k)) (h, (tt, k))
-    opened_below (For at None decided stepped s) rest next h k m = (h, (tt, k))
-    opened_below (For at (Some i) decided stepped s) rest next h k m = (tt, (h, (tt, k)))
+    expanded_below : (s : Stm) (rest next : Frame) → SeamsBelow n s → FrameBelow n rest → FrameBelow n next → FrameBelow n (expanded s rest next)
+    expanded_below (Plain at) rest next h k m = (tt, k)
+    expanded_below (Break at) rest next h k m = (tt, k)
+    expanded_below (Continue at) rest next h k m = (tt, k)
+    expanded_below (Return at) rest next h k m = (tt, k)
+    expanded_below (Open at j d) rest next h k m = (h, k)
+    expanded_below (Close at j d) rest next h k m = (h, k)
+    expanded_below (Call at j callee) rest next h k m = (h, k)
+    expanded_below (Group ss) rest next h k m = all_expanded_below ss rest next h k m
+    expanded_below (Label at mark j l s) rest next h k m = (h, k)
+    expanded_below (If at s t) rest next h k m = (h, k)
+    expanded_below (While at s) rest next h k m = (h, (tt, k))
+    expanded_below (Do at s) rest next h k m = expanded_below s (Test at true false s ∷ (LoopEnd ∷ rest)) (Test at true false s ∷ (LoopEnd ∷ rest)) h (h, (tt, k)) (h, (tt, k))
+    expanded_below (For at None decided stepped s) rest next h k m = (h, (tt, k))
+    expanded_below (For at (Some i) decided stepped s) rest next h k m = (tt, (h, (tt, k)))
 
-    all_opened_below : (ss : Stms) (rest next : Frame) → AllSeamsBelow n ss → FrameBelow n rest → FrameBelow n next → FrameBelow n (opened_all ss rest next)
-    all_opened_below end rest next h k m = m
-    all_opened_below (then s ss) rest next h k m = opened_below s (items_of ss rest) (opened_all ss rest next) h.0 (items_below ss rest h.1 k) (all_opened_below ss rest next h.1 k m)
+    all_expanded_below : (ss : Stms) (rest next : Frame) → AllSeamsBelow n ss → FrameBelow n rest → FrameBelow n next → FrameBelow n (expanded_all ss rest next)
+    all_expanded_below end rest next h k m = m
+    all_expanded_below (then s ss) rest next h k m = expanded_below s (items_of ss rest) (expanded_all ss rest next) h.0 (items_below ss rest h.1 k) (all_expanded_below ss rest next h.1 k m)
 
   mutual
-    opened_back : (s : Stm) (rest next : Frame) → (FrameBelow n next → FrameBelow n rest) → FrameBelow n (opened s rest next) → SeamsBelow n s × FrameBelow n rest
-    opened_back (Plain at) rest next f h = h
-    opened_back (Break at) rest next f h = h
-    opened_back (Continue at) rest next f h = h
-    opened_back (Return at) rest next f h = h
-    opened_back (Open at j d) rest next f h = h
-    opened_back (Close at j d) rest next f h = h
-    opened_back (Call at j callee) rest next f h = h
-    opened_back (Group ss) rest next f h = all_opened_back ss rest next f h
-    opened_back (Label at mark j l s) rest next f h = h
-    opened_back (If at s t) rest next f h = h
-    opened_back (While at s) rest next f h = (h.0, h.1.1)
-    opened_back (Do at s) rest next f h =
-        let k = opened_back s (Test at true false s ∷ (Mark ∷ rest)) (Test at true false s ∷ (Mark ∷ rest)) (λ k. k) h in
+    expanded_back : (s : Stm) (rest next : Frame) → (FrameBelow n next → FrameBelow n rest) → FrameBelow n (expanded s rest next) → SeamsBelow n s × FrameBelow n rest
+    expanded_back (Plain at) rest next f h = h
+    expanded_back (Break at) rest next f h = h
+    expanded_back (Continue at) rest next f h = h
+    expanded_back (Return at) rest next f h = h
+    expanded_back (Open at j d) rest next f h = h
+    expanded_back (Close at j d) rest next f h = h
+    expanded_back (Call at j callee) rest next f h = h
+    expanded_back (Group ss) rest next f h = all_expanded_back ss rest next f h
+    expanded_back (Label at mark j l s) rest next f h = h
+    expanded_back (If at s t) rest next f h = h
+    expanded_back (While at s) rest next f h = (h.0, h.1.1)
+    expanded_back (Do at s) rest next f h =
+        let k = expanded_back s (Test at true false s ∷ (LoopEnd ∷ rest)) (Test at true false s ∷ (LoopEnd ∷ rest)) (λ k. k) h in
         (k.0, k.1.1.1)
-    opened_back (For at None decided stepped s) rest next f h = (h.0, h.1.1)
-    opened_back (For at (Some i) decided stepped s) rest next f h = (h.1.0, h.1.1.1)
+    expanded_back (For at None decided stepped s) rest next f h = (h.0, h.1.1)
+    expanded_back (For at (Some i) decided stepped s) rest next f h = (h.1.0, h.1.1.1)
 
-    all_opened_back : (ss : Stms) (rest next : Frame) → (FrameBelow n next → FrameBelow n rest) → FrameBelow n (opened_all ss rest next) → AllSeamsBelow n ss × FrameBelow n rest
-    all_opened_back end rest next f h = (tt, f h)
-    all_opened_back (then s ss) rest next f h =
-        let k = opened_back s (items_of ss rest) (opened_all ss rest next) (λ m. let r = all_opened_back ss rest next f m in items_below ss rest r.0 r.1) h in
+    all_expanded_back : (ss : Stms) (rest next : Frame) → (FrameBelow n next → FrameBelow n rest) → FrameBelow n (expanded_all ss rest next) → AllSeamsBelow n ss × FrameBelow n rest
+    all_expanded_back end rest next f h = (tt, f h)
+    all_expanded_back (then s ss) rest next f h =
+        let k = expanded_back s (items_of ss rest) (expanded_all ss rest next) (λ m. let r = all_expanded_back ss rest next f m in items_below ss rest r.0 r.1) h in
         let r = items_back ss rest k.1 in
         ((k.0, r.0), r.1)
 
   pub settled_below : (frame : Frame) → FrameBelow n frame → FrameBelow n (settle frame)
   settled_below [] h = tt
   settled_below (Entry f j ∷ rest) h = h
-  settled_below (Todo s ∷ rest) h = opened_below s rest (settle rest) h.0 h.1 (settled_below rest h.1)
+  settled_below (Todo s ∷ rest) h = expanded_below s rest (settle rest) h.0 h.1 (settled_below rest h.1)
   settled_below (Test at decided stepped s ∷ rest) h = h
   settled_below (After at ∷ rest) h = h
-  settled_below (Mark ∷ rest) h = settled_below rest h.1
+  settled_below (LoopEnd ∷ rest) h = settled_below rest h.1
   settled_below (End f ∷ rest) h = h
 
   pub unsettled_below : (frame : Frame) → FrameBelow n (settle frame) → FrameBelow n frame
   unsettled_below [] h = tt
   unsettled_below (Entry f j ∷ rest) h = h
-  unsettled_below (Todo s ∷ rest) h = opened_back s rest (settle rest) (unsettled_below rest) h
+  unsettled_below (Todo s ∷ rest) h = expanded_back s rest (settle rest) (unsettled_below rest) h
   unsettled_below (Test at decided stepped s ∷ rest) h = h
   unsettled_below (After at ∷ rest) h = h
-  unsettled_below (Mark ∷ rest) h = (tt, unsettled_below rest h)
+  unsettled_below (LoopEnd ∷ rest) h = (tt, unsettled_below rest h)
   unsettled_below (End f ∷ rest) h = h
 
   -- what is left of a frame
   broken_below : (frame next : Frame) → broken frame ≡ Some next → FrameBelow n frame → FrameBelow n next
   broken_below [] next e h = absurd (none-some next e)
-  broken_below (Mark ∷ rest) next e h = subst (FrameBelow n) (same_Some rest next e) h.1
+  broken_below (LoopEnd ∷ rest) next e h = subst (FrameBelow n) (same_Some rest next e) h.1
   broken_below (Entry f j ∷ rest) next e h = broken_below rest next e h.1
   broken_below (Todo s ∷ rest) next e h = broken_below rest next e h.1
   broken_below (Test at decided stepped s ∷ rest) next e h = broken_below rest next e h.1
@@ -151,7 +151,7 @@ module _ (n : ℕ) where
 
   continued_below : (frame next : Frame) → continued frame ≡ Some next → FrameBelow n frame → FrameBelow n next
   continued_below [] next e h = absurd (none-some next e)
-  continued_below (Mark ∷ rest) next e h = continued_below rest next e h.1
+  continued_below (LoopEnd ∷ rest) next e h = continued_below rest next e h.1
   continued_below (Entry f j ∷ rest) next e h = continued_below rest next e h.1
   continued_below (Todo s ∷ rest) next e h = continued_below rest next e h.1
   continued_below (Test at decided stepped s ∷ rest) next e h = subst (FrameBelow n) (same_Some _ next e) h
@@ -160,7 +160,7 @@ module _ (n : ℕ) where
 
   ended_below : (frame : Frame) → FrameBelow n frame → FrameBelow n (ended frame)
   ended_below [] h = tt
-  ended_below (Mark ∷ rest) h = ended_below rest h.1
+  ended_below (LoopEnd ∷ rest) h = ended_below rest h.1
   ended_below (Entry f j ∷ rest) h = ended_below rest h.1
   ended_below (Todo s ∷ rest) h = ended_below rest h.1
   ended_below (Test at decided stepped s ∷ rest) h = ended_below rest h.1
@@ -196,7 +196,7 @@ module _ (n : ℕ) where
   entered_below (Test at false stepped s) _ rest next e h k = absurd (none-some next e)
   entered_below (Entry f j) way rest next e h k = absurd (none-some next e)
   entered_below (After at) way rest next e h k = absurd (none-some next e)
-  entered_below Mark way rest next e h k = absurd (none-some next e)
+  entered_below LoopEnd way rest next e h k = absurd (none-some next e)
   entered_below (End f) way rest next e h k = absurd (none-some next e)
 
   pub taken_below : (turn : Turn) (i : Item) (way : Way) (rest next : Frame) → taken turn i way rest ≡ Some next → ItemBelow n i → FrameBelow n rest → FrameBelow n next
@@ -242,7 +242,7 @@ module _ (n : ℕ) where
   after_below (Test at false stepped s) _ rest next e h k = absurd (none-some next e)
   after_below (After at) OnWay rest next e h k = subst (FrameBelow n) (same_Some _ next e) k
   after_below (After at) _ rest next e h k = absurd (none-some next e)
-  after_below Mark way rest next e h k = absurd (none-some next e)
+  after_below LoopEnd way rest next e h k = absurd (none-some next e)
   after_below (End f) way rest next e h k = absurd (none-some next e)
 
   within_below : (i : Item) (way : Way) (is : Frame) (frames next : List Frame) → option_map (λ next. settle next ∷ frames) (after i way is) ≡ Some next
@@ -288,7 +288,7 @@ module _ (n : ℕ) where
   item_below plan (Todo (For at init decided stepped s)) way is frames next e routines h k m = within_below (Todo (For at init decided stepped s)) way is frames next e h k m
   item_below plan (Test at decided stepped s) way is frames next e routines h k m = within_below (Test at decided stepped s) way is frames next e h k m
   item_below plan (After at) way is frames next e routines h k m = within_below (After at) way is frames next e h k m
-  item_below plan Mark way is frames next e routines h k m = within_below Mark way is frames next e h k m
+  item_below plan LoopEnd way is frames next e routines h k m = within_below LoopEnd way is frames next e h k m
   item_below plan (End f) OnWay is frames next e routines h k m = popped_below frames next e m
   item_below plan (End f) _ is frames next e routines h k m = absurd (none-some next e)
 

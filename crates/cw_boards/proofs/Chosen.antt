@@ -12,7 +12,7 @@ use Rattle.cw_rights.specs.Words.{Word}
 use Rattle.cw_certs.specs.declared.moves.Move.{Move}
 use Rattle.cw_certs.specs.declared.moves.Move.TheVariants.{Skip, Try, Grant, Refuse, On, Left, Right, Opened, Failed, Stop}
 use Rattle.cw_syntax.specs.Plans.{Plain, Break, Continue, Return, Open, Close, Call, Group, Label, If, While, Do, For}
-use Rattle.cw_syntax.specs.Frames.{Item, Entry, Todo, Test, After, Mark, End, Frame, Way}
+use Rattle.cw_syntax.specs.Frames.{Item, Entry, Todo, Test, After, LoopEnd, End, Frame, Way}
 use Rattle.cw_boards.specs.declared.kinds.FrontKind.{FrontKind}
 use Rattle.cw_boards.specs.declared.choices.Phase.{Phase as HeldPhase}
 use Rattle.cw_boards.specs.declared.choices.Phase.TheVariants.{Visit as HeldVisit, Asked as HeldAsked, Refused as HeldRefused, Split as HeldSplit, Over as HeldOver}
@@ -44,7 +44,7 @@ primitives_of policy (Todo (Do at s)) is = refl
 primitives_of policy (Todo (For at init decided stepped s)) is = refl
 primitives_of policy (Test at decided stepped s) is = refl
 primitives_of policy (After at) is = refl
-primitives_of policy Mark is = refl
+primitives_of policy LoopEnd is = refl
 primitives_of policy (End f) is = refl
 
 pub primitives_are : (policy : PlainPolicy) (stack : List Frame) → primitives_at policy stack ≡ primitives_by policy (front_kind stack)
@@ -164,7 +164,7 @@ kept_at mode (Todo (Do at s)) is frames kept = refl
 kept_at mode (Todo (For at init decided stepped s)) is frames kept = refl
 kept_at mode (Test at decided stepped s) is frames kept = refl
 kept_at mode (After at) is frames kept = refl
-kept_at mode Mark is frames kept = refl
+kept_at mode LoopEnd is frames kept = refl
 kept_at mode (End f) is frames [] = refl
 kept_at mode (End f) is frames (k ∷ kept) = refl
 
@@ -186,7 +186,7 @@ caps_at policy (Todo (Do at s)) is frames kept way caps = refl
 caps_at policy (Todo (For at init decided stepped s)) is frames kept way caps = refl
 caps_at policy (Test at decided stepped s) is frames kept way caps = refl
 caps_at policy (After at) is frames kept way caps = refl
-caps_at policy Mark is frames kept way caps = refl
+caps_at policy LoopEnd is frames kept way caps = refl
 caps_at policy (End f) is frames kept way caps = refl
 
 letters_at : (i : Item) (is : Frame) (frames : List Frame) (caps : Caps) → letters ((i ∷ is) ∷ frames) caps ≡ letters_by (item_kind i) caps
@@ -206,7 +206,7 @@ letters_at (Todo (Do at s)) is frames caps = refl
 letters_at (Todo (For at init decided stepped s)) is frames caps = refl
 letters_at (Test at decided stepped s) is frames caps = refl
 letters_at (After at) is frames caps = refl
-letters_at Mark is frames caps = refl
+letters_at LoopEnd is frames caps = refl
 letters_at (End f) is frames caps = refl
 
 abbrev pub Changed : Problem → Board → Option Caps → Way → List Frame → FrontKind → Board
@@ -254,7 +254,7 @@ no_letter_at (Todo (Do at s)) is frames caps e = refl
 no_letter_at (Todo (For at init decided stepped s)) is frames caps e = refl
 no_letter_at (Test at decided stepped s) is frames caps e = refl
 no_letter_at (After at) is frames caps e = refl
-no_letter_at Mark is frames caps e = refl
+no_letter_at LoopEnd is frames caps e = refl
 no_letter_at (End f) is frames caps e = refl
 
 letter_at : (x : Letter) (i : Item) (is : Frame) (frames : List Frame) (caps : Caps) → Some x ≡ reached_letter Free (Some (item_kind i)) caps → letters ((i ∷ is) ∷ frames) caps ≡ x ∷ []
@@ -274,7 +274,7 @@ letter_at x (Todo (Do at s)) is frames caps e = absurd (cc)
 letter_at x (Todo (For at init decided stepped s)) is frames caps e = absurd (cc)
 letter_at x (Test at decided stepped s) is frames caps e = absurd (cc)
 letter_at x (After at) is frames caps e = absurd (cc)
-letter_at x Mark is frames caps e = absurd (cc)
+letter_at x LoopEnd is frames caps e = absurd (cc)
 letter_at x (End f) is frames caps e = absurd (cc)
 
 no_letter : (stack : List Frame) (caps : Caps) → None ≡ reached_letter Free (front_kind stack) caps → letters stack caps ≡ []

@@ -5,7 +5,7 @@ use Rattle.cw_syntax.specs.Plans.{Scene}
 use Rattle.cw_syntax.specs.declared.program.Stmt.{Stmt}
 use Rattle.cw_syntax.specs.Frames.{End, Frame, broken, continued, ended}
 use Rattle.cw_boards.specs.declared.items.Item.{Item as Held}
-use Rattle.cw_boards.specs.declared.items.Item.TheVariants.{Entry, Todo, Nothing, Init, Test, After, Mark, End as HeldEnd}
+use Rattle.cw_boards.specs.declared.items.Item.TheVariants.{Entry, Todo, Nothing, Init, Test, After, LoopEnd, End as HeldEnd}
 use Rattle.cw_boards.specs.Held.{item_of}
 use Rattle.std.specs.Prelude.{Bool}
 
@@ -15,14 +15,14 @@ none_left [] ys e f = refl
 none_left (x ∷ xs) ys e f = let z : length (x ∷ xs) ≡ length xs = ap length e ∙ ap length f in absurd (omega arith)
 
 module _ (s : Scene) where
-  pub broken_other : (i : Held) (rest : Frame) → (i ≢ Mark) → broken (item_of s i ∷ rest) ≡ broken rest
+  pub broken_other : (i : Held) (rest : Frame) → (i ≢ LoopEnd) → broken (item_of s i ∷ rest) ≡ broken rest
   broken_other (Entry f j) rest h = refl
   broken_other (Todo st j) rest h = refl
   broken_other Nothing rest h = refl
   broken_other (Init at) rest h = refl
   broken_other (Test at d t b j) rest h = refl
   broken_other (After at) rest h = refl
-  broken_other Mark rest h = absurd (h refl)
+  broken_other LoopEnd rest h = absurd (h refl)
   broken_other (HeldEnd f) rest h = refl
 
   pub continued_other : (i : Held) (rest : Frame) → ((at : ℕ) (d t : Bool) (b : Bor Stmt) (j : ℕ) → i ≢ Test at d t b j) → ((at : ℕ) → i ≢ After at) → continued (item_of s i ∷ rest) ≡ continued rest
@@ -32,7 +32,7 @@ module _ (s : Scene) where
   continued_other (Init at) rest h k = refl
   continued_other (Test at d t b j) rest h k = absurd (h at d t b j refl)
   continued_other (After at) rest h k = absurd (k at refl)
-  continued_other Mark rest h k = refl
+  continued_other LoopEnd rest h k = refl
   continued_other (HeldEnd f) rest h k = refl
 
   pub continued_stays : (i : Held) (rest : Frame) → ((x : ℕ) × (x' : Bool) × (x'' : Bool) × (x3 : Bor Stmt) × (x4 : ℕ) × (i ≡ Test x x' x'' x3 x4)) ⊎ ((x : ℕ) × (i ≡ After x))
@@ -47,7 +47,7 @@ module _ (s : Scene) where
   ended_other (Init at) rest h = refl
   ended_other (Test at d t b j) rest h = refl
   ended_other (After at) rest h = refl
-  ended_other Mark rest h = refl
+  ended_other LoopEnd rest h = refl
   ended_other (HeldEnd f) rest h = absurd (h f refl)
 
 -- one end more

@@ -9,7 +9,7 @@ use Rattle.std.specs.declared.alloc.Global.{Global}
 use Rattle.cw_syntax.specs.declared.program.Function.{Function}
 use Rattle.cw_syntax.specs.Trees.{definition_of}
 use Rattle.cw_syntax.specs.Plans.{Scene, Plain, Break, Continue, Return, Open, Close, Call, Group, Label, If, While, Do, For, Plan, routines_from}
-use Rattle.cw_syntax.specs.Frames.{Item, Entry, Todo, Test, After, Mark, End, Frame, Way, broken, continued, pass, frame_of, new_frame}
+use Rattle.cw_syntax.specs.Frames.{Item, Entry, Todo, Test, After, LoopEnd, End, Frame, Way, broken, continued, pass, frame_of, new_frame}
 use Rattle.cw_rights.specs.declared.capabilities.Caps.{Caps}
 use Rattle.cw_rights.specs.declared.capabilities.Primitive.{Primitive}
 use Rattle.cw_rights.specs.Policies.{PlainPolicy}
@@ -67,8 +67,8 @@ may_is plan (Test at false stepped s) On is frames = refl
 may_is plan (Test at false stepped s) _ is frames = refl
 may_is plan (After at) On is frames = refl
 may_is plan (After at) _ is frames = refl
-may_is plan Mark On is frames = refl
-may_is plan Mark _ is frames = refl
+may_is plan LoopEnd On is frames = refl
+may_is plan LoopEnd _ is frames = refl
 may_is plan (End f) On is frames = refl
 may_is plan (End f) _ is frames = refl
 

@@ -6,7 +6,7 @@ use Rattle.cw_syntax.specs.declared.program.Stmt.{Stmt}
 use Rattle.cw_syntax.specs.declared.program.Head.{Head, out-Head}
 use Rattle.cw_syntax.specs.declared.program.What.TheVariants.{Block, For as ForWhat}
 use Rattle.cw_syntax.specs.Plans.{Stm, Group, Stms, end, then, Scene, numbered, numbered_all}
-use Rattle.cw_syntax.specs.Frames.{Todo, Test, Mark, Frame, items_of, init_if, settle}
+use Rattle.cw_syntax.specs.Frames.{Todo, Test, LoopEnd, Frame, items_of, init_if, settle}
 use Rattle.cw_boards.specs.declared.items.Item.{Item as Held}
 use Rattle.cw_boards.specs.declared.frames.Rewritten.TheVariants.{More}
 use Rattle.cw_resolve.specs.Scenes.{stm_in, stms_in}
@@ -42,14 +42,14 @@ module _ (s : Scene) where
       more st (Group (stms_in s v.items)) j rest (items_of ss rest) d (block_steps s st.from st.what v e) f (sym (settle_all ss rest)) l
 
   abbrev Looped : ℕ → Bool → Bool → Stmt → ℕ → Frame → Frame
-  Looped at decided stepped body j rest = Test at decided stepped (numbered (stm_in s body) j) ∷ (Mark ∷ rest)
+  Looped at decided stepped body j rest = Test at decided stepped (numbered (stm_in s body) j) ∷ (LoopEnd ∷ rest)
 
   init_settles : (init : Option ℕ) (at : ℕ) (decided stepped : Bool) (b : Stm) (rest : Frame)
-      → settle (init_if init (Test at decided stepped b ∷ (Mark ∷ rest))) ≡ init_if init (Test at decided stepped b ∷ (Mark ∷ rest))
+      → settle (init_if init (Test at decided stepped b ∷ (LoopEnd ∷ rest))) ≡ init_if init (Test at decided stepped b ∷ (LoopEnd ∷ rest))
   init_settles None at decided stepped b rest = refl
   init_settles (Some i) at decided stepped b rest = refl
 
-  init_weighs : (init : Option ℕ) (at : ℕ) (decided stepped : Bool) (b : Stm) (rest : Frame) → frame_weight (init_if init (Test at decided stepped b ∷ (Mark ∷ rest))) < 4 + frame_weight rest
+  init_weighs : (init : Option ℕ) (at : ℕ) (decided stepped : Bool) (b : Stm) (rest : Frame) → frame_weight (init_if init (Test at decided stepped b ∷ (LoopEnd ∷ rest))) < 4 + frame_weight rest
   init_weighs None at decided stepped b rest = omega arith
   init_weighs (Some i) at decided stepped b rest = omega arith
 

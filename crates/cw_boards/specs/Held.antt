@@ -11,13 +11,13 @@ use Rattle.cw_syntax.specs.Names.{number_or_other}
 use Rattle.cw_syntax.specs.Trees.{definition_of, file_of}
 use Rattle.cw_syntax.specs.declared.program.Function.{Function}
 use Rattle.cw_syntax.specs.Plans.{Plain, Group, end, Scene, numbered, seams_all, routines_from, Plan}
-use Rattle.cw_syntax.specs.Frames.{Item, Entry, Todo, Test, After as AfterItem, Mark, End, Frame}
+use Rattle.cw_syntax.specs.Frames.{Item, Entry, Todo, Test, After as AfterItem, LoopEnd, End, Frame}
 use Rattle.cw_resolve.specs.Scenes.{scene_in, stm_in, stms_in}
 use Rattle.cw_model.specs.Boards.{Problem, problem_of, Phase, Asked, Refused, FreeSplit, Over, Board, primitives_in, onward, Violates, Moves}
 use Rattle.cw_boards.specs.Numbered.{most_seams, StackBelow}
 use Rattle.cw_boards.specs.declared.items.Item.{Item as Held}
 use Rattle.cw_boards.specs.declared.items.Item.TheVariants.{Entry as HeldEntry, Todo as HeldTodo, Nothing as HeldNothing, Init as HeldInit, Test as HeldTest, After as HeldAfter}
-use Rattle.cw_boards.specs.declared.items.Item.TheVariants.{Mark as HeldMark, End as HeldEnd}
+use Rattle.cw_boards.specs.declared.items.Item.TheVariants.{LoopEnd as HeldLoopEnd, End as HeldEnd}
 use Rattle.cw_boards.specs.declared.choices.Phase.{Phase as HeldPhase}
 use Rattle.cw_boards.specs.declared.choices.Phase.TheVariants.{Visit as HeldVisit, Asked as HeldAsked, Refused as HeldRefused, Split as HeldSplit, Over as HeldOver}
 use Rattle.cw_boards.specs.declared.boards.State.{State}
@@ -43,7 +43,7 @@ item_of s HeldNothing = Todo (Group end)
 item_of s (HeldInit at) = Todo (Plain at)
 item_of s (HeldTest at decided stepped body j) = Test at decided stepped (numbered (stm_in s body.now) j)
 item_of s (HeldAfter at) = AfterItem at
-item_of s HeldMark = Mark
+item_of s HeldLoopEnd = LoopEnd
 item_of s (HeldEnd f) = End f
 
 abbrev pub frame_in : Scene → VecDeque Held Global → Frame

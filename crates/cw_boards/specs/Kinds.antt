@@ -1,13 +1,13 @@
 -- Working definitions: what a front item does, without what stands in it or behind it.
 use Rattle.std.specs.Prelude.{Option, Some, None, List, [], ◌∷◌}
 use Rattle.cw_syntax.specs.Plans.{Stm, Plain, Break, Continue, Return, Open, Close, Call, Group, Label, If, While, Do, For}
-use Rattle.cw_syntax.specs.Frames.{Item, Entry, Todo, Test, After, Mark, End, Frame}
+use Rattle.cw_syntax.specs.Frames.{Item, Entry, Todo, Test, After, LoopEnd, End, Frame}
 use Rattle.cw_resolve.specs.declared.actions.Act.{Act}
 use Rattle.cw_resolve.specs.declared.actions.Act.TheVariants.{Computes as ComputesAct, Opens as OpensAct, Closes as ClosesAct, Invokes as InvokesAct}
 use Rattle.cw_boards.specs.declared.kinds.FrontKind.{FrontKind}
 use Rattle.cw_boards.specs.declared.kinds.FrontKind.TheVariants.{Entry as EntryKind, Plain as PlainKind, Break as BreakKind, Continue as ContinueKind, Return as ReturnKind, Open as OpenKind}
 use Rattle.cw_boards.specs.declared.kinds.FrontKind.TheVariants.{Close as CloseKind, Call as CallKind, Group as GroupKind, Label as LabelKind, If as IfKind, Loop as LoopKind, Test as TestKind}
-use Rattle.cw_boards.specs.declared.kinds.FrontKind.TheVariants.{Step as StepKind, Mark as MarkKind, End as EndKind}
+use Rattle.cw_boards.specs.declared.kinds.FrontKind.TheVariants.{Step as StepKind, LoopEnd as LoopEndKind, End as EndKind}
 
 abbrev pub act_kind : Act → FrontKind
 act_kind ComputesAct = PlainKind
@@ -35,7 +35,7 @@ item_kind (Entry f j) = EntryKind
 item_kind (Todo s) = kind_of s
 item_kind (Test at decided stepped s) = TestKind decided
 item_kind (After at) = StepKind
-item_kind Mark = MarkKind
+item_kind LoopEnd = LoopEndKind
 item_kind (End f) = EndKind
 
 -- the kind of the front item of the top frame

@@ -1,7 +1,7 @@
 -- Seams whose numbers fit 64 bits, each with the number behind it.
 use Rattle.std.specs.Prelude.{ℕ, ◌-◌, ◌^◌, ◌<◌, List, [], ◌∷◌, min}
 use Rattle.cw_syntax.specs.Plans.{Stm, Plain, Break, Continue, Return, Open, Close, Call, Group, Label, If, While, Do, For, Stms, end, then}
-use Rattle.cw_syntax.specs.Frames.{Item, Entry, Todo, Test, After, Mark, End, Frame}
+use Rattle.cw_syntax.specs.Frames.{Item, Entry, Todo, Test, After, LoopEnd, End, Frame}
 
 -- the greatest number of 64 bits: a source of boards has no more seams
 abbrev pub most_seams : ℕ
@@ -38,7 +38,7 @@ ItemBelow n (Entry f j) = j < n
 ItemBelow n (Todo s) = SeamsBelow n s
 ItemBelow n (Test at decided stepped s) = SeamsBelow n s
 ItemBelow n (After at) = Unit {0}
-ItemBelow n Mark = Unit {0}
+ItemBelow n LoopEnd = Unit {0}
 ItemBelow n (End f) = Unit {0}
 
 abbrev pub FrameBelow : ℕ → Frame → Type 0

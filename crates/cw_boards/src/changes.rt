@@ -58,7 +58,7 @@ pub(crate) fn kept_after(
         FrontKind::Close(_) => Ok(kept),
         FrontKind::Label(_) => Ok(kept),
         FrontKind::Test(_) => Ok(kept),
-        FrontKind::Group | FrontKind::If | FrontKind::Loop | FrontKind::Step | FrontKind::Mark =>
+        FrontKind::Group | FrontKind::If | FrontKind::Loop | FrontKind::Step | FrontKind::LoopEnd =>
             Ok(kept),
     }
 }
@@ -134,7 +134,7 @@ pub(crate) fn caps_after(
         FrontKind::Call { .. } => caps,
         FrontKind::Label(_) => caps,
         FrontKind::Test(_) => caps,
-        FrontKind::Group | FrontKind::If | FrontKind::Loop | FrontKind::Step | FrontKind::Mark =>
+        FrontKind::Group | FrontKind::If | FrontKind::Loop | FrontKind::Step | FrontKind::LoopEnd =>
             caps,
     }
 }
@@ -165,7 +165,7 @@ pub(crate) fn with_letter(
         | FrontKind::If
         | FrontKind::Loop
         | FrontKind::Step
-        | FrontKind::Mark
+        | FrontKind::LoopEnd
         | FrontKind::End => Ok(word),
     }
 }

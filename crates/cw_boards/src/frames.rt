@@ -2,7 +2,7 @@
 
 ghost use Rattle.std.specs.Prelude.{◌≡◌, ◌∷◌, IfOk, option_map, is_some};
 ghost use Rattle.cw_syntax.specs.Plans.{Scene, numbered, numbered_all};
-ghost use Rattle.cw_syntax.specs.Frames.{Todo, Test, Mark, items_of, init_if, settle, broken, continued, ended};
+ghost use Rattle.cw_syntax.specs.Frames.{Todo, Test, LoopEnd, items_of, init_if, settle, broken, continued, ended};
 ghost use Rattle.cw_syntax.specs.declared.program.Head.{out-Head};
 ghost use Rattle.cw_resolve.specs.Scenes.{stm_in, stms_in};
 ghost use Rattle.cw_boards.specs.Held.{item_of, frame_in};
@@ -72,7 +72,7 @@ fn rewrite<'s>(
     ensures { IfOk result (λ r. Rewrites scene.now (item_of scene.now item.entry ∷ frame_in scene.now rest.entry) r) }
 {
     match item {
-        Item::Mark | Item::Nothing => Ok(Rewritten::More(rest)),
+        Item::LoopEnd | Item::Nothing => Ok(Rewritten::More(rest)),
         Item::Todo { statement, seam } => rewrite_statement(scene, statement, seam, rest),
         _ => Ok(Rewritten::Last(put(rest, item)?)),
     }
@@ -122,7 +122,7 @@ fn rewrite_statement<'s>(
     }
 }
 
-/// A loop's test and its mark, before a frame.
+/// A loop's test and its end, before a frame.
 fn looped<'s>(
     rest: VecDeque<Item<'s>>,
     at: u32,
@@ -131,7 +131,7 @@ fn looped<'s>(
     body: &'s Stmt,
     seam: usize,
 ) -> Result<VecDeque<Item<'s>>, AllocError>
-    ensures { IfOk result (λ next. (s : Scene) → frame_in s next ≡ Test at decided stepped (numbered (stm_in s body.now) seam) ∷ (Mark ∷ frame_in s rest.entry)) }
+    ensures { IfOk result (λ next. (s : Scene) → frame_in s next ≡ Test at decided stepped (numbered (stm_in s body.now) seam) ∷ (LoopEnd ∷ frame_in s rest.entry)) }
 {
     let test = Item::Test {
         at,
@@ -140,10 +140,10 @@ fn looped<'s>(
         body,
         seam,
     };
-    put(put(rest, Item::Mark)?, test)
+    put(put(rest, Item::LoopEnd)?, test)
 }
 
-/// The init, test and mark of a `for`, before a frame.
+/// The init, test and end of a `for`, before a frame.
 fn for_loop<'s>(
     head: &Head,
     at: u32,
@@ -151,7 +151,7 @@ fn for_loop<'s>(
     seam: usize,
     rest: VecDeque<Item<'s>>,
 ) -> Result<VecDeque<Item<'s>>, AllocError>
-    ensures { IfOk result (λ next. (s : Scene) → frame_in s next ≡ init_if (option_map (λ i. i.from) (out-Head head.now).init) (Test at (is_some (out-Head head.now).test) (is_some (out-Head head.now).step) (numbered (stm_in s body.now) seam) ∷ (Mark ∷ frame_in s rest.entry))) }
+    ensures { IfOk result (λ next. (s : Scene) → frame_in s next ≡ init_if (option_map (λ i. i.from) (out-Head head.now).init) (Test at (is_some (out-Head head.now).test) (is_some (out-Head head.now).step) (numbered (stm_in s body.now) seam) ∷ (LoopEnd ∷ frame_in s rest.entry))) }
 {
     let decided = head.test.is_some();
     let stepped = head.step.is_some();
@@ -190,12 +190,12 @@ pub(crate) fn settle<'s>(
     Ok(frame)
 }
 
-/// `break`: all up to and with the first mark is dropped.
+/// `break`: all up to and with the first loop end is dropped.
 pub(crate) fn broken<'s>(mut frame: VecDeque<Item<'s>>) -> Option<VecDeque<Item<'s>>>
     ensures { (s : Scene) → option_map (frame_in s) result ≡ broken (frame_in s frame.entry) }
 {
     while let Some(item) = frame.pop_front() {
-        if let Item::Mark = item {
+        if let Item::LoopEnd = item {
             return Some(frame);
         }
     }

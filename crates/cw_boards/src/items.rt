@@ -28,6 +28,6 @@ pub(crate) enum Item<'s> {
     /// The step of a `for`, by its place.
     After(u32),
     /// The end of a loop.
-    Mark,
+    LoopEnd,
     End(usize),
 }

@@ -28,7 +28,7 @@ pub(crate) enum FrontKind {
     Loop,
     Test(bool),
     Step,
-    Mark,
+    LoopEnd,
     End,
 }
 
@@ -79,7 +79,7 @@ pub(crate) fn item_kind(scene: &Scene, item: &Item) -> FrontKind
         Item::Init(_) => FrontKind::Plain,
         Item::Test { decided, .. } => FrontKind::Test(*decided),
         Item::After(_) => FrontKind::Step,
-        Item::Mark => FrontKind::Mark,
+        Item::LoopEnd => FrontKind::LoopEnd,
         Item::End(_) => FrontKind::End,
     }
 }

@@ -40,11 +40,11 @@ pub struct Moves {
 }
 
 /// Whether a `break` has a loop to leave.
-fn has_mark(frame: &VecDeque<Item>) -> bool
+fn has_loop_end(frame: &VecDeque<Item>) -> bool
     ensures { (s : Scene) → result ≡ is_some (broken (frame_in s frame.now)) }
 {
     for i in 0..frame.len() {
-        if let Item::Mark = frame[i] {
+        if let Item::LoopEnd = frame[i] {
             return true;
         }
     }
@@ -93,7 +93,7 @@ fn may_turn(
 {
     match turn {
         Turn::Passes | Turn::Ends | Turn::Enters => true,
-        Turn::Breaks => has_mark(frame),
+        Turn::Breaks => has_loop_end(frame),
         Turn::Continues => has_turn(frame),
         Turn::Calls(number) => has_function(checked, policy, number),
         Turn::Returns => has_below(stack),

@@ -199,7 +199,7 @@ fn enter<'s>(
             seam,
         } => enter_test(at, decided, stepped, body, seam, way, rest),
         Item::Entry { .. } | Item::Nothing | Item::Init(_) => Ok(None),
-        Item::After(_) | Item::Mark | Item::End(_) => Ok(None),
+        Item::After(_) | Item::LoopEnd | Item::End(_) => Ok(None),
     }
 }
 

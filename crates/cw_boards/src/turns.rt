@@ -48,7 +48,7 @@ fn on(kind: FrontKind) -> Turn
         FrontKind::Call { function, split: _ } => Turn::Calls(function),
         FrontKind::End => Turn::Returns,
         FrontKind::Open(_) => Turn::Stops,
-        FrontKind::Group | FrontKind::If | FrontKind::Loop | FrontKind::Mark => Turn::Stops,
+        FrontKind::Group | FrontKind::If | FrontKind::Loop | FrontKind::LoopEnd => Turn::Stops,
     }
 }
 

@@ -11,7 +11,7 @@ use Rattle.cw_syntax.specs.Trees.{definition_of, file_of}
 use Rattle.cw_syntax.specs.Plans.{function_names}
 use Rattle.cw_rights.specs.Policies.{PlainPolicy}
 use Rattle.cw_resolve.specs.Scenes.{names_of}
-use Rattle.cw_resolve.proofs.Bounds.{place_within}
+use Rattle.cw_resolve.proofs.Bounds.{index_within}
 use Rattle.cw_callgraph.specs.declared.table.Effect.{Effect}
 use Rattle.cw_callgraph.specs.Lowest.{at}
 use Rattle.cw_callgraph.specs.Forbidding.{IsLeast, Forbids}
@@ -44,7 +44,7 @@ pub named_within : (checked : Checked) (name : List ℕ) (f n : ℕ) → number_
     → n ≡ length checked.program.functions.items → f < n
 named_within checked name f n e count =
     let names = function_names checked.source.now (file_of checked.program) in
-    let l : f < length names = place_within (bytes_eq name) names f e in
+    let l : f < length names = index_within (bytes_eq name) names f e in
     let a : length names ≡ length (map definition_of checked.program.functions.items) = length-map (map definition_of checked.program.functions.items) (λ f. text checked.source.now f.name) in
     let b = length-map checked.program.functions.items definition_of in
     omega (arith, l, a, b, count)

@@ -22,7 +22,7 @@ mutual
   numbered_callees (Close at i d) j = refl
   numbered_callees (Call at i callee) j = refl
   numbered_callees (Group ss) j = all_numbered ss j
-  numbered_callees (Label at mark i l s) j = numbered_callees s (j + 1)
+  numbered_callees (Label at flag i l s) j = numbered_callees s (j + 1)
   numbered_callees (If at s t) j = ap₂ (λ x y. x ++ y) (numbered_callees s j) (numbered_callees t (j + seams s))
   numbered_callees (While at s) j = numbered_callees s j
   numbered_callees (Do at s) j = numbered_callees s j

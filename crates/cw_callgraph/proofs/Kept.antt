@@ -132,26 +132,26 @@ pub firsts_from : (gs : List ℕ) → with_all [] gs ≡ firsts gs
 firsts_from gs = firsts_are [] gs ∙ all_outside (firsts gs)
 
 -- one number is found that was not
-pub newly : (before after : Found) (n : ℕ) → n < length before.marks.items → IsFound before → get_or before.marks.items n false ≡ false → after.marks.items ≡ set before.marks.items n true → after.numbers.items ≡ before.numbers.items ++ n ∷ [] → Finds (n ∷ []) before after
+pub newly : (before after : Found) (n : ℕ) → n < length before.flags.items → IsFound before → get_or before.flags.items n false ≡ false → after.flags.items ≡ set before.flags.items n true → after.numbers.items ≡ before.numbers.items ++ n ∷ [] → Finds (n ∷ []) before after
 newly before after n l s free e f = record {
   numbers = f ∙ sym (ap (λ b. cond b before.numbers.items (before.numbers.items ++ n ∷ [])) absent);
-  sound = record { marked = λ g. ap (λ ms. get_or ms g false) e ∙ at (nat_eq g n) g refl ∙ sym (ap (λ ns. has ns g) f); apart = subst (IsDistinct nat_eq) (sym f) (IsDistinct-push nat_eq_equiv before.numbers.items n s.apart absent) };
-  wide = ap length e ∙ length-set before.marks.items n true;
+  sound = record { flagged = λ g. ap (λ ms. get_or ms g false) e ∙ at (nat_eq g n) g refl ∙ sym (ap (λ ns. has ns g) f); apart = subst (IsDistinct nat_eq) (sym f) (IsDistinct-push nat_eq_equiv before.numbers.items n s.apart absent) };
+  wide = ap length e ∙ length-set before.flags.items n true;
 }
   where
     absent : has before.numbers.items n ≡ false
-    absent = sym (s.marked n) ∙ free
+    absent = sym (s.flagged n) ∙ free
 
-    at : (b : Bool) (g : ℕ) → nat_eq g n ≡ b → get_or (set before.marks.items n true) g false ≡ has (before.numbers.items ++ n ∷ []) g
+    at : (b : Bool) (g : ℕ) → nat_eq g n ≡ b → get_or (set before.flags.items n true) g false ≡ has (before.numbers.items ++ n ∷ []) g
     at true g q =
         let z : g ≡ n = eqb-true g n q in
-        ap (λ k. get_or (set before.marks.items n true) k false) z
-        ∙ get_or-set_same before.marks.items n true false l
+        ap (λ k. get_or (set before.flags.items n true) k false) z
+        ∙ get_or-set_same before.flags.items n true false l
         ∙ sym (list_any-append (nat_eq g) before.numbers.items (n ∷ []) ∙ or_right (has before.numbers.items g) (nat_eq g n || false) (ap (λ b. b || false) q))
     at false g q =
         let z : g ≢ n = λ e. let k : nat_eq g n ≡ true = eq-eqb g n e in let y : false ≡ true = sym q ∙ k in absurd (cc) in
-        get_or-set_other before.marks.items n g true false z
-        ∙ s.marked g
+        get_or-set_other before.flags.items n g true false z
+        ∙ s.flagged g
         ∙ sym (list_any-append (nat_eq g) before.numbers.items (n ∷ []) ∙ ap (λ b. has before.numbers.items g || (b || false)) q ∙ or_false (has before.numbers.items g))
 
 none_apart : IsDistinct nat_eq []
@@ -159,9 +159,9 @@ unfolding IsDistinct
 none_apart = tt
 
 -- before any number is found
-pub nothing_found : (n : ℕ) (found : Found) → found.numbers.items ≡ [] → found.marks.items ≡ replicate n false → IsFound found
+pub nothing_found : (n : ℕ) (found : Found) → found.numbers.items ≡ [] → found.flags.items ≡ replicate n false → IsFound found
 nothing_found n found e f = record {
-  marked = λ g. ap (λ ms. get_or ms g false) f ∙ unmarked n g ∙ sym (ap (λ ns. has ns g) e);
+  flagged = λ g. ap (λ ms. get_or ms g false) f ∙ unmarked n g ∙ sym (ap (λ ns. has ns g) e);
   apart = subst (IsDistinct nat_eq) (sym e) none_apart;
 }
   where
@@ -184,14 +184,14 @@ finds_both xs ys a b c f g = record {
 pub below_at : (n : ℕ) (xs : List ℕ) (i x : ℕ) → AreBelow n xs → i < length xs → x ≡ get_or xs i x → x < n
 below_at n xs i x b l e = b x (list_any_at (nat_eq x) xs i x l (eq-eqb x (get_or xs i x) e))
 
--- what is found is below the number of the marks
-pub found_below : (found : Found) → IsFound found → AreBelow (length found.marks.items) found.numbers.items
-found_below found s g h = by (nat_lt g (length found.marks.items)) refl
+-- what is found is below the number of the flags
+pub found_below : (found : Found) → IsFound found → AreBelow (length found.flags.items) found.numbers.items
+found_below found s g h = by (nat_lt g (length found.flags.items)) refl
   where
-    by : (b : Bool) → nat_lt g (length found.marks.items) ≡ b → g < length found.marks.items
-    by true e = ltb-true g (length found.marks.items) e
+    by : (b : Bool) → nat_lt g (length found.flags.items) ≡ b → g < length found.flags.items
+    by true e = ltb-true g (length found.flags.items) e
     by false e =
-        let k : length found.marks.items ≤ g = ltb-false g (length found.marks.items) e in
-        let z : get_or found.marks.items g false ≡ false = get_or_past found.marks.items g false k in
-        let y : false ≡ true = sym z ∙ s.marked g ∙ h in
+        let k : length found.flags.items ≤ g = ltb-false g (length found.flags.items) e in
+        let z : get_or found.flags.items g false ≡ false = get_or_past found.flags.items g false k in
+        let y : false ≡ true = sym z ∙ s.flagged g ∙ h in
         absurd (cc)

@@ -90,9 +90,9 @@ module _ (next : ℕ → List ℕ) (f : ℕ) where
     λ g. (λ c. (r g).0 (Contains-permutation sorted found g (IsPermutation-sym found sorted p) c), λ q. Contains-permutation found sorted g p ((r g).1 q)),
   )
 
--- no more is found than there are marks
-pub few : (found : Found) → IsFound found → length found.numbers.items ≤ length found.marks.items
-few found s = length-le_from_distinct_below found.numbers.items (length found.marks.items) s.apart (found_below found s)
+-- no more is found than there are flags
+pub few : (found : Found) → IsFound found → length found.numbers.items ≤ length found.flags.items
+few found s = length-le_from_distinct_below found.numbers.items (length found.flags.items) s.apart (found_below found s)
 
 pub below_in_order : (n : ℕ) (found sorted : List ℕ) → AreBelow n found → IsPermutation found sorted → AreBelow n sorted
 below_in_order n found sorted below p = λ g h. below g (had found g (Contains-permutation sorted found g (IsPermutation-sym found sorted p) (contained sorted g h)))

@@ -14,7 +14,7 @@ abbrev mutual
   callees (Close at j d) = []
   callees (Call at j callee) = callee.number ∷ []
   callees (Group ss) = callees_all ss
-  callees (Label at mark j l s) = callees s
+  callees (Label at flag j l s) = callees s
   callees (If at s t) = callees s ++ callees t
   callees (While at s) = callees s
   callees (Do at s) = callees s

@@ -23,16 +23,16 @@ abbrev pub with_all : List ℕ → List ℕ → List ℕ
 with_all found [] = found
 with_all found (g ∷ gs) = with_all (with_one found g) gs
 
--- the marks are those of the numbers, and each number stands there once
+-- the flags are those of the numbers, and each number stands there once
 pub record IsFound (found : Found) : Type 0 where
-  pub marked : (g : ℕ) → slice_index_or found.marks.items g false ≡ has found.numbers.items g
+  pub flagged : (g : ℕ) → slice_index_or found.flags.items g false ≡ has found.numbers.items g
   pub apart : IsDistinct (λ g h. g == h) found.numbers.items
 
 -- these numbers were found, one after the other
 pub record Finds (gs : List ℕ) (before after : Found) : Type 0 where
   pub numbers : after.numbers.items ≡ with_all before.numbers.items gs
   pub sound : IsFound after
-  pub wide : length after.marks.items ≡ length before.marks.items
+  pub wide : length after.flags.items ≡ length before.flags.items
 
 abbrev pub AreBelow : ℕ → List ℕ → Type 0
 AreBelow n found = (g : ℕ) → has found g ≡ true → g < n

@@ -116,7 +116,7 @@ module _ (s : Scene) (file : List Known) where
 
     pub known_in : Form → List Known
     known_in (Declares d) = locals s.source file d
-    known_in (Labels name mark body) = known_after body
+    known_in (Labels name flag body) = known_after body
     known_in _ = []
 
   abbrev pub known_after_all : Statements → List Known
@@ -151,7 +151,7 @@ module _ (s : Scene) (file : List Known) where
     formed inner at (Declares d) = declared s.source file inner d
     formed inner at (Evaluates e) = place_if (is_seam (action_of s e)) at ++ places s.source file inner Value e
     formed inner at Empties = []
-    formed inner at (Labels name mark body) = stated inner body
+    formed inner at (Labels name flag body) = stated inner body
     formed inner at (Chooses test arm other) = places s.source file inner Value test ++ stated inner arm ++ stated_arm inner other
     formed inner at (Whiles test body) = places s.source file inner Value test ++ stated inner body
     formed inner at (Does body test) = stated inner body ++ places s.source file inner Value test

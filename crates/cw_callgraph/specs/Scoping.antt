@@ -32,15 +32,15 @@ is_parameter (Some Parameter) = true
 is_parameter _ = false
 
 -- The names at file scope, before or behind the function: a name that any declaration gives brackets is an array.
-abbrev pub has_kind : Bool → Declared → Bool
-has_kind true i = is_some i.array
-has_kind false i = is_none i.array
+abbrev pub has_shape : Bool → Declared → Bool
+has_shape true i = is_some i.array
+has_shape false i = is_none i.array
 
 abbrev pub global : Bool → Declared → Known
 global arrays i = record { name = i.name; means = cond arrays Array Variable }
 
 abbrev pub globals_in : Bool → Declaration → List Known
-globals_in arrays d = map (global arrays) (filter (has_kind arrays) d.items)
+globals_in arrays d = map (global arrays) (filter (has_shape arrays) d.items)
 
 abbrev pub file_scope : File → List Known
 file_scope file = flat_map (globals_in false) file.globals ++ flat_map (globals_in true) file.globals

@@ -17,7 +17,7 @@ use std::alloc::Global;
 /// The function that an expression statement calls is found.
 fn find_callee(scene: &Scene, e: &Expr, found: &mut Found) -> Result<(), NoMemory>
     requires few { length scene.now.functions ≤ 65535 }
-    requires wide { length found.old.marks.items ≡ length scene.now.functions }
+    requires wide { length found.old.flags.items ≡ length scene.now.functions }
     requires sound { IsFound found.old }
     ensures { IfOk result (λ _. Finds (callees (acting (action_of scene.now (tree_of e.now)) 0)) found.old found.new) }
 {
@@ -31,7 +31,7 @@ fn find_callee(scene: &Scene, e: &Expr, found: &mut Found) -> Result<(), NoMemor
 #[cycle(callees)]
 fn find_callees(scene: &Scene, statement: &Stmt, found: &mut Found) -> Result<(), NoMemory>
     requires few { length scene.now.functions ≤ 65535 }
-    requires wide { length found.old.marks.items ≡ length scene.now.functions }
+    requires wide { length found.old.flags.items ≡ length scene.now.functions }
     requires sound { IsFound found.old }
     ensures { IfOk result (λ _. Finds (callees (stm_in scene.now statement.now)) found.old found.new) }
 {
@@ -61,7 +61,7 @@ fn find_callees_of_all(
     found: &mut Found,
 ) -> Result<(), NoMemory>
     requires few { length scene.now.functions ≤ 65535 }
-    requires wide { length found.old.marks.items ≡ length scene.now.functions }
+    requires wide { length found.old.flags.items ≡ length scene.now.functions }
     requires sound { IsFound found.old }
     ensures { IfOk result (λ _. Finds (callees_all (stms_in scene.now statements.now)) found.old found.new) }
 {

@@ -3,7 +3,7 @@
 ghost use Rattle.std.specs.Prelude.{◌≡◌, None, ◌++◌, map, IfOk};
 ghost use Rattle.std.specs.List.{filter, flat_map};
 ghost use Rattle.cw_syntax.specs.Trees.{declared_of, declaration_of, file_of};
-ghost use Rattle.cw_callgraph.specs.Scoping.{latest, name_means, meaning_at, is_shared, is_array, is_parameter, has_kind, global, globals_in, file_scope, parameters, local_meaning};
+ghost use Rattle.cw_callgraph.specs.Scoping.{latest, name_means, meaning_at, is_shared, is_array, is_parameter, has_shape, global, globals_in, file_scope, parameters, local_meaning};
 
 use cw_core::NoMemory;
 use cw_syntax::names::{slice, text};
@@ -96,8 +96,8 @@ pub(crate) fn is_parameter(means: Option<Meaning>) -> bool
 }
 
 /// Whether a declared name is an array, or whether it is none.
-fn has_kind(arrays: bool, item: &Item) -> bool
-    ensures { result ≡ has_kind arrays (declared_of item.now) }
+fn has_shape(arrays: bool, item: &Item) -> bool
+    ensures { result ≡ has_shape arrays (declared_of item.now) }
 {
     if arrays {
         item.array.is_some()
@@ -122,10 +122,10 @@ fn global(arrays: bool, item: &Item) -> Known
 
 /// Appends the arrays of a declaration, or its other names.
 fn put_items(arrays: bool, items: &[Item], out: &mut Vec<Known>) -> Result<(), NoMemory>
-    ensures { IfOk result (λ _. out.new.items ≡ out.old.items ++ map (global arrays) (filter (has_kind arrays) (map declared_of items.now))) }
+    ensures { IfOk result (λ _. out.new.items ≡ out.old.items ++ map (global arrays) (filter (has_shape arrays) (map declared_of items.now))) }
 {
     for item in items {
-        if has_kind(arrays, item) {
+        if has_shape(arrays, item) {
             out.push(global(arrays, item))?;
         }
     }

@@ -93,7 +93,7 @@ impl Cells {
         }
     }
 
-    /// Writes a cell; nothing where the place is past the last. The one error is want of memory, which changes nothing.
+    /// Writes a cell; nothing where the index is past the last. The one error is want of memory, which changes nothing.
     #[inline(always)]
     pub fn set(&mut self, at: usize, cell: Option<i64>) -> Result<(), NoMemory>
         ensures written { OnOk result (self.new ≡ slice_set self.old at cell) }
@@ -164,7 +164,7 @@ impl Cells {
     }
 }
 
-/// Adds entries until there is one at this place.
+/// Adds entries until there is one at this index.
 #[inline(always)]
 fn reach(entries: &mut Vec<Entry>, at: usize, past: Entry) -> Result<(), NoMemory>
     requires few { at < 18446744073709551615 }

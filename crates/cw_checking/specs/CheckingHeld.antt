@@ -7,7 +7,7 @@ use Rattle.cw_game.specs.Games.{Game}
 use Rattle.cw_game.specs.Conditions.{table_fault, IsGoodTable}
 use Rattle.cw_game.specs.Standing.{IsGameOf}
 use Rattle.cw_wcheck.specs.declared.fault.BadRow.{BadRow}
-use Rattle.cw_wcheck.specs.Checking.{told as told_of}
+use Rattle.cw_wcheck.specs.Checking.{numbered as told_of}
 use Rattle.cw_commands.specs.declared.outcome.Reply.TheVariants.{Yes, No}
 use Rattle.cw_commands.specs.Outcomes.{Due, Told}
 use Rattle.cw_stages.specs.Held.{told_row}

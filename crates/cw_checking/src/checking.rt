@@ -7,7 +7,7 @@ ghost use Rattle.cw_resolve.specs.Scenes.{names_of};
 ghost use Rattle.cw_points.specs.Graphs.{IsGraph};
 ghost use Rattle.cw_product.specs.Product.{game_of};
 ghost use Rattle.cw_wcheck.specs.Checking.{HasFewRows};
-ghost use Rattle.cw_woven.specs.Held.{IsOpened};
+ghost use Rattle.cw_woven.specs.Held.{IsUnwoven};
 ghost use Rattle.cw_commands.specs.Outcomes.{due_of};
 ghost use Rattle.cw_commands.specs.Starts.{Starts, StartsLine};
 ghost use Rattle.cw_stages.specs.Stops.{file_in, source_of, told_of, whole_of, Answers, BeginsText, IsReading, StartsText};
@@ -27,7 +27,7 @@ use cw_stages::{
     tell_table_row,
 };
 use cw_wcheck::check_weaver;
-use cw_woven::Opened;
+use cw_woven::Unwoven;
 use std::alloc::Global;
 use std::mem::forget;
 
@@ -68,11 +68,11 @@ fn fitted<O: Sink>(
 fn accepted<O: Sink>(
     alloc: Global,
     policy: &Policy,
-    parts: &Opened,
+    parts: &Unwoven,
     out: &mut O,
 ) -> Result<Text<O>, Stop>
     requires valid { IsValid (policy_of policy.now) }
-    requires opened { IsOpened (policy_of policy.now) parts.now }
+    requires unwoven { IsUnwoven (policy_of policy.now) parts.now }
     ensures due { Answers (policy_of policy.now) parts.now.source.items (AfterPolicy parts.now.text.now (policy_of policy.now)) result }
     ensures puts { StartsText O.taken O.faults O.refused out.old out.new result }
 {
@@ -84,7 +84,7 @@ fn accepted<O: Sink>(
 }
 
 /// That a text is no woven text, or what is due for the source and the table that it is read as.
-fn opened<O: Sink, N: Sink>(
+fn unwoven<O: Sink, N: Sink>(
     alloc: Global,
     policy: &Policy,
     text: &[u8],
@@ -122,7 +122,7 @@ pub fn check_due<O: Sink, N: Sink>(
     ensures notes { StartsLine N.taken N.faults N.refused note.old note.new result }
 {
     match read_policy(alloc, policy) {
-        Ok(whole) => opened(alloc, &whole, text, out, note),
+        Ok(whole) => unwoven(alloc, &whole, text, out, note),
         Err(fault) => policy_refusal(&fault, note),
     }
 }

@@ -1,4 +1,4 @@
--- What is due for each command, by the bytes of its files in the order of its words, and for `sample` by its number.
+-- What is due for each command, by the bytes of its files in the order of its arguments, and for `sample` by its number.
 use Rattle.std.specs.Prelude.{ℕ, List, [], ◌∷◌}
 use Rattle.cw_commands.specs.declared.command.Command.{Command}
 use Rattle.cw_commands.specs.declared.command.Command.TheVariants.{Weave, Procs, Graph, Refute, Check, Play, Run, Sample, Reaudit, World, Audit, Values}

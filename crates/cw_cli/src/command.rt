@@ -6,7 +6,7 @@ ghost use Rattle.cw_commands.specs.Commands.{quantities_of, IsNumbered};
 ghost use Rattle.cw_commands.specs.Endings.{line_of, status_of, usage_line, IsNoted, IsNotedWhole};
 ghost use Rattle.cw_commands.specs.Runs.{Ends};
 ghost use Rattle.cw_commands.specs.Starts.{noted_from, EndsLine};
-ghost use Rattle.cw_commands.specs.Words.{first_command, requested};
+ghost use Rattle.cw_commands.specs.Arguments.{first_command, requested};
 ghost use Rattle.cw_cli.specs.Due.{IsDue};
 
 use crate::due::due;
@@ -17,7 +17,7 @@ use cw_core::NoMemory;
 use cw_io::{Shelf, Sink};
 use std::alloc::Global;
 
-/// The status of words that don't fit.
+/// The status of arguments that don't fit.
 const USAGE: u8 = 2;
 
 /// Reads a command's files, and puts what is due for them.
@@ -60,7 +60,7 @@ fn end<N: Sink>(ending: Ending<'_, N>, note: &mut N) -> u8
     status
 }
 
-/// Does what the words of a command line ask for, and answers the status.
+/// Does what the arguments of a command line ask for, and answers the status.
 ///
 /// `weave POLICY SOURCE` puts the woven text (0), or the strategy by which the environment beats every weaver (1), `procs POLICY SOURCE` the same for the source's form; `graph SOURCE` puts the
 /// lines of the graph of the source's points (0); `refute POLICY SOURCE STRATEGY` puts `yes` where the strategy beats every weaver (0), or the
@@ -70,29 +70,29 @@ fn end<N: Sink>(ending: Ending<'_, N>, note: &mut N) -> u8
 /// which meets the policy (0) or violates it (1); `reaudit POLICY SOURCE AUDIT` puts `yes`
 /// where the audit is exact (0), or the first group and row that fail a condition (1); `sample N` weaves the sample of N, has it checked and puts its
 /// numbers and `woven` (0) or `refuted` (1); `world POLICY WOVEN STEPS` puts the trace of a woven text's processes and `done N` (0) or `bad step I` (1), and `values POLICY WOVEN ANSWERS` the external
-/// calls of a woven text over numbers and `ended` (0) or where it stopped (1), or each the first row that fails a condition (1). Words that fit no command are 2, a refused source 3, a refused policy 4, a quantity over
+/// calls of a woven text over numbers and `ended` (0) or where it stopped (1), or each the first row that fails a condition (1). Arguments that fit no command are 2, a refused source 3, a refused policy 4, a quantity over
 /// its limit 5, a file that can't be read 6, an output that can't be written 7, want of memory 8, a strategy, a woven text, a tape, a list of steps, answers or an audit that isn't of its grammar, or a woven text that isn't run over numbers, 9.
 pub fn capweave<F: Shelf, O: Sink, N: Sink>(
     alloc: Global,
-    words: &[String],
+    arguments: &[String],
     shelf: &mut F,
     out: &mut O,
     note: &mut N,
 ) -> u8
     ensures same { F.files shelf.new ≡ F.files shelf.old }
 
-    // Words that don't fit: no file is read, nothing is appended to the output, and the note gets a front of the line on usage, or there was no memory to read them.
+    // Arguments that don't fit: no file is read, nothing is appended to the output, and the note gets a front of the line on usage, or there was no memory to read them.
     // Where neither of the note's counts rose it got the whole line, here and below.
-    ensures usage { requested words.now ≡ None → (O.taken out.new ≡ O.taken out.old)
-        × (((result ≡ 2) × IsNoted (N.taken note.old) (N.taken note.new) (Some (usage_line (first_command words.now)))
-        × IsNotedWhole N.taken N.faults N.refused note.old note.new (Some (usage_line (first_command words.now))))
+    ensures usage { requested arguments.now ≡ None → (O.taken out.new ≡ O.taken out.old)
+        × (((result ≡ 2) × IsNoted (N.taken note.old) (N.taken note.new) (Some (usage_line (first_command arguments.now)))
+        × IsNotedWhole N.taken N.faults N.refused note.old note.new (Some (usage_line (first_command arguments.now))))
         ⊎ ((result ≡ 8) × IsNoted (N.taken note.old) (N.taken note.new) (line_of {N = N} Ending.Memory)
         × IsNotedWhole N.taken N.faults N.refused note.old note.new (line_of {N = N} Ending.Memory))) }
-    ensures misused { result ≡ 2 → requested words.now ≡ None }
-    ensures unread { requested words.now ≡ None → shelf.new ≡ shelf.old }
+    ensures misused { result ≡ 2 → requested arguments.now ≡ None }
+    ensures unread { requested arguments.now ≡ None → shelf.new ≡ shelf.old }
 
-    // The words of a command: its ending, with its status, what it leaves on the output and its line on the note.
-    ensures ends { IfSome (requested words.now) (λ wish. (ending : Ending N) × (result ≡ status_of ending)
+    // The arguments of a command: its ending, with its status, what it leaves on the output and its line on the note.
+    ensures ends { IfSome (requested arguments.now) (λ wish. (ending : Ending N) × (result ≡ status_of ending)
         × Ends (IsDue wish.0) (F.files shelf.old) (F.faults shelf.old) (F.faults shelf.new)
         (O.taken out.old) (O.taken out.new) (O.faults out.old) (O.faults out.new) (quantities_of wish.0) wish.1 ending
         × IsNoted (N.taken note.old) (N.taken note.new) (line_of ending)
@@ -101,13 +101,13 @@ pub fn capweave<F: Shelf, O: Sink, N: Sink>(
     // Want of memory: nothing is appended to the output, or its count of refused memory rose.
     ensures memory { result ≡ 8 → (O.taken out.new ≡ O.taken out.old) ⊎ Rose (O.refused out.old) (O.refused out.new) }
 {
-    let request = match requested(alloc, words) {
+    let request = match requested(alloc, arguments) {
         Ok(request) => request,
         Err(NoMemory) => return end(Ending::Memory, note),
     };
     let Some(request) = request else {
         // What the note answers changes no status.
-        let _ = put_usage(note, first_command(words));
+        let _ = put_usage(note, first_command(arguments));
         return USAGE;
     };
     let ending = perform(alloc, request.command, &request.names, shelf, out, note);

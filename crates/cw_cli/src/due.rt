@@ -110,7 +110,7 @@ fn of_four<O: Sink, N: Sink>(
     }
 }
 
-/// What is due for a command, by the bytes of its files in the order of its words, or for a sample by its number.
+/// What is due for a command, by the bytes of its files in the order of its arguments, or for a sample by its number.
 pub(crate) fn due<O: Sink, N: Sink>(
     alloc: Global,
     command: Command,

@@ -1,4 +1,4 @@
-//! The top call: words, a shelf and two sinks in, the status out.
+//! The top call: arguments, a shelf and two sinks in, the status out.
 #![tactic(auto)]
 
 mod command;

@@ -1,4 +1,4 @@
-//! Words that fit no command, files that are not read and sinks that fail: each single read and each single put in turn.
+//! Arguments that fit no command, files that are not read and sinks that fail: each single read and each single put in turn.
 use crate::given::{NO_EDIT, all_end, all_fail};
 use crate::texts::{
     NEVER, NEVER_AMBIENT, NO_LABEL, NO_RULES, TWO_CALLS, TWO_CALLS_WOVEN, TWO_PROMISES,
@@ -20,7 +20,7 @@ const USAGE: &str = "usage: capweave COMMAND ARGUMENTS\n";
 
 /// `NO_RULES` has 201 bytes, and of a piece that fails the first half is put.
 #[test]
-fn faults_and_words_that_fit_no_command(rt: HostRuntime) {
+fn faults_and_arguments_that_fit_no_command(rt: HostRuntime) {
     all_fail(
         &rt,
         rt.alloc(),
@@ -175,7 +175,7 @@ fn each_read_that_fails_is_told_by_name(rt: HostRuntime) {
 
 /// A name that no file has is an empty file.
 #[test]
-fn words_are_read_as_clap_reads_them(rt: HostRuntime) {
+fn arguments_are_read_as_clap_reads_them(rt: HostRuntime) {
     all_end(
         &rt,
         rt.alloc(),

@@ -7,19 +7,19 @@ use std::process::Abort;
 /// A shelf's files, each with its name.
 type Files = Vec<(Vec<u8>, Vec<u8>)>;
 
-/// Words, and the bytes that stand in their place so many times, where a text has them: the first such words of each text.
+/// Bytes, and those that stand in their place so many times, where a text has them: the first such bytes of each text.
 pub(crate) type Edit<'t> = (&'t str, &'t [u8], usize);
 
 /// What edits no text.
 pub(crate) const NO_EDIT: Edit<'static> = ("", b"", 0);
 
-/// A run, by its words and the texts of its files, and what it ends with: the status, the text on the output, the line on the note.
+/// A run, by its arguments and the texts of its files, and what it ends with: the status, the text on the output, the line on the note.
 pub(crate) type Run<'t> = (&'t [&'t str], &'t [&'t str], u8, &'t str, &'t str);
 
 /// A run with an edit of its texts by another text, and what it ends with, as in `Run`.
 pub(crate) type EditedRun<'t> = (&'t str, &'t str, usize, u8, &'t str, &'t str);
 
-/// A run, by its words and the numbers, from 0, of the read, of the put to the output and of the put to the note that fail; and what it ends
+/// A run, by its arguments and the numbers, from 0, of the read, of the put to the output and of the put to the note that fail; and what it ends
 /// with: the status, how many bytes are on the output, and the bytes on the note. Before the number of bytes stands how the text on the output
 /// begins where nothing fails and a file that is missing is empty.
 pub(crate) type Fault<'t> = (&'t [&'t str], [u32; 3], u8, &'t str, usize, &'t str);
@@ -35,16 +35,16 @@ struct Ended {
 /// The number of a put that no run comes to.
 const NO_PUT: u32 = u32::MAX;
 
-fn words(rt: &impl Abort, alloc: Global, line: &[&str]) -> Vec<String> {
-    let mut words = Vec::new(alloc);
-    for word in line {
-        let word = String::from_str(alloc, word).expect(rt, "memory");
-        words.push(word).expect(rt, "memory");
+fn arguments(rt: &impl Abort, alloc: Global, line: &[&str]) -> Vec<String> {
+    let mut arguments = Vec::new(alloc);
+    for argument in line {
+        let argument = String::from_str(alloc, argument).expect(rt, "memory");
+        arguments.push(argument).expect(rt, "memory");
     }
-    words
+    arguments
 }
 
-/// What stands before the words of an edit, how often the bytes of the edit stand there, and what stands behind.
+/// What stands before the bytes that an edit takes out, how often the bytes of the edit stand there, and what stands behind.
 fn parts<'t>(text: &'t str, edit: &Edit) -> (&'t str, usize, &'t str) {
     match text.split_once(edit.0) {
         Some((front, back)) => (front, edit.2, back),
@@ -84,7 +84,7 @@ fn sink(rt: &impl Abort, alloc: Global, failing: u32) -> MemSink {
     MemSink::make(alloc, vec![in alloc; failing; 1].expect(rt, "memory"))
 }
 
-/// The status of a run of these words. It promises nothing, so that no proof of a test reads what the command promises.
+/// The status of a run of these arguments. It promises nothing, so that no proof of a test reads what the command promises.
 fn status_of<F: Shelf, O: Sink, N: Sink>(
     rt: &impl Abort,
     alloc: Global,
@@ -93,11 +93,11 @@ fn status_of<F: Shelf, O: Sink, N: Sink>(
     out: &mut O,
     note: &mut N,
 ) -> u8 {
-    let words = words(rt, alloc, line);
-    capweave(alloc, &words, shelf, out, note)
+    let arguments = arguments(rt, alloc, line);
+    capweave(alloc, &arguments, shelf, out, note)
 }
 
-/// A run of these words over sinks of which the puts of these numbers fail, one to the output and one to the note.
+/// A run of these arguments over sinks of which the puts of these numbers fail, one to the output and one to the note.
 fn ran<F: Shelf>(
     rt: &impl Abort,
     alloc: Global,
@@ -166,7 +166,7 @@ pub(crate) fn all_end(rt: &impl Abort, alloc: Global, runs: &[Run]) {
     }
 }
 
-/// Asserts what the runs of these words over these texts end with, each with an edit.
+/// Asserts what the runs of these arguments over these texts end with, each with an edit.
 pub(crate) fn all_end_edited(
     rt: &impl Abort,
     alloc: Global,

@@ -1,4 +1,4 @@
-//! Whole runs of `sample`, and words that are no number of a sample.
+//! Whole runs of `sample`, and arguments that are no number of a sample.
 use crate::given::all_end;
 
 const USAGE: &str = "usage: capweave sample N\n";
@@ -28,7 +28,7 @@ fn weaves_a_sample_and_tells_its_numbers(rt: HostRuntime) {
 }
 
 #[test]
-fn words_that_are_no_number_of_a_sample(rt: HostRuntime) {
+fn arguments_that_are_no_number_of_a_sample(rt: HostRuntime) {
     all_end(
         &rt,
         rt.alloc(),

@@ -1,4 +1,4 @@
--- Words at which no step of a parse fails are taken.
+-- Arguments at which no step of a parse fails are taken.
 use Rattle.std.proofs.Common.{◌≡◌, ℕ, ◌≤◌, ◌&&◌, ◌||◌, zero, suc, Bool, true, false, not, List, [], ◌∷◌, length, Option, Some, None, is_some, refl, arith}
 use Rattle.std.specs.Prelude.{if◌then◌else◌, nat_lt, nat_le, ◌==◌, drop, slice_get, encode_utf8}
 use Rattle.std.specs.List.{list_all, list_any}
@@ -127,24 +127,24 @@ module _ (c : List Rule) (again : Bool) (no_short : (x : ℕ) → arg_by_short c
     short_by h None e = refl
     short_by h (Some flags) e = flags_ok (length flags) flags h.skip (record h { skip = 0 }) e
 
-    flag_word_ok : (o : Option (Text × Option Text)) (word : Text) (h : Held) → flag_word_fault c again o word h ≡ [] → flag_word_passes c again o word h ≡ true
-    flag_word_ok (Some p) word h e = let bad = rw (no_long p.0) at e in absurd cc
-    flag_word_ok None word h e = short_by h (short_of word) e
+    flag_argument_ok : (o : Option (Text × Option Text)) (argument : Text) (h : Held) → flag_word_fault c again o argument h ≡ [] → flag_word_passes c again o argument h ≡ true
+    flag_argument_ok (Some p) argument h e = let bad = rw (no_long p.0) at e in absurd cc
+    flag_argument_ok None argument h e = short_by h (short_of argument) e
 
 module _ (s : Shape) (no_short : (x : ℕ) → arg_by_short s.rules x ≡ None) (no_long : (name : Text) → arg_by_long s.rules name ≡ None) where
-  other_ok : (word : Text) (h : Held) → other_fault s None word h ≡ [] → other_passes s None word h ≡ true
-  other_ok word h e = by (bytes_eq word (45 ∷ 45 ∷ [])) e
+  other_ok : (argument : Text) (h : Held) → other_fault s None argument h ≡ [] → other_passes s None argument h ≡ true
+  other_ok argument h e = by (bytes_eq argument (45 ∷ 45 ∷ [])) e
     where
-      by : (b : Bool) → (if b then [] else flag_word_fault s.rules s.args_override_self (long_of word) word h) ≡ []
-          → (b || flag_word_passes s.rules s.args_override_self (long_of word) word h) ≡ true
+      by : (b : Bool) → (if b then [] else flag_word_fault s.rules s.args_override_self (long_of argument) argument h) ≡ []
+          → (b || flag_word_passes s.rules s.args_override_self (long_of argument) argument h) ≡ true
       by true e = refl
-      by false e = flag_word_ok s.rules s.args_override_self no_short no_long (long_of word) word h e
+      by false e = flag_argument_ok s.rules s.args_override_self no_short no_long (long_of argument) argument h e
 
-  word_ok : (is_trailing : Bool) (waiting : Waiting) (word : Text) (h : Held) → word_fault s [] is_trailing waiting word h ≡ [] → word_passes s [] is_trailing waiting word h ≡ true
-  word_ok true waiting word h e = refl
-  word_ok false idle word h e = other_ok word h e
-  word_ok false (option t) word h e = other_ok word h e
-  word_ok false positional word h e = other_ok word h e
+  argument_ok : (is_trailing : Bool) (waiting : Waiting) (argument : Text) (h : Held) → word_fault s [] is_trailing waiting argument h ≡ [] → word_passes s [] is_trailing waiting argument h ≡ true
+  argument_ok true waiting argument h e = refl
+  argument_ok false idle argument h e = other_ok argument h e
+  argument_ok false (option t) argument h e = other_ok argument h e
+  argument_ok false positional argument h e = other_ok argument h e
 
   positional_ok : (a : Rule) (h : Held) → positional_fault s.rules s.args_override_self a h ≡ [] → positional_passes s.rules s.args_override_self a h ≡ true
   positional_ok a h e = by (is_pending a h.pending && takes_several a) e
@@ -169,24 +169,24 @@ module _ (s : Shape) (no_short : (x : ℕ) → arg_by_short s.rules x ≡ None) 
       by (Some a) e = positional_ok a h e
 
   abbrev met_of : Walk → Text → Held × Step
-  met_of w word = word_met s.rules [] w.is_trailing w.waiting w.position word w.held
+  met_of w argument = word_met s.rules [] w.is_trailing w.waiting w.position argument w.held
 
-  turn_ok : (w : Walk) (word : Text) → turn_fault s [] w word ≡ [] → turn_passes s [] w word ≡ true
-  turn_ok w word e = by (is_some w.stopped) e
+  turn_ok : (w : Walk) (argument : Text) → turn_fault s [] w argument ≡ [] → turn_passes s [] w argument ≡ true
+  turn_ok w argument e = by (is_some w.stopped) e
     where
-      by : (b : Bool) → (if b then [] else or_else (word_fault s [] w.is_trailing w.waiting word w.held) (step_fault s w.position (met_of w word).0 (met_of w word).1)) ≡ []
-          → (b || (word_passes s [] w.is_trailing w.waiting word w.held && step_passes s w.position (met_of w word).0 (met_of w word).1)) ≡ true
+      by : (b : Bool) → (if b then [] else or_else (word_fault s [] w.is_trailing w.waiting argument w.held) (step_fault s w.position (met_of w argument).0 (met_of w argument).1)) ≡ []
+          → (b || (word_passes s [] w.is_trailing w.waiting argument w.held && step_passes s w.position (met_of w argument).0 (met_of w argument).1)) ≡ true
       by true e = refl
       by false e =
-          let b = both_nil (word_fault s [] w.is_trailing w.waiting word w.held) (step_fault s w.position (met_of w word).0 (met_of w word).1) e in
-          and_true _ _ (word_ok w.is_trailing w.waiting word w.held b.0) (step_ok w.position (met_of w word).0 (met_of w word).1 b.1)
+          let b = both_nil (word_fault s [] w.is_trailing w.waiting argument w.held) (step_fault s w.position (met_of w argument).0 (met_of w argument).1) e in
+          and_true _ _ (argument_ok w.is_trailing w.waiting argument w.held b.0) (step_ok w.position (met_of w argument).0 (met_of w argument).1 b.1)
 
-  walk_ok : (w : Walk) (words : List Text) → walk_fault s [] w words ≡ [] → walk_passes s [] w words ≡ true
+  walk_ok : (w : Walk) (arguments : List Text) → walk_fault s [] w arguments ≡ [] → walk_passes s [] w arguments ≡ true
   unfolding walk_fault walk_passes
   walk_ok w [] e = refl
-  walk_ok w (word ∷ rest) e =
-      let b = both_nil (turn_fault s [] w word) (walk_fault s [] (walked s.rules [] w word) rest) e in
-      and_true _ _ (turn_ok w word b.0) (walk_ok (walked s.rules [] w word) rest b.1)
+  walk_ok w (argument ∷ rest) e =
+      let b = both_nil (turn_fault s [] w argument) (walk_fault s [] (walked s.rules [] w argument) rest) e in
+      and_true _ _ (turn_ok w argument b.0) (walk_ok (walked s.rules [] w argument) rest b.1)
 
 -- ---- after the walk
 
@@ -213,11 +213,11 @@ module _ (s : Shape) (no_short : (x : ℕ) → arg_by_short s.rules x ≡ None) 
       let all = required_ok rows s.rules (checks_ok _ f) in
       rw (no_help, no_sub, no_neg, frees) all
 
-  pub level_ok : (words : List Text) → level_fault s [] nothing_held words false [] ≡ [] → level_passes s [] nothing_held words false ≡ true
-  level_ok words e =
-      let end = (walk s.rules [] nothing_held words).held in
-      let a = both_nil (walk_fault s [] (walk_from nothing_held) words) _ e in
+  pub level_ok : (arguments : List Text) → level_fault s [] nothing_held arguments false [] ≡ [] → level_passes s [] nothing_held arguments false ≡ true
+  level_ok arguments e =
+      let end = (walk s.rules [] nothing_held arguments).held in
+      let a = both_nil (walk_fault s [] (walk_from nothing_held) arguments) _ e in
       let b = both_nil (settle_fault s.rules s.args_override_self end) _ a.1 in
       let d = both_nil (defaults_fault (settled s.rules end).rows s.rules) (check_fault s (finished s.rules end) false) b.1 in
-      and_true _ _ (walk_ok s no_short no_long (walk_from nothing_held) words a.0)
+      and_true _ _ (walk_ok s no_short no_long (walk_from nothing_held) arguments a.0)
       (and_true _ _ (settle_ok s.rules s.args_override_self end b.0) (and_true _ _ defaults (valid_ok (finished s.rules end) d.1)))

@@ -6,7 +6,7 @@ use Rattle.clap.specs.Takes.{walk_passes}
 use Rattle.cw_commands.specs.declared.name.Name.{Name}
 use Rattle.cw_commands.specs.declared.name.Name.TheVariants as name
 use Rattle.cw_commands.specs.Commands.{named_by}
-use Rattle.cw_commands.specs.Words.{request_of, requested, Wish}
+use Rattle.cw_commands.specs.Arguments.{request_of, requested, Wish}
 
 alone : (o : Option Name) → request_of o [] ≡ None
 unfolding walk_passes
@@ -24,5 +24,5 @@ alone (Some name.Sample) = refl
 alone (Some name.Reaudit) = refl
 alone (Some name.Audit) = refl
 
-pub one_word : (word : String Global) → requested (word ∷ []) ≡ None
-one_word word = alone (named_by (string_bytes word))
+pub one_argument : (argument : String Global) → requested (argument ∷ []) ≡ None
+one_argument argument = alone (named_by (string_bytes argument))

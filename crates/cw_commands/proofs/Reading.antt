@@ -9,7 +9,7 @@ use Rattle.cw_io.specs.Causes.{Rose}
 use Rattle.cw_io.specs.Files.{FilesByName}
 use Rattle.cw_commands.specs.declared.ending.Ending.{Ending}
 use Rattle.cw_commands.specs.declared.ending.Ending.TheVariants.{Put, Refused, TooLong, Unread, Unwritten, Memory}
-use Rattle.cw_commands.proofs.Collected.{place_at}
+use Rattle.cw_commands.proofs.Collected.{operand_at}
 use Rattle.cw_commands.specs.Files.{first, HasBytes, HaveBytes, IsFileFault}
 
 -- one more file behind those that were read
@@ -23,8 +23,8 @@ have_more files before [] (n' ∷ ns) bs q n b h has = absurd h
 have_more files before (q' ∷ qs) [] bs q n b h has = absurd h
 have_more files before (q' ∷ qs) (n' ∷ ns) [] q n b h has = absurd h
 
--- a name that stands at its place
-pub placed_at : (names : List (Bor (List ℕ))) (k : ℕ) → k < length names → slice_get (map (λ name. name.now) names) k ≡ Some (place_at names k).now
+-- a name that stands at its operand
+pub placed_at : (names : List (Bor (List ℕ))) (k : ℕ) → k < length names → slice_get (map (λ name. name.now) names) k ≡ Some (operand_at names k).now
 placed_at names k lt =
     slice_get-map (λ (name : Bor (List ℕ)). name.now) names k
     ∙ ap (λ o. option_map (λ (name : Bor (List ℕ)). name.now) o) (slice_get-get_or names k (record { ref_ptr = (0, 0); now = [] }) lt)

@@ -23,7 +23,7 @@ module _ {N : Type 0} (IsDue : List (List ℕ) → Due → Type 0) (files : Opti
   unread_fails policy quantity name (TooLong told) c f = ((λ e. cc), (λ e. cc))
   unread_fails policy quantity name (Unread told) c f = absurd (none.files name c f.1)
   unread_fails policy quantity name (Put reply) c f = absurd f
-  unread_fails policy quantity name (RefusedEnd cause words) c f = absurd f
+  unread_fails policy quantity name (RefusedEnd cause arguments) c f = absurd f
   unread_fails policy quantity name Unwritten c f = absurd f
   unread_fails policy quantity name Memory c f = absurd f
 
@@ -32,13 +32,13 @@ module _ {N : Type 0} (IsDue : List (List ℕ) → Due → Type 0) (files : Opti
   delivered_fails (Told reply text) (Put No) d = ((λ e. cc), (λ e. cc))
   delivered_fails (Told reply text) Unwritten d = absurd (none.output d.1)
   delivered_fails (Told reply text) Memory d = ((λ e. cc), (λ e. cc))
-  delivered_fails (Told reply text) (RefusedEnd cause words) d = absurd d
+  delivered_fails (Told reply text) (RefusedEnd cause arguments) d = absurd d
   delivered_fails (Told reply text) (TooLong told) d = absurd d
   delivered_fails (Told reply text) (Unread told) d = absurd d
-  delivered_fails (Refused cause line) (RefusedEnd Source words) d = ((λ e. cc), (λ e. cc))
-  delivered_fails (Refused cause line) (RefusedEnd Policy words) d = ((λ e. cc), (λ e. cc))
-  delivered_fails (Refused cause line) (RefusedEnd Limit words) d = ((λ e. cc), (λ e. cc))
-  delivered_fails (Refused cause line) (RefusedEnd Grammar words) d = ((λ e. cc), (λ e. cc))
+  delivered_fails (Refused cause line) (RefusedEnd Source arguments) d = ((λ e. cc), (λ e. cc))
+  delivered_fails (Refused cause line) (RefusedEnd Policy arguments) d = ((λ e. cc), (λ e. cc))
+  delivered_fails (Refused cause line) (RefusedEnd Limit arguments) d = ((λ e. cc), (λ e. cc))
+  delivered_fails (Refused cause line) (RefusedEnd Grammar arguments) d = ((λ e. cc), (λ e. cc))
   delivered_fails (Refused cause line) (Put reply) d = absurd d
   delivered_fails (Refused cause line) Unwritten d = absurd d
   delivered_fails (Refused cause line) Memory d = absurd d
@@ -47,7 +47,7 @@ module _ {N : Type 0} (IsDue : List (List ℕ) → Due → Type 0) (files : Opti
 
   never : (ending : Ending N) → Ends IsDue files counts counts' old new faults faults' quantities names ending → (status_of ending ≢ 6) × (status_of ending ≢ 7)
   never ending (inl m) = subst (λ (x : Ending N). (status_of x ≢ 6) × (status_of x ≢ 7)) (sym m.0) ((λ e. cc), (λ e. cc))
-  never ending (inr (inl u)) = let w = u.0 in unread_fails (first w.before) w.quantity w.name ending (get_contains names w.place w.name w.is_name) w.fault
+  never ending (inr (inl u)) = let w = u.0 in unread_fails (first w.before) w.quantity w.name ending (get_contains names w.index w.name w.is_name) w.fault
   never ending (inr (inr d)) = delivered_fails d.1 ending d.4
 
   -- it has the status of a text that is due for what the files hold, or of want of memory
@@ -59,7 +59,7 @@ module _ {N : Type 0} (IsDue : List (List ℕ) → Due → Type 0) (files : Opti
   module _ (accepts : Accepts IsDue files quantities names) where
     unread_told : (ending : Ending N) → IsUnread files counts counts' quantities names ending → EndsTold ending
     unread_told (TooLong told) w = absurd (accepts.short (record {
-      place = w.place;
+      index = w.index;
       quantity = w.quantity;
       name = w.name;
       before = w.before;
@@ -68,9 +68,9 @@ module _ {N : Type 0} (IsDue : List (List ℕ) → Due → Type 0) (files : Opti
       read = w.read;
       longer = w.fault.1;
     }))
-    unread_told (Unread told) w = absurd (none.files w.name (get_contains names w.place w.name w.is_name) w.fault.1)
+    unread_told (Unread told) w = absurd (none.files w.name (get_contains names w.index w.name w.is_name) w.fault.1)
     unread_told (Put reply) w = absurd w.fault
-    unread_told (RefusedEnd cause words) w = absurd w.fault
+    unread_told (RefusedEnd cause arguments) w = absurd w.fault
     unread_told Unwritten w = absurd w.fault
     unread_told Memory w = absurd w.fault
 
@@ -80,7 +80,7 @@ module _ {N : Type 0} (IsDue : List (List ℕ) → Due → Type 0) (files : Opti
     delivered_told bytes (Told reply text) (Put told) have is t d = inr (bytes, reply, text, have, is, ap reply_status d.0)
     delivered_told bytes (Told reply text) Unwritten have is t d = absurd (none.output d.1)
     delivered_told bytes (Told reply text) Memory have is t d = inl refl
-    delivered_told bytes (Told reply text) (RefusedEnd cause words) have is t d = absurd d
+    delivered_told bytes (Told reply text) (RefusedEnd cause arguments) have is t d = absurd d
     delivered_told bytes (Told reply text) (TooLong told) have is t d = absurd d
     delivered_told bytes (Told reply text) (Unread told) have is t d = absurd d
 

@@ -1,4 +1,4 @@
--- The commands: the name, the words and the files of each.
+-- The commands: the name, the arguments and the files of each.
 use Rattle.std.specs.Prelude.{ℕ, List, [], ◌∷◌, if◌then◌else◌, Option, Some, None, codes}
 use Rattle.std.specs.Str.{bytes_eq}
 use Rattle.cw_core.specs.declared.quantity.Quantity.{Quantity}
@@ -9,39 +9,39 @@ use Rattle.cw_commands.specs.declared.command.Command.TheVariants.{Weave, Procs,
 use Rattle.cw_commands.specs.declared.name.Name.{Name}
 use Rattle.cw_commands.specs.declared.name.Name.TheVariants as name
 
--- the name that a word is
+-- the name that an argument is
 abbrev pub named_by : List ℕ → Option Name
-named_by word =
-    if bytes_eq word (codes "weave") then Some name.Weave
-    else if bytes_eq word (codes "procs") then Some name.Procs
-    else if bytes_eq word (codes "graph") then Some name.Graph
-    else if bytes_eq word (codes "refute") then Some name.Refute
-    else if bytes_eq word (codes "check") then Some name.Check
-    else if bytes_eq word (codes "play") then Some name.Play
-    else if bytes_eq word (codes "run") then Some name.Run
-    else if bytes_eq word (codes "world") then Some name.World
-    else if bytes_eq word (codes "values") then Some name.Values
-    else if bytes_eq word (codes "sample") then Some name.Sample
-    else if bytes_eq word (codes "reaudit") then Some name.Reaudit
-    else if bytes_eq word (codes "audit") then Some name.Audit
+named_by argument =
+    if bytes_eq argument (codes "weave") then Some name.Weave
+    else if bytes_eq argument (codes "procs") then Some name.Procs
+    else if bytes_eq argument (codes "graph") then Some name.Graph
+    else if bytes_eq argument (codes "refute") then Some name.Refute
+    else if bytes_eq argument (codes "check") then Some name.Check
+    else if bytes_eq argument (codes "play") then Some name.Play
+    else if bytes_eq argument (codes "run") then Some name.Run
+    else if bytes_eq argument (codes "world") then Some name.World
+    else if bytes_eq argument (codes "values") then Some name.Values
+    else if bytes_eq argument (codes "sample") then Some name.Sample
+    else if bytes_eq argument (codes "reaudit") then Some name.Reaudit
+    else if bytes_eq argument (codes "audit") then Some name.Audit
     else None
 
--- the places of the words behind a name
-abbrev pub places_of : Name → List (List ℕ)
-places_of name.Weave = codes "POLICY" ∷ (codes "SOURCE" ∷ [])
-places_of name.Procs = codes "POLICY" ∷ (codes "SOURCE" ∷ [])
-places_of name.Graph = codes "SOURCE" ∷ []
-places_of name.Refute = codes "POLICY" ∷ (codes "SOURCE" ∷ (codes "STRATEGY" ∷ []))
-places_of name.Check = codes "POLICY" ∷ (codes "WOVEN" ∷ [])
-places_of name.Play = codes "POLICY" ∷ (codes "SOURCE" ∷ (codes "STRATEGY" ∷ (codes "TAPE" ∷ [])))
-places_of name.Run = codes "POLICY" ∷ (codes "WOVEN" ∷ (codes "TAPE" ∷ []))
-places_of name.World = codes "POLICY" ∷ (codes "WOVEN" ∷ (codes "STEPS" ∷ []))
-places_of name.Values = codes "POLICY" ∷ (codes "WOVEN" ∷ (codes "ANSWERS" ∷ []))
-places_of name.Sample = codes "N" ∷ []
-places_of name.Audit = codes "POLICY" ∷ (codes "SOURCE" ∷ [])
-places_of name.Reaudit = codes "POLICY" ∷ (codes "SOURCE" ∷ (codes "AUDIT" ∷ []))
+-- the operands of the arguments behind a name
+abbrev pub operands_of : Name → List (List ℕ)
+operands_of name.Weave = codes "POLICY" ∷ (codes "SOURCE" ∷ [])
+operands_of name.Procs = codes "POLICY" ∷ (codes "SOURCE" ∷ [])
+operands_of name.Graph = codes "SOURCE" ∷ []
+operands_of name.Refute = codes "POLICY" ∷ (codes "SOURCE" ∷ (codes "STRATEGY" ∷ []))
+operands_of name.Check = codes "POLICY" ∷ (codes "WOVEN" ∷ [])
+operands_of name.Play = codes "POLICY" ∷ (codes "SOURCE" ∷ (codes "STRATEGY" ∷ (codes "TAPE" ∷ [])))
+operands_of name.Run = codes "POLICY" ∷ (codes "WOVEN" ∷ (codes "TAPE" ∷ []))
+operands_of name.World = codes "POLICY" ∷ (codes "WOVEN" ∷ (codes "STEPS" ∷ []))
+operands_of name.Values = codes "POLICY" ∷ (codes "WOVEN" ∷ (codes "ANSWERS" ∷ []))
+operands_of name.Sample = codes "N" ∷ []
+operands_of name.Audit = codes "POLICY" ∷ (codes "SOURCE" ∷ [])
+operands_of name.Reaudit = codes "POLICY" ∷ (codes "SOURCE" ∷ (codes "AUDIT" ∷ []))
 
--- the words of a command, as the line on usage tells them
+-- the arguments of a command, as the line on usage tells them
 abbrev pub usage_of : Name → List ℕ
 usage_of name.Weave = codes "weave POLICY SOURCE"
 usage_of name.Procs = codes "procs POLICY SOURCE"
@@ -56,7 +56,7 @@ usage_of name.Sample = codes "sample N"
 usage_of name.Audit = codes "audit POLICY SOURCE"
 usage_of name.Reaudit = codes "reaudit POLICY SOURCE AUDIT"
 
--- the quantities that the bytes of a command's files are, one a file, in the order of its words
+-- the quantities that the bytes of a command's files are, one a file, in the order of its arguments
 abbrev pub quantities_of : Command → List Quantity
 quantities_of Weave = PolicyBytes ∷ (SourceBytes ∷ [])
 quantities_of Procs = PolicyBytes ∷ (SourceBytes ∷ [])

@@ -11,17 +11,17 @@ use Rattle.cw_commands.specs.Outcomes.{cause_status, reply_status}
 
 abbrev pub status_of : {N : Type 0} → Ending N → ℕ
 status_of (Put reply) = reply_status reply
-status_of (Refused cause words) = cause_status cause
+status_of (Refused cause arguments) = cause_status cause
 status_of (TooLong quantity) = 5
 status_of (Unread name) = 6
 status_of Unwritten = 7
 status_of Memory = 8
 
--- a line of some words and others behind them
+-- a line of some arguments and others behind them
 abbrev pub line : List ℕ → List ℕ → List ℕ
-line words rest = words ++ rest ++ (10 ∷ [])
+line arguments rest = arguments ++ rest ++ (10 ∷ [])
 
--- the line of words that don't fit, by the command that the first one names
+-- the line of arguments that don't fit, by the command that the first one names
 abbrev pub usage_line : Option Name → List ℕ
 usage_line (Some name) = line (codes "usage: capweave ") (usage_of name)
 usage_line None = line (codes "usage: capweave ") (codes "COMMAND ARGUMENTS")
@@ -29,7 +29,7 @@ usage_line None = line (codes "usage: capweave ") (codes "COMMAND ARGUMENTS")
 -- the line of an ending; where a text was put there is none
 abbrev pub line_of : {N : Type 0} → Ending N → Option (List ℕ)
 line_of (Put reply) = None
-line_of (Refused cause words) = Some (line words.text [])
+line_of (Refused cause arguments) = Some (line arguments.text [])
 line_of (TooLong quantity) = Some (line (codes "limit: ") (name_of quantity))
 line_of (Unread name) = Some (line (codes "read: ") name.now)
 line_of Unwritten = Some (line (codes "write") [])

@@ -1,4 +1,4 @@
--- The files of a command, read in the order of its words.
+-- The files of a command, read in the order of its arguments.
 use Rattle.std.specs.Prelude.{◌≡◌, ◌⊎◌, ℕ, ◌<◌, ◌≤◌, List, [], ◌∷◌, ◌++◌, length, take, slice_get, Option, Some, None, IsSomeAnd, Ok}
 use Rattle.cw_core.specs.declared.quantity.Quantity.{Quantity}
 use Rattle.cw_core.specs.Quantities.{limit_in, limit_of}
@@ -57,13 +57,13 @@ IsReadFault files counts counts' policy quantity name read.NoMemory = Unit {0}
 
 -- the files were read up to one that wasn't, and why, by the shelf's files and its counts before and after
 pub record IsUnread {N : Type 0} (files : Option FilesByName) (counts counts' : List ℕ → ℕ) (quantities : List Quantity) (names : List (List ℕ)) (ending : Ending N) : Type 0 where
-  pub place : ℕ
+  pub index : ℕ
   pub quantity : Quantity
   pub name : List ℕ
   pub before : List (List ℕ)
-  pub is_quantity : slice_get quantities place ≡ Some quantity
-  pub is_name : slice_get names place ≡ Some name
-  pub read : HaveBytes files [] (take place quantities) (take place names) before
+  pub is_quantity : slice_get quantities index ≡ Some quantity
+  pub is_name : slice_get names index ≡ Some name
+  pub read : HaveBytes files [] (take index quantities) (take index names) before
   pub fault : IsFileFault files counts counts' (first before) quantity name ending
 
 -- each of these has at most as many bytes as its quantity ever allows

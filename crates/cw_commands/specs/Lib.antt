@@ -1,6 +1,6 @@
 pub mod Commands
 pub mod Lines
-pub mod Words
+pub mod Arguments
 pub mod Outcomes
 pub mod Starts
 pub mod Files

@@ -13,7 +13,7 @@ use Rattle.cw_commands.specs.Outcomes.{Due, Told, Refused}
 -- What becomes of what is due, by what the output had taken before and after, and its count of faults before and after: a text is appended
 -- whole, or after a fault of the output or want of memory a front of it; for a refusal nothing is.
 abbrev pub Delivered : {N : Type 0} → Option (List ℕ) → Option (List ℕ) → ℕ → ℕ → Due → Ending N → Type 0
-Delivered old new faults faults' (Refused cause line) (RefusedEnd told words) = (told ≡ cause) × (words.text ≡ line) × (new ≡ old)
+Delivered old new faults faults' (Refused cause line) (RefusedEnd told arguments) = (told ≡ cause) × (arguments.text ≡ line) × (new ≡ old)
 Delivered old new faults faults' (Told reply text) (Put told) = (told ≡ reply) × Grows old new text
 Delivered old new faults faults' (Told reply text) Unwritten = GrowsByFront old new text × Rose faults faults'
 Delivered old new faults faults' (Told reply text) Memory = GrowsByFront old new text

@@ -20,13 +20,13 @@ IsText (Refused cause line) = ⊥
 
 -- One of the files has more bytes than its own quantity allows, and those before it were read. Of a shelf that doesn't tell its files nothing rules that out.
 pub record OneIsLonger (files : Option FilesByName) (quantities : List Quantity) (names : List (List ℕ)) : Type 0 where
-  pub place : ℕ
+  pub index : ℕ
   pub quantity : Quantity
   pub name : List ℕ
   pub before : List (List ℕ)
-  pub is_quantity : slice_get quantities place ≡ Some quantity
-  pub is_name : slice_get names place ≡ Some name
-  pub read : HaveBytes files [] (take place quantities) (take place names) before
+  pub is_quantity : slice_get quantities index ≡ Some quantity
+  pub is_name : slice_get names index ≡ Some name
+  pub read : HaveBytes files [] (take index quantities) (take index names) before
   pub longer : IsLonger files (first before) quantity name
 
 -- each stage accepts, and nothing is over its limit: no file is, and for what the files hold a text is due

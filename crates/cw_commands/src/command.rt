@@ -5,7 +5,7 @@ ghost use Rattle.cw_commands.specs.Commands.{quantities_of};
 
 use cw_core::Quantity;
 
-/// A command: what is due for the bytes of its files, in the order of its words, or for the sample of a number from 1 to 400, which has no file.
+/// A command: what is due for the bytes of its files, in the order of its arguments, or for the sample of a number from 1 to 400, which has no file.
 #[derive(Clone, Copy, Debug, PartialEq, Eq, Drop)]
 pub enum Command {
     Weave,
@@ -23,7 +23,7 @@ pub enum Command {
 }
 
 impl Command {
-    /// The quantities that the bytes of its files are, one a file, in the order of its words.
+    /// The quantities that the bytes of its files are, one a file, in the order of its arguments.
     pub fn quantities(self) -> &'static [Quantity]
         ensures { result.now ≡ quantities_of self }
     {

@@ -1,4 +1,4 @@
-//! The files of a command, read in the order of its words.
+//! The files of a command, read in the order of its arguments.
 
 ghost use Rattle.std.specs.Prelude.{◌≡◌, ◌≢◌, ◌⊎◌, ◌≤◌, ◌<◌, ℕ, List, [], IfErr, IfOk, Option, true, false, length, map};
 ghost use Rattle.cw_core.specs.Quantities.{limit_in};
@@ -122,14 +122,14 @@ pub fn read_files<'w, F: Shelf, N: Sink>(
         ⊎ IsUnread (F.files shelf.old) (F.faults shelf.old) (F.faults shelf.new) quantities.now (map (λ name. name.now) names.now) ending) }
 {
     let mut files = Vec::new(alloc);
-    for place in 0..names.len() {
-        match read_file(alloc, first(&files), quantities[place], names[place], shelf) {
+    for index in 0..names.len() {
+        match read_file(alloc, first(&files), quantities[index], names[index], shelf) {
             Ok(bytes) => {
                 if files.push(bytes).is_err() {
                     return Err(Ending::Memory);
                 }
             }
-            Err(fault) => return Err(without(fault, quantities[place], names[place])),
+            Err(fault) => return Err(without(fault, quantities[index], names[index])),
         }
     }
     Ok(files)

@@ -3,13 +3,13 @@
 ghost use Rattle.std.specs.Prelude.{List, ℕ};
 ghost use Rattle.cw_commands.specs.Outcomes.{Due};
 ghost use Rattle.cw_commands.specs.Statuses.{EndsWell, NeverFails, NeverFailsForSure};
-ghost use Rattle.cw_commands.specs.Words.{OneWordIsNoCommand};
+ghost use Rattle.cw_commands.specs.Arguments.{OneArgumentIsNoCommand};
 
 use cw_io::Sink;
 
-/// One word asks for no command, whatever it is, since each command has words behind its name.
-pub fn one_word_is_no_command()
-    ensures { OneWordIsNoCommand }
+/// One argument asks for no command, whatever it is, since each command has arguments behind its name.
+pub fn one_argument_is_no_command()
+    ensures { OneArgumentIsNoCommand }
 {}
 
 /// What is due for the bytes of a command's files. It has no code; a law over each command takes one.

@@ -1,7 +1,8 @@
-//! What all commands share: the words that ask for one, its files, read in the order of the words, what becomes of what is due for their
+//! What all commands share: the arguments that ask for one, its files, read in the order of the arguments, what becomes of what is due for their
 //! bytes, and the one line on the note.
 #![tactic(auto)]
 
+mod arguments;
 mod command;
 mod delivery;
 mod ending;
@@ -11,8 +12,8 @@ mod line;
 mod name;
 mod note;
 mod outcome;
-mod words;
 
+pub use arguments::{Request, first_command, requested};
 pub use command::Command;
 pub use delivery::deliver;
 pub use ending::Ending;
@@ -20,4 +21,3 @@ pub use files::read_files;
 pub use name::Name;
 pub use note::{put_ending, put_usage};
 pub use outcome::{Cause, Outcome, Reply};
-pub use words::{Request, first_command, requested};

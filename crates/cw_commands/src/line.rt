@@ -9,33 +9,33 @@ use clap::{Arg, ArgMatches, Command};
 use cw_core::NoMemory;
 use std::alloc::Global;
 
-/// The command line of some places: as many words, and no flag.
-fn line_of<'w>(alloc: Global, places: &[&'w str]) -> Result<Command<'w>, NoMemory>
-    ensures { IfOk result (λ line. app_of line ≡ line_app (map (λ place. place.now) places.now)) }
+/// The command line of some operands: as many arguments, and no flag.
+fn line_of<'w>(alloc: Global, operands: &[&'w str]) -> Result<Command<'w>, NoMemory>
+    ensures { IfOk result (λ line. app_of line ≡ line_app (map (λ operand. operand.now) operands.now)) }
 {
     let mut line = Command::new(alloc, "capweave")
         .no_binary_name(true)
         .disable_help_flag(true)
         .disable_version_flag(true);
-    for place in places {
-        line = line.arg(Arg::new(alloc, *place).required(true))?;
+    for operand in operands {
+        line = line.arg(Arg::new(alloc, *operand).required(true))?;
     }
     Ok(line)
 }
 
-/// The values of the places, where each has one.
+/// The values of the operands, where each has one.
 fn values<'w>(
     alloc: Global,
-    places: &[&str],
+    operands: &[&str],
     matches: &ArgMatches<'w>,
 ) -> Result<Option<Vec<&'w str>>, NoMemory>
     ensures found { IfOk result (λ found. option_map (λ names. map (λ name. name.now) names.items) found
-        ≡ values (map (λ place. place.now) places.now) (rows_of (found_of matches.now))) }
-    ensures many { IfOk result (λ found. IfSome found (λ names. length names.items ≡ length places.now)) }
+        ≡ values (map (λ operand. operand.now) operands.now) (rows_of (found_of matches.now))) }
+    ensures many { IfOk result (λ found. IfSome found (λ names. length names.items ≡ length operands.now)) }
 {
     let mut names = Vec::new(alloc);
-    for place in places {
-        match matches.get_str(*place) {
+    for operand in operands {
+        match matches.get_str(*operand) {
             Some(name) => names.push(name)?,
             None => return Ok(None),
         }
@@ -43,19 +43,19 @@ fn values<'w>(
     Ok(Some(names))
 }
 
-/// The values of some places, where the words fit.
+/// The values of some operands, where the arguments fit.
 pub(crate) fn taken<'w>(
     alloc: Global,
-    places: &[&'w str],
-    words: &'w [String],
+    operands: &[&'w str],
+    arguments: &'w [String],
 ) -> Result<Option<Vec<&'w str>>, NoMemory>
     ensures found { IfOk result (λ found. option_map (λ names. map (λ name. name.now) names.items) found
-        ≡ taken (map (λ place. place.now) places.now) (map string_bytes words.now)) }
-    ensures many { IfOk result (λ found. IfSome found (λ names. length names.items ≡ length places.now)) }
+        ≡ taken (map (λ operand. operand.now) operands.now) (map string_bytes arguments.now)) }
+    ensures many { IfOk result (λ found. IfSome found (λ names. length names.items ≡ length operands.now)) }
 {
-    let line = line_of(alloc, places)?;
-    match line.try_get_matches_from(words) {
-        Ok(matches) => values(alloc, places, &matches),
+    let line = line_of(alloc, operands)?;
+    match line.try_get_matches_from(arguments) {
+        Ok(matches) => values(alloc, operands, &matches),
         Err(error) => {
             if error.kind() == ErrorKind::OutOfMemory {
                 Err(NoMemory)

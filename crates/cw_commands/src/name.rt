@@ -1,7 +1,7 @@
 //! The names of the commands.
 
 ghost use Rattle.std.specs.Prelude.{◌≡◌, map};
-ghost use Rattle.cw_commands.specs.Commands.{named_by, places_of, usage_of};
+ghost use Rattle.cw_commands.specs.Commands.{named_by, operands_of, usage_of};
 
 /// The name of a command.
 #[derive(Clone, Copy, Debug, PartialEq, Eq, Drop)]
@@ -20,11 +20,11 @@ pub enum Name {
     Audit,
 }
 
-/// The name that a word is.
-pub(crate) fn named_by(word: &str) -> Option<Name>
-    ensures { result ≡ named_by word.now }
+/// The name that an argument is.
+pub(crate) fn named_by(argument: &str) -> Option<Name>
+    ensures { result ≡ named_by argument.now }
 {
-    match word {
+    match argument {
         "weave" => Some(Name::Weave),
         "procs" => Some(Name::Procs),
         "graph" => Some(Name::Graph),
@@ -42,9 +42,9 @@ pub(crate) fn named_by(word: &str) -> Option<Name>
 }
 
 impl Name {
-    /// The places of the words behind it.
-    pub(crate) fn places(self) -> &'static [&'static str]
-        ensures { map (λ place. place.now) result.now ≡ places_of self }
+    /// The operands of the arguments behind it.
+    pub(crate) fn operands(self) -> &'static [&'static str]
+        ensures { map (λ operand. operand.now) result.now ≡ operands_of self }
     {
         match self {
             Name::Weave => &["POLICY", "SOURCE"],
@@ -62,7 +62,7 @@ impl Name {
         }
     }
 
-    /// The words of its command, as the line on usage tells them.
+    /// The arguments of its command, as the line on usage tells them.
     pub(crate) fn usage(self) -> &'static [u8]
         ensures { result.now ≡ usage_of self }
     {

@@ -12,20 +12,20 @@ use crate::ending::Ending;
 use crate::name::Name;
 use cw_io::{Sink, SinkFault, Writer};
 
-/// Puts some words, others behind them and a line feed.
-fn put_line<N: Sink>(note: &mut N, words: &[u8], rest: &[u8]) -> Result<(), SinkFault>
-    ensures puts { Puts (N.taken note.old) (N.taken note.new) (line words.now rest.now) result }
+/// Puts some arguments, others behind them and a line feed.
+fn put_line<N: Sink>(note: &mut N, arguments: &[u8], rest: &[u8]) -> Result<(), SinkFault>
+    ensures puts { Puts (N.taken note.old) (N.taken note.new) (line arguments.now rest.now) result }
     ensures failed { HasCause SinkFault.Failed (N.faults note.old) (N.faults note.new) result }
     ensures refused { HasCause SinkFault.NoMemory (N.refused note.old) (N.refused note.new) result }
 {
     let mut writer = Writer::begin(note);
-    writer.put(words, note);
+    writer.put(arguments, note);
     writer.put(rest, note);
     writer.put(b"\n", note);
     writer.finish(note)
 }
 
-/// The words of a command, or of all, for the line on usage.
+/// The arguments of a command, or of all, for the line on usage.
 fn usage(first: Option<Name>) -> &'static [u8]
     ensures { usage_line first ≡ line (codes "usage: capweave ") result.now }
 {
@@ -35,7 +35,7 @@ fn usage(first: Option<Name>) -> &'static [u8]
     }
 }
 
-/// Puts the line of words that don't fit, by the command that the first one names. The note gets a front of it, and all of it where neither of
+/// Puts the line of arguments that don't fit, by the command that the first one names. The note gets a front of it, and all of it where neither of
 /// its counts rises.
 pub fn put_usage<N: Sink>(note: &mut N, first: Option<Name>) -> Result<(), SinkFault>
     ensures puts { Puts (N.taken note.old) (N.taken note.new) (usage_line first) result }
@@ -48,13 +48,13 @@ pub fn put_usage<N: Sink>(note: &mut N, first: Option<Name>) -> Result<(), SinkF
 }
 
 /// Ends a line that was begun.
-fn end_line<N: Sink>(words: Writer<N>, note: &mut N) -> Result<(), SinkFault>
-    requires follows { Follows N.taken N.faults N.refused words note.old }
-    ensures puts { Puts (N.taken words.begun) (N.taken note.new) (line words.text []) result }
-    ensures failed { HasCause SinkFault.Failed (N.faults words.begun) (N.faults note.new) result }
-    ensures refused { HasCause SinkFault.NoMemory (N.refused words.begun) (N.refused note.new) result }
+fn end_line<N: Sink>(arguments: Writer<N>, note: &mut N) -> Result<(), SinkFault>
+    requires follows { Follows N.taken N.faults N.refused arguments note.old }
+    ensures puts { Puts (N.taken arguments.begun) (N.taken note.new) (line arguments.text []) result }
+    ensures failed { HasCause SinkFault.Failed (N.faults arguments.begun) (N.faults note.new) result }
+    ensures refused { HasCause SinkFault.NoMemory (N.refused arguments.begun) (N.refused note.new) result }
 {
-    let mut writer = words;
+    let mut writer = arguments;
     writer.put(b"\n", note);
     writer.finish(note)
 }
@@ -68,7 +68,7 @@ fn put_line_of<N: Sink>(note: &mut N, ending: Ending<'_, N>) -> Result<(), SinkF
 {
     match ending {
         Ending::Put(_) => Ok(()),
-        Ending::Refused(_, words) => end_line(words, note),
+        Ending::Refused(_, arguments) => end_line(arguments, note),
         Ending::TooLong(quantity) => put_line(note, b"limit: ", quantity.name().as_bytes()),
         Ending::Unread(name) => put_line(note, b"read: ", name.as_bytes()),
         Ending::Unwritten => put_line(note, b"write", b""),

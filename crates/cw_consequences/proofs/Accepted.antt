@@ -90,12 +90,12 @@ module _ (files : FilesByName) where
 
   module _ (first second policy source : List ℕ) (one : files first ≡ Some policy) (two : files second ≡ Some source) (a : AreAccepted policy source) where
     weave_short : OneIsLonger (Some files) (quantities_of Weave) (first ∷ (second ∷ [])) → ⊥
-    weave_short o = go o.place o.is_quantity o.is_name
+    weave_short o = go o.index o.is_quantity o.is_name
       where
-        go : (place : ℕ) → slice_get (PolicyBytes ∷ (SourceBytes ∷ [])) place ≡ Some o.quantity → slice_get (first ∷ (second ∷ [])) place ≡ Some o.name → ⊥
+        go : (index : ℕ) → slice_get (PolicyBytes ∷ (SourceBytes ∷ [])) index ≡ Some o.quantity → slice_get (first ∷ (second ∷ [])) index ≡ Some o.name → ⊥
         go zero q n = kept (front o.before) o.quantity PolicyBytes o.name first policy one refl a.short_policy q n o.longer
         go (suc zero) q n = kept (front o.before) o.quantity SourceBytes o.name second source two refl a.short q n o.longer
-        go (suc (suc place)) q n = let lt = slice_get_within (PolicyBytes ∷ (SourceBytes ∷ [])) (suc (suc place)) o.quantity q in omega (arith, lt)
+        go (suc (suc index)) q n = let lt = slice_get_within (PolicyBytes ∷ (SourceBytes ∷ [])) (suc (suc index)) o.quantity q in omega (arith, lt)
 
     weave_told : (bytes : List (List ℕ)) (due : Due) → HaveBytes (Some files) [] (quantities_of Weave) (first ∷ (second ∷ [])) bytes → IsDue Weave bytes due → IsText due
     weave_told [] due h d = absurd h
@@ -124,11 +124,11 @@ module _ (source : List ℕ) (a : IsAccepted source) where
 
   module _ (files : FilesByName) (name : List ℕ) (one : files name ≡ Some source) where
     graph_short : OneIsLonger (Some files) (quantities_of Graph) (name ∷ []) → ⊥
-    graph_short o = go o.place o.is_quantity o.is_name
+    graph_short o = go o.index o.is_quantity o.is_name
       where
-        go : (place : ℕ) → slice_get (SourceBytes ∷ []) place ≡ Some o.quantity → slice_get (name ∷ []) place ≡ Some o.name → ⊥
+        go : (index : ℕ) → slice_get (SourceBytes ∷ []) index ≡ Some o.quantity → slice_get (name ∷ []) index ≡ Some o.name → ⊥
         go zero q n = kept files (front o.before) o.quantity SourceBytes o.name name source one refl a.short q n o.longer
-        go (suc place) q n = let lt = slice_get_within (SourceBytes ∷ []) (suc place) o.quantity q in omega (arith, lt)
+        go (suc index) q n = let lt = slice_get_within (SourceBytes ∷ []) (suc index) o.quantity q in omega (arith, lt)
 
     -- the source is the one file
     graph_due : (bytes : List (List ℕ)) (due : Due) → HaveBytes (Some files) [] (quantities_of Graph) (name ∷ []) bytes → IsDue Graph bytes due → (text : List ℕ) × (due ≡ Told Yes text)

@@ -105,9 +105,9 @@ module _ (h : Held) (is : IsGameMade h) (functions : ℕ) (few : functions ≤ 4
       let entered = state_small h is grp.entered own.1 in (
         (omega (arith, function, few), omega (arith, entered), omega (arith, reach)),
         all_rows grp.rows (λ n r er.
-            let place = and_parts (is_position g r.pos) _ (holds.rows n r er).place in
-            let state = state_small h is r.state (and_parts (is_state g r.state) _ place.1).0 in
-            let pos = position_small h is r.pos (omega (arith, some)) place.0 in
+            let pair = and_parts (is_position g r.pos) _ (holds.rows n r er).pair in
+            let state = state_small h is r.state (and_parts (is_state g r.state) _ pair.1).0 in
+            let pos = position_small h is r.pos (omega (arith, some)) pair.0 in
             let inside = (stated.within grp.function grp.entered r.pos r.state r.inside grp there (row_there grp.rows n r r.pos r.state (order.1 i grp e) er refl refl)).0.2 in
             (omega (arith, pos), omega (arith, state), omega (arith, inside))),
       )

@@ -5,7 +5,7 @@ use Rattle.cw_rights.specs.Policies.{PlainPolicy}
 use Rattle.cw_syntax.specs.Marks.{MarkKind, EntryMark, LabelMark, OpenMark, CloseMark, CallMark, SeamMark, marks_of}
 use Rattle.cw_certs.specs.Tables.{Table}
 use Rattle.cw_model.specs.Boards.{problem_of}
-use Rattle.cw_table_text.specs.TablesText.{limits_words, tables_text}
+use Rattle.cw_table_text.specs.TablesText.{limits_text, tables_text}
 use Rattle.cw_emit.specs.Cut.{part}
 use Rattle.cw_emit.specs.Woven.{spelling, woven_from, Stands}
 use Rattle.cw_commands.specs.declared.outcome.Reply.TheVariants.{Yes, No}
@@ -29,7 +29,7 @@ module _ (p : PlainPolicy) (limit enter split stop : Bool) where
       ap₂ (λ (s : List ℕ) (rest : List ℕ). take (m.place - at) (drop at source) ++ (part s ++ rest)) (spelling_same source m.seam m.kind) (woven_same source m.place ms)
 
   lines_same : (t : Table) → tables_text (varied p limit enter split stop p.format) t ≡ tables_text p t
-  unfolding tables_text limits_words
+  unfolding tables_text limits_text
   lines_same t = refl
 
   pub text_same : (text source : List ℕ) (marks : List SeamMark) (t : Table) → Stands text source marks t (varied p limit enter split stop p.format) → Stands text source marks t p

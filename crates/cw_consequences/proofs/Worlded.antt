@@ -16,9 +16,9 @@ use Rattle.cw_steps.specs.declared.fault.StepsFault.TheVariants.{Line}
 use Rattle.cw_steps.proofs.Answered.{one_answer as one_steps_answer}
 use Rattle.cw_worlds.specs.Forks.{fork_places}
 use Rattle.cw_worlds.specs.Worlds.{Step, start_world}
-use Rattle.cw_procs.specs.Steps.{Word, End}
+use Rattle.cw_procs.specs.Steps.{Entry, End}
 use Rattle.cw_procs.specs.Told.{world_trace}
-use Rattle.cw_procs.specs.Played.{word_of}
+use Rattle.cw_procs.specs.Played.{entry_of}
 use Rattle.cw_procs.proofs.OneWorld.{one_world}
 use Rattle.cw_commands.specs.declared.outcome.Reply.TheVariants.{No}
 use Rattle.cw_commands.specs.Outcomes.{Due, Told}
@@ -28,7 +28,7 @@ use Rattle.cw_worlding.specs.Worlding.{world_told, steps_refusal, AfterPolicy, A
 use Rattle.cw_consequences.proofs.Answered.{one_with_woven}
 use Rattle.cw_consequences.proofs.Singles.{IsOne, one_behind, one_where_woven_fits}
 
-module _ (Next : List Word → Due → Type 0) (one : (list : List Word) → IsOne (Next list)) (text : List ℕ) where
+module _ (Next : List Entry → Due → Type 0) (one : (list : List Entry) → IsOne (Next list)) (text : List ℕ) where
   one_steps : IsOne (WithSteps Next text)
   one_steps due answer (inl (m, is, a)) (inl (n, other, b)) =
       let same : Err (Line m) ≡ Err (Line n) = one_steps_answer text (Err (Line m)) (Err (Line n)) is other in
@@ -41,10 +41,10 @@ module _ (Next : List Word → Due → Type 0) (one : (list : List Word) → IsO
   one_steps due answer (inr (steps, spelled, after)) (inr (others, other, behind)) =
       let same : Ok others ≡ Ok steps = one_steps_answer text (Ok others) (Ok steps) other spelled in
       let lists : others ≡ steps = cc in
-      one (map word_of steps) due answer after (subst (λ (z : List StepData). Next (map word_of z) answer) lists behind)
+      one (map entry_of steps) due answer after (subst (λ (z : List StepData). Next (map entry_of z) answer) lists behind)
 
 module _ (source : List ℕ) (p : PlainPolicy) (file : File) (t : Table) where
-  one_told : (list : List Word) → IsOne (IsWorldTold source p file t list)
+  one_told : (list : List Entry) → IsOne (IsWorldTold source p file t list)
   one_told list due answer a b =
       let same = one_world (problem_of p source file) t (fork_places source file) list a.end b.end a.steps b.steps a.world b.world in
       a.due_is
@@ -52,7 +52,7 @@ module _ (source : List ℕ) (p : PlainPolicy) (file : File) (t : Table) where
       (start_world (problem_of p source file) t) steps)) same.0 same.1
       ∙ sym b.due_is
 
-  one_shown : (list : List Word) (g : Game) → IsOne (IsWorldShown source p file t list g)
+  one_shown : (list : List Entry) (g : Game) → IsOne (IsWorldShown source p file t list g)
   one_shown list g due answer (inl (good, a)) (inl (other, b)) = one_told list due answer a b
   one_shown list g due answer (inl (good, a)) (inr (f, fails, b)) = absurd (none-some f (sym good ∙ fails))
   one_shown list g due answer (inr (f, fails, a)) (inl (good, b)) = absurd (none-some f (sym good ∙ fails))

@@ -1,4 +1,4 @@
--- The bits of the number that words stand for.
+-- The bits of the number that limbs stand for.
 use Rattle.std.proofs.Common.{◌≡◌, ℕ, zero, suc, ◌+◌, ◌*◌, ◌-◌, ◌/◌, ◌%◌, ◌^◌, ◌<◌, ◌≤◌, ◌≢◌, ◌||◌, ◌&&◌, not, false, eqb, nat_lt, min, bit_or, bit_and, List, [], ◌∷◌, length, get_or, refl, sym, ap, ◌∙◌, arith, inl, inr}
 use Rattle.std.proofs.Math.ListN.{set}
 use Rattle.std.specs.Int.{bit_at, bit_not, w64}
@@ -9,11 +9,11 @@ use Rattle.std.specs.Prelude.{IsTrue}
 use Rattle.std.specs.Int.Bits.{and_lt}
 use Rattle.std.proofs.lemmas.List.{get_or-set_same, get_or-set_other, get_or_past}
 use Rattle.cw_core.specs.StateSet.{has}
-use Rattle.cw_core.specs.Words.{number_of, AreWords, AreSixteenWords}
-use Rattle.cw_core.proofs.Words.{AreWords-set, AreWords-at}
+use Rattle.cw_core.specs.Limbs.{number_of, AreLimbs, AreSixteenLimbs}
+use Rattle.cw_core.proofs.Limbs.{AreLimbs-set, AreLimbs-at}
 
--- bit j of the number is bit j % 64 of word j / 64
-pub bit_at-number_of : (ws : List ℕ) (j : ℕ) → AreWords ws → bit_at (number_of ws) j ≡ bit_at (get_or ws (j / 64) 0) (j % 64)
+-- bit j of the number is bit j % 64 of limb j / 64
+pub bit_at-number_of : (ws : List ℕ) (j : ℕ) → AreLimbs ws → bit_at (number_of ws) j ≡ bit_at (get_or ws (j / 64) 0) (j % 64)
 unfolding number_of
 bit_at-number_of [] j fit = bit_at-zero j ∙ sym (bit_at-zero (j % 64))
 bit_at-number_of (w ∷ ws) j fit =
@@ -28,23 +28,23 @@ bit_at-number_of (w ∷ ws) j fit =
           rw (q, r) (bit_at_cat_high (number_of ws) 64 w j fit.0 le ∙ bit_at-number_of ws (j - 64) fit.1)
     ]
 
-pub has-number_of : (ws : List ℕ) (j : ℕ) → AreWords ws → has (number_of ws) j ≡ eqb (bit_at (get_or ws (j / 64) 0) (j % 64)) 1
+pub has-number_of : (ws : List ℕ) (j : ℕ) → AreLimbs ws → has (number_of ws) j ≡ eqb (bit_at (get_or ws (j / 64) 0) (j % 64)) 1
 unfolding has
 has-number_of ws j fit = ap (λ (b : ℕ). eqb b 1) (bit_at-number_of ws j fit)
 
--- a word of its own for the place s, which changes bit s alone
+-- a limb of its own for the place s, which changes bit s alone
 record ChangesBit (ws : List ℕ) (s v bit : ℕ) : Type 0 where
   fits : v < 2 ^ 64
   here : bit_at v (s % 64) ≡ bit
   others : (k : ℕ) → k < 64 → k ≢ (s % 64) → bit_at v k ≡ bit_at (get_or ws (s / 64) 0) k
 
-bit_here : (ws : List ℕ) (s v bit : ℕ) → AreWords ws → s / 64 < length ws → ChangesBit ws s v bit → bit_at (number_of (set ws (s / 64) v)) s ≡ bit
+bit_here : (ws : List ℕ) (s v bit : ℕ) → AreLimbs ws → s / 64 < length ws → ChangesBit ws s v bit → bit_at (number_of (set ws (s / 64) v)) s ≡ bit
 bit_here ws s v bit fit within h =
-    bit_at-number_of (set ws (s / 64) v) s (AreWords-set ws (s / 64) v fit h.fits) ∙ rw (get_or-set_same ws (s / 64) v 0 within) h.here
+    bit_at-number_of (set ws (s / 64) v) s (AreLimbs-set ws (s / 64) v fit h.fits) ∙ rw (get_or-set_same ws (s / 64) v 0 within) h.here
 
-bit_elsewhere : (ws : List ℕ) (s v bit : ℕ) → AreWords ws → s / 64 < length ws → ChangesBit ws s v bit → (i : ℕ) → i ≢ s → bit_at (number_of (set ws (s / 64) v)) i ≡ bit_at (number_of ws) i
+bit_elsewhere : (ws : List ℕ) (s v bit : ℕ) → AreLimbs ws → s / 64 < length ws → ChangesBit ws s v bit → (i : ℕ) → i ≢ s → bit_at (number_of (set ws (s / 64) v)) i ≡ bit_at (number_of ws) i
 bit_elsewhere ws s v bit fit within h i apart =
-    bit_at-number_of (set ws (s / 64) v) i (AreWords-set ws (s / 64) v fit h.fits)
+    bit_at-number_of (set ws (s / 64) v) i (AreLimbs-set ws (s / 64) v fit h.fits)
     ∙ elim (cases_eq (i / 64) (s / 64)) [
       | inl e ↦
           let far : (i % 64) ≢ (s % 64) = omega arith in
@@ -53,17 +53,17 @@ bit_elsewhere ws s v bit fit within h i apart =
       | inr ne ↦ rw (get_or-set_other ws (s / 64) (i / 64) v 0 ne) (sym (bit_at-number_of ws i fit))
     ]
 
--- the word with the bit of s set, and the one with it clear
+-- the limb with the bit of s set, and the one with it clear
 abbrev pub with_bit : List ℕ → ℕ → ℕ
 with_bit ws s = bit_or (get_or ws (s / 64) 0) (1 * 2 ^ (s % 64) % 2 ^ 64)
 
 abbrev pub without_bit : List ℕ → ℕ → ℕ
 without_bit ws s = bit_and (get_or ws (s / 64) 0) (bit_not w64 (1 * 2 ^ (s % 64) % 2 ^ 64))
 
-pub with_bit-lt : (ws : List ℕ) (s : ℕ) → AreWords ws → with_bit ws s < 2 ^ 64
-with_bit-lt ws s fit = or_lt 64 (get_or ws (s / 64) 0) (1 * 2 ^ (s % 64) % 2 ^ 64) (AreWords-at ws (s / 64) fit) (omega arith)
+pub with_bit-lt : (ws : List ℕ) (s : ℕ) → AreLimbs ws → with_bit ws s < 2 ^ 64
+with_bit-lt ws s fit = or_lt 64 (get_or ws (s / 64) 0) (1 * 2 ^ (s % 64) % 2 ^ 64) (AreLimbs-at ws (s / 64) fit) (omega arith)
 
-pub has-insert : (ws : List ℕ) (s : ℕ) → AreWords ws → s / 64 < length ws → (i : ℕ) → has (number_of (set ws (s / 64) (with_bit ws s))) i ≡ (eqb i s || has (number_of ws) i)
+pub has-insert : (ws : List ℕ) (s : ℕ) → AreLimbs ws → s / 64 < length ws → (i : ℕ) → has (number_of (set ws (s / 64) (with_bit ws s))) i ≡ (eqb i s || has (number_of ws) i)
 unfolding has
 has-insert ws s fit within i =
     let w = get_or ws (s / 64) 0 in
@@ -78,10 +78,10 @@ has-insert ws s fit within i =
       | inr ne ↦ rw (bit_elsewhere ws s (with_bit ws s) 1 fit within change i ne, ne_eqb i s ne) refl
     ]
 
-pub without_bit-lt : (ws : List ℕ) (s : ℕ) → AreWords ws → without_bit ws s < 2 ^ 64
-without_bit-lt ws s fit = and_lt 64 (get_or ws (s / 64) 0) (bit_not w64 (1 * 2 ^ (s % 64) % 2 ^ 64)) (AreWords-at ws (s / 64) fit) (omega arith)
+pub without_bit-lt : (ws : List ℕ) (s : ℕ) → AreLimbs ws → without_bit ws s < 2 ^ 64
+without_bit-lt ws s fit = and_lt 64 (get_or ws (s / 64) 0) (bit_not w64 (1 * 2 ^ (s % 64) % 2 ^ 64)) (AreLimbs-at ws (s / 64) fit) (omega arith)
 
-pub has-remove : (ws : List ℕ) (s : ℕ) → AreWords ws → s / 64 < length ws → (i : ℕ) → has (number_of (set ws (s / 64) (without_bit ws s))) i ≡ (not (eqb i s) && has (number_of ws) i)
+pub has-remove : (ws : List ℕ) (s : ℕ) → AreLimbs ws → s / 64 < length ws → (i : ℕ) → has (number_of (set ws (s / 64) (without_bit ws s))) i ≡ (not (eqb i s) && has (number_of ws) i)
 unfolding has
 has-remove ws s fit within i =
     let w = get_or ws (s / 64) 0 in
@@ -96,7 +96,7 @@ has-remove ws s fit within i =
       | inr ne ↦ rw (bit_elsewhere ws s (without_bit ws s) 0 fit within change i ne, ne_eqb i s ne) refl
     ]
 
--- a word of the complement below n: the word that begins at the bit `from`
+-- a limb of the complement below n: the limb that begins at the bit `from`
 abbrev pub other_bits : ℕ → ℕ → ℕ → ℕ
 other_bits n from w = bit_and (bit_not w64 w) (2 ^ min (n - from) 64 - 1)
 
@@ -116,13 +116,13 @@ bit_at_other_bits n from w j fit small =
     none : (b : ℕ) → eqb (min b 0) 1 ≡ false
     none b = ne_eqb (min b 0) 1 (λ e. omega (arith, e))
 
-pub has-complement : (n : ℕ) (ws vs : List ℕ) → n ≤ 1024 → AreSixteenWords ws → AreSixteenWords vs → ((k : ℕ) → k < 16 → get_or vs k 0 ≡ other_bits n (64 * k) (get_or ws k 0)) → (i : ℕ) → has (number_of vs) i ≡ (nat_lt i n && not (has (number_of ws) i))
+pub has-complement : (n : ℕ) (ws vs : List ℕ) → n ≤ 1024 → AreSixteenLimbs ws → AreSixteenLimbs vs → ((k : ℕ) → k < 16 → get_or vs k 0 ≡ other_bits n (64 * k) (get_or ws k 0)) → (i : ℕ) → has (number_of vs) i ≡ (nat_lt i n && not (has (number_of ws) i))
 has-complement n ws vs top p q each i =
     rw (has-number_of vs i q.0, has-number_of ws i p.0)
     (elim (cases_lt (i / 64) 16) [
       | inl lt ↦
           let place : 64 * (i / 64) + i % 64 ≡ i = omega arith in
-          rw (each (i / 64) lt) (rw place at (bit_at_other_bits n (64 * (i / 64)) (get_or ws (i / 64) 0) (i % 64) (AreWords-at ws (i / 64) p.0) (omega arith)))
+          rw (each (i / 64) lt) (rw place at (bit_at_other_bits n (64 * (i / 64)) (get_or ws (i / 64) 0) (i % 64) (AreLimbs-at ws (i / 64) p.0) (omega arith)))
       | inr le ↦
           rw (get_or_past vs (i / 64) 0 (omega (arith, q.1)), bit_at-zero (i % 64), le-ltb i n (omega arith)) refl
     ])
@@ -140,7 +140,7 @@ other_bits_more n ws vs i within each k below =
     ]
 
 -- no member from the number of bits on
-pub has_past : (ws : List ℕ) (s : ℕ) → AreWords ws → IsTrue (has (number_of ws) s) → s < 64 * length ws
+pub has_past : (ws : List ℕ) (s : ℕ) → AreLimbs ws → IsTrue (has (number_of ws) s) → s < 64 * length ws
 has_past ws s fit h =
     elim (cases_lt (s / 64) (length ws)) [
       | inl lt ↦ omega arith

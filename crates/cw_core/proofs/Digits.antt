@@ -14,12 +14,12 @@ use Rattle.std.proofs.lemmas.List.{length-map, map-append, take_more_set}
 use Rattle.std.proofs.lemmas.Nat.{leading_length, le-div, pow_pos, pow-add, shr-shr, field_of}
 use Rattle.cw_core.specs.Digits.{lowest_digits}
 use Rattle.cw_core.specs.Numerals.{hexadecimal, hexadecimal_digits}
-use Rattle.cw_core.specs.Words.{number_of, AreWords}
+use Rattle.cw_core.specs.Limbs.{number_of, AreLimbs}
 use Rattle.cw_core.specs.declared.line.TheConstants.{PAIRS}
 use Rattle.cw_core.proofs.Hexadecimals.{hexadecimal_digits_positive}
-use Rattle.cw_core.proofs.Nibbles.{digits_more, word-le}
+use Rattle.cw_core.proofs.Nibbles.{digits_more, limb-le}
 use Rattle.cw_core.proofs.Texts.{length-hexadecimal}
-use Rattle.cw_core.proofs.Words.{AreWords-at}
+use Rattle.cw_core.proofs.Limbs.{AreLimbs-at}
 
 -- the digits of a number are those of its high part and the lowest ones
 digits_split : (n count : ℕ) → ((i : ℕ) → i < count → 0 < n / 2 ^ (4 * i)) → digits_of 16 n ≡ digits_of 16 (n / 2 ^ (4 * count)) ++ lowest_digits count n
@@ -73,10 +73,10 @@ mask_digits n count e =
     let q = ap length e ∙ length-map (lowest_digits count n) digit_char ∙ length-lowest_digits count n in
     omega (arith, p, q)
 
--- the highest word that isn't zero has the first binary digit
-pub first_bit : (ws : List ℕ) (i empty bits : ℕ) → AreWords ws → get_or ws i 0 ≢ 0 → empty ≡ count_leading_zeros 64 (get_or ws i 0) → bits ≡ 64 * i + 64 - empty → 2 ^ (bits - 1) ≤ number_of ws
+-- the highest limb that isn't zero has the first binary digit
+pub first_bit : (ws : List ℕ) (i empty bits : ℕ) → AreLimbs ws → get_or ws i 0 ≢ 0 → empty ≡ count_leading_zeros 64 (get_or ws i 0) → bits ≡ 64 * i + 64 - empty → 2 ^ (bits - 1) ≤ number_of ws
 first_bit ws i empty bits fit some is e =
-    let (m, whole, lt, near) = leading_length 64 (get_or ws i 0) (AreWords-at ws i fit) in
+    let (m, whole, lt, near) = leading_length 64 (get_or ws i 0) (AreLimbs-at ws i fit) in
     by_bits m whole lt near
   where
     by_bits : (m : ℕ) → count_leading_zeros 64 (get_or ws i 0) + m ≡ 64 → get_or ws i 0 < 2 ^ m → 2 ^ m ≤ 2 * get_or ws i 0 + 1 → 2 ^ (bits - 1) ≤ number_of ws
@@ -85,7 +85,7 @@ first_bit ws i empty bits fit some is e =
         let half : 2 ^ k ≤ get_or ws i 0 = let p = pow-suc 2 k in omega (arith, p, near) in
         let same : k + 64 * i ≡ bits - 1 = omega (arith, whole, is, e) in
         let p = mul-le-mul_right (2 ^ (64 * i)) half in
-        let q = word-le ws i in
+        let q = limb-le ws i in
         let r = pow-add 2 k (64 * i) in
         rw (← same) (omega (arith, p, q, r))
 
@@ -179,18 +179,18 @@ lowest_split (suc k) m n few =
     ∙ ap (λ (z : ℕ). z ∷ lowest_digits (k + m) n) digit
     ∙ ap (λ (z : List ℕ). (upper % 2 ^ 64 / 2 ^ (4 * k) % 2 ^ 4) ∷ z) (lowest_split k m n (omega (arith, few)))
 
--- a word that is written in the place of 16 bytes
-pub take_word : (xs ys rest : List ℕ) (at : ℕ) → at ≤ length xs → length ys ≡ 16 → take (at + 16) (take at xs ++ (ys ++ rest)) ≡ take at xs ++ ys
-take_word xs ys rest at within long =
+-- a limb that is written in the place of 16 bytes
+pub take_limb : (xs ys rest : List ℕ) (at : ℕ) → at ≤ length xs → length ys ≡ 16 → take (at + 16) (take at xs ++ (ys ++ rest)) ≡ take at xs ++ ys
+take_limb xs ys rest at within long =
     let done = take at xs ++ ys in
     let e : at + 16 ≡ length done = let p = length-append (take at xs) ys in let q = length-take-le at xs within in omega (arith, p, q, long) in
     ap (take (at + 16)) (sym (append_assoc (take at xs) ys rest))
     ∙ ap (λ (k : ℕ). take k (done ++ rest)) e
     ∙ take-append_seam done rest
 
-pub word_kept : (xs ys : List ℕ) (at count most : ℕ) → length ys ≡ 16 → count ≡ 16 → at + 16 ≤ length xs → most ≤ length xs
+pub limb_kept : (xs ys : List ℕ) (at count most : ℕ) → length ys ≡ 16 → count ≡ 16 → at + 16 ≤ length xs → most ≤ length xs
     → most ≤ length (take at xs ++ (ys ++ drop count (drop at xs)))
-word_kept xs ys at count most long same within room =
+limb_kept xs ys at count most long same within room =
     let rest = drop count (drop at xs) in
     let front = length-take-le at xs (omega (arith, within)) in
     let back = length-drop count (drop at xs) ∙ ap (λ (k : ℕ). k - count) (length-drop at xs) in
@@ -199,21 +199,21 @@ word_kept xs ys at count most long same within room =
 pub length-lowest_glyphs : (count n : ℕ) → length (map digit_char (lowest_digits count n)) ≡ count
 length-lowest_glyphs count n = length-map (lowest_digits count n) digit_char ∙ length-lowest_digits count n
 
--- what is written and what is left to write are the same whole after one word more
-pub word_put : (done after digits whole : List ℕ) (n left place word : ℕ) → left ≡ place + 8 → place % 8 ≡ 0 → word ≡ n / 2 ^ (64 * (place / 8)) % 2 ^ 64
-    → digits ≡ map digit_char (lowest_digits 16 word) → after ≡ done ++ digits → done ++ map digit_char (lowest_digits (2 * left) n) ≡ whole
+-- what is written and what is left to write are the same whole after one limb more
+pub limb_put : (done after digits whole : List ℕ) (n left place limb : ℕ) → left ≡ place + 8 → place % 8 ≡ 0 → limb ≡ n / 2 ^ (64 * (place / 8)) % 2 ^ 64
+    → digits ≡ map digit_char (lowest_digits 16 limb) → after ≡ done ++ digits → done ++ map digit_char (lowest_digits (2 * left) n) ≡ whole
     → after ++ map digit_char (lowest_digits (2 * place) n) ≡ whole
-word_put done after digits whole n left place word more even is spelled put so_far =
+limb_put done after digits whole n left place limb more even is spelled put so_far =
     let below = lowest_digits (2 * place) n in
     let e : 2 * left ≡ 16 + 2 * place = omega (arith, more) in
     let f : 64 * (place / 8) ≡ 4 * (2 * place) = omega (arith, even) in
-    let same : word ≡ n / 2 ^ (4 * (2 * place)) % 2 ^ 64 = is ∙ ap (λ (k : ℕ). n / 2 ^ k % 2 ^ 64) f in
-    let split : lowest_digits (2 * left) n ≡ lowest_digits 16 word ++ below =
+    let same : limb ≡ n / 2 ^ (4 * (2 * place)) % 2 ^ 64 = is ∙ ap (λ (k : ℕ). n / 2 ^ k % 2 ^ 64) f in
+    let split : lowest_digits (2 * left) n ≡ lowest_digits 16 limb ++ below =
     ap (λ (k : ℕ). lowest_digits k n) e ∙ lowest_split 16 (2 * place) n (omega arith) ∙ ap (λ (z : ℕ). lowest_digits 16 z ++ below) (sym same) in
     ap (λ (z : List ℕ). z ++ map digit_char below) put
     ∙ append_assoc done digits (map digit_char below)
     ∙ ap (λ (z : List ℕ). done ++ (z ++ map digit_char below)) spelled
-    ∙ ap (λ (z : List ℕ). done ++ z) (sym (map-append digit_char (lowest_digits 16 word) below))
+    ∙ ap (λ (z : List ℕ). done ++ z) (sym (map-append digit_char (lowest_digits 16 limb) below))
     ∙ ap (λ (z : List ℕ). done ++ map digit_char z) (sym split)
     ∙ so_far
 
@@ -222,15 +222,15 @@ pub none_left : (done whole : List ℕ) (n left : ℕ) → left ≡ 0 → done +
 unfolding lowest_digits
 none_left done whole n left none e = sym (append-nil done) ∙ (rw none at e)
 
--- the mark, the first digit where their count is odd, and the others
+-- the prefix, the first digit where their count is odd, and the others
 pub mask_put : (old first second whole : List ℕ) (n count : ℕ) → first ≡ old ++ codes "0x"
     → second ++ map digit_char (lowest_digits (2 * (count / 2)) n) ≡ first ++ map digit_char (lowest_digits count n)
     → whole ≡ second ++ map digit_char (lowest_digits (2 * (count / 2)) n) → hexadecimal_digits n ≡ map digit_char (lowest_digits count n) → whole ≡ old ++ hexadecimal n
 unfolding hexadecimal
-mask_put old first second whole n count mark odd rest all =
+mask_put old first second whole n count prefix odd rest all =
     rest
     ∙ odd
-    ∙ ap (λ (z : List ℕ). z ++ map digit_char (lowest_digits count n)) mark
+    ∙ ap (λ (z : List ℕ). z ++ map digit_char (lowest_digits count n)) prefix
     ∙ append_assoc old (codes "0x") (map digit_char (lowest_digits count n))
     ∙ ap (λ (z : List ℕ). old ++ (codes "0x" ++ z)) (sym all)
 

@@ -12,4 +12,4 @@ pub mod Sets
 pub mod Spellings
 mod Subset
 mod Texts
-mod Words
+mod Limbs

@@ -9,8 +9,8 @@ use Rattle.std.proofs.lemmas.Bool.{cases_lt}
 use Rattle.std.proofs.lemmas.Nat.{shr-shr, shr_le, field_of, or_lt, pow-add}
 use Rattle.std.proofs.Math.Pow.{mod-mod-pow}
 use Rattle.std.proofs.lemmas.Nat as nat
-use Rattle.cw_core.specs.Words.{number_of, AreWords}
-use Rattle.cw_core.proofs.Words.{AreWords-at}
+use Rattle.cw_core.specs.Limbs.{number_of, AreLimbs}
+use Rattle.cw_core.proofs.Limbs.{AreLimbs-at}
 
 zero_shr : (k : ℕ) → 0 / 2 ^ k ≡ 0
 zero_shr k = let p = shr_le 0 k in omega (arith, p)
@@ -21,7 +21,7 @@ low hi w k fit le =
     let whole : (hi * 2 ^ 64 + w) % 2 ^ ((64 - k) + k) ≡ w = rw e (nat.mod_low hi 64 w fit) in
     sym (mod-mod-pow (hi * 2 ^ 64 + w) (64 - k) k) ∙ ap (λ (z : ℕ). z % 2 ^ k) whole
 
-pub nibble_is : (ws : List ℕ) (i : ℕ) → AreWords ws → number_of ws / 2 ^ (4 * i) % 2 ^ 4 ≡ get_or ws (i / 16) 0 / 2 ^ (4 * (i % 16)) % 2 ^ 4
+pub nibble_is : (ws : List ℕ) (i : ℕ) → AreLimbs ws → number_of ws / 2 ^ (4 * i) % 2 ^ 4 ≡ get_or ws (i / 16) 0 / 2 ^ (4 * (i % 16)) % 2 ^ 4
 unfolding number_of
 nibble_is [] i fit = rw (zero_shr (4 * i), zero_shr (4 * (i % 16))) refl
 nibble_is (w ∷ ws) i fit =
@@ -38,7 +38,7 @@ nibble_is (w ∷ ws) i fit =
           rw (q, r, up) (nibble_is ws (i - 16) fit.1)
     ]
 
-pub byte_is : (ws : List ℕ) (i : ℕ) → AreWords ws → number_of ws / 2 ^ (8 * i) % 2 ^ 8 ≡ get_or ws (i / 8) 0 / 2 ^ (8 * (i % 8)) % 2 ^ 8
+pub byte_is : (ws : List ℕ) (i : ℕ) → AreLimbs ws → number_of ws / 2 ^ (8 * i) % 2 ^ 8 ≡ get_or ws (i / 8) 0 / 2 ^ (8 * (i % 8)) % 2 ^ 8
 unfolding number_of
 byte_is [] i fit = rw (zero_shr (8 * i), zero_shr (8 * (i % 8))) refl
 byte_is (w ∷ ws) i fit =
@@ -56,18 +56,18 @@ byte_is (w ∷ ws) i fit =
           rw (q, r, up) (byte_is ws (i - 8) fit.1)
     ]
 
-pub word_is : (ws : List ℕ) (i : ℕ) → AreWords ws → number_of ws / 2 ^ (64 * i) % 2 ^ 64 ≡ get_or ws i 0
+pub limb_is : (ws : List ℕ) (i : ℕ) → AreLimbs ws → number_of ws / 2 ^ (64 * i) % 2 ^ 64 ≡ get_or ws i 0
 unfolding number_of
-word_is [] i fit = rw (zero_shr (64 * i)) refl
-word_is (w ∷ ws) zero fit =
+limb_is [] i fit = rw (zero_shr (64 * i)) refl
+limb_is (w ∷ ws) zero fit =
     let e : (number_of ws * 2 ^ 64 + w) / 2 ^ (64 * 0) ≡ number_of ws * 2 ^ 64 + w = omega arith in
     ap (λ (z : ℕ). z % 2 ^ 64) e ∙ nat.mod_low (number_of ws) 64 w fit.0
-word_is (w ∷ ws) (suc i) fit =
+limb_is (w ∷ ws) (suc i) fit =
     let e : 64 * suc i ≡ 64 + 64 * i = omega arith in
     let whole = number_of ws * 2 ^ 64 + w in
     ap (λ (k : ℕ). whole / 2 ^ k % 2 ^ 64) e
     ∙ ap (λ (z : ℕ). z % 2 ^ 64) (sym (shr-shr whole 64 (64 * i)) ∙ ap (λ (z : ℕ). z / 2 ^ (64 * i)) (nat.shr_high (number_of ws) 64 w fit.0))
-    ∙ word_is ws i fit.1
+    ∙ limb_is ws i fit.1
 
 -- one digit more
 pub digits_more : (n i : ℕ) → 0 < n / 2 ^ (4 * i) → digits_of 16 (n / 2 ^ (4 * i)) ≡ digits_of 16 (n / 2 ^ (4 * (i + 1))) ++ (n / 2 ^ (4 * i) % 2 ^ 4 ∷ [])
@@ -78,15 +78,15 @@ digits_more n i pos =
 
 -- ---- four bits more, above all others
 
-pub word-le : (ws : List ℕ) (k : ℕ) → get_or ws k 0 * 2 ^ (64 * k) ≤ number_of ws
+pub limb-le : (ws : List ℕ) (k : ℕ) → get_or ws k 0 * 2 ^ (64 * k) ≤ number_of ws
 unfolding number_of
-word-le [] k = omega arith
-word-le (w ∷ ws) zero = omega arith
-word-le (w ∷ ws) (suc k) =
+limb-le [] k = omega arith
+limb-le (w ∷ ws) zero = omega arith
+limb-le (w ∷ ws) (suc k) =
     let e : 64 * suc k ≡ 64 * k + 64 = omega arith in
     let p : 2 ^ (64 * suc k) ≡ 2 ^ (64 * k) * 2 ^ 64 = ap (λ (z : ℕ). 2 ^ z) e ∙ pow-add 2 (64 * k) 64 in
     let q : get_or ws k 0 * 2 ^ (64 * suc k) ≡ get_or ws k 0 * 2 ^ (64 * k) * 2 ^ 64 = ap (λ (z : ℕ). get_or ws k 0 * z) p ∙ sym (mul_assoc (get_or ws k 0) (2 ^ (64 * k)) (2 ^ 64)) in
-    let less = word-le ws k in
+    let less = limb-le ws k in
     rw q (omega (arith, less))
 
 number_of-add : (ws : List ℕ) (k x : ℕ) → k < length ws → number_of (set ws k (get_or ws k 0 + x)) ≡ number_of ws + x * 2 ^ (64 * k)
@@ -105,28 +105,28 @@ place_pow place =
     let e : 4 * (place % 16) + 64 * (place / 16) ≡ 4 * place = omega arith in
     sym (pow-add 2 (4 * (place % 16)) (64 * (place / 16))) ∙ ap (λ (z : ℕ). 2 ^ z) e
 
-word_below : (ws : List ℕ) (place : ℕ) → number_of ws < 2 ^ (4 * place) → get_or ws (place / 16) 0 < 2 ^ (4 * (place % 16))
-word_below ws place lt =
+limb_below : (ws : List ℕ) (place : ℕ) → number_of ws < 2 ^ (4 * place) → get_or ws (place / 16) 0 < 2 ^ (4 * (place % 16))
+limb_below ws place lt =
     elim (cases_lt (get_or ws (place / 16) 0) (2 ^ (4 * (place % 16)))) [
       | inl below ↦ below
       | inr le ↦
           let p = mul-le-mul_right (2 ^ (64 * (place / 16))) le in
-          let q = word-le ws (place / 16) in
+          let q = limb-le ws (place / 16) in
           absurd (omega (arith, p, q, place_pow place, lt))
     ]
 
 abbrev pub with_nibble : List ℕ → ℕ → ℕ → ℕ
 with_nibble ws place digit = bit_or (get_or ws (place / 16) 0) (digit * 2 ^ (4 * (place % 16)) % 2 ^ 64)
 
-pub with_nibble-lt : (ws : List ℕ) (place digit : ℕ) → AreWords ws → with_nibble ws place digit < 2 ^ 64
-with_nibble-lt ws place digit fit = or_lt 64 (get_or ws (place / 16) 0) (digit * 2 ^ (4 * (place % 16)) % 2 ^ 64) (AreWords-at ws (place / 16) fit) (omega arith)
+pub with_nibble-lt : (ws : List ℕ) (place digit : ℕ) → AreLimbs ws → with_nibble ws place digit < 2 ^ 64
+with_nibble-lt ws place digit fit = or_lt 64 (get_or ws (place / 16) 0) (digit * 2 ^ (4 * (place % 16)) % 2 ^ 64) (AreLimbs-at ws (place / 16) fit) (omega arith)
 
 pub number_of-with_nibble : (ws : List ℕ) (place digit : ℕ) → place / 16 < length ws → digit < 16 → number_of ws < 2 ^ (4 * place) → number_of (set ws (place / 16) (with_nibble ws place digit)) ≡ number_of ws + digit * 2 ^ (4 * place)
 number_of-with_nibble ws place digit within small above =
     let w = get_or ws (place / 16) 0 in
     let r = 4 * (place % 16) in
     let whole : digit * 2 ^ r % 2 ^ 64 ≡ digit * 2 ^ r = nat.shl_whole digit 4 r 64 small (omega arith) in
-    let sum : with_nibble ws place digit ≡ w + digit * 2 ^ r = ap (bit_or w) whole ∙ or_shifted_r digit r w (word_below ws place above) ∙ add_comm (digit * 2 ^ r) w in
+    let sum : with_nibble ws place digit ≡ w + digit * 2 ^ r = ap (bit_or w) whole ∙ or_shifted_r digit r w (limb_below ws place above) ∙ add_comm (digit * 2 ^ r) w in
     ap (λ (z : ℕ). number_of (set ws (place / 16) z)) sum
     ∙ number_of-add ws (place / 16) (digit * 2 ^ r) within
     ∙ ap (λ (z : ℕ). number_of ws + z) (mul_assoc digit (2 ^ r) (2 ^ (64 * (place / 16))) ∙ ap (λ (z : ℕ). digit * z) (place_pow place))

@@ -162,8 +162,8 @@ reads_last text target set more at end r has_more e done = split r.runs refl
         absurd (omega (arith, ap length left, long, e, done))
 
 -- behind a run that is not the last is `+`
-pub reads_mark : (text : List ℕ) (target set at end : ℕ) (r : Reads text target set at) → end ≡ at + length (run_text r.run) → end < length text → get_or text end 0 ≡ 43
-reads_mark text target set at end r e lt = split r.runs refl
+pub reads_prefix : (text : List ℕ) (target set at end : ℕ) (r : Reads text target set at) → end ≡ at + length (run_text r.run) → end < length text → get_or text end 0 ≡ 43
+reads_prefix text target set at end r e lt = split r.runs refl
   where
     split : (runs : List Run) → r.runs ≡ runs → get_or text end 0 ≡ 43
     split [] is =

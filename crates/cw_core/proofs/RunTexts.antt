@@ -72,17 +72,17 @@ pub run_room : (text : List ℕ) (run : Run) → run.least ≤ run.greatest → 
 run_room text run up below le =
     let whole = length-append text (between text ++ run_text run) in
     let part = length-append (between text) (run_text run) in
-    let mark = between_room text in
+    let prefix = between_room text in
     let first = lone_room run.least (omega (arith, up, below)) in
     elim (cases_eq run.least run.greatest) [
       | inl e ↦
           let here = ap length (lone_text run e) in
-          omega (arith, whole, part, mark, first, here, up, le)
+          omega (arith, whole, part, prefix, first, here, up, le)
       | inr ne ↦
           let here = ap length (long_text run ne) in
           let apart = length-append (decimal run.least) (codes "-" ++ decimal run.greatest) in
           let second = lone_room run.greatest below in
-          omega (arith, whole, part, mark, first, second, here, apart, up, ne, le)
+          omega (arith, whole, part, prefix, first, second, here, apart, up, ne, le)
     ]
 
 -- what the first number leaves of the room
@@ -90,8 +90,8 @@ pub after_first : (text more : List ℕ) (least : ℕ) → more ≡ (text ++ bet
 after_first text more least e below le =
     omega (arith, ap length e, length-append (text ++ between text) (decimal least), length-append text (between text), between_room text, lone_room least below, le)
 
-pub after_mark : (more text : List ℕ) → text ≡ more ++ 45 ∷ [] → length more + 41 ≤ 4096 → length text + 20 ≤ 4096
-after_mark more text e le = omega (arith, ap length e, length-append more (45 ∷ []), le)
+pub after_prefix : (more text : List ℕ) → text ≡ more ++ 45 ∷ [] → length more + 41 ≤ 4096 → length text + 20 ≤ 4096
+after_prefix more text e le = omega (arith, ap length e, length-append more (45 ∷ []), le)
 
 -- the run that was put
 pub lone_put : (text more : List ℕ) (least greatest : ℕ) → more ≡ (text ++ between text) ++ decimal least → least ≡ greatest → more ≡ text ++ (between text ++ run_text (record { least = least; greatest = greatest }))

@@ -96,20 +96,20 @@ run_byte_test : IsRunTest run_byte
 unfolding IsRunTest run_byte
 run_byte_test = (refl, refl, λ b e. rw e refl)
 
-ranges_have_no_mark : (set : ℕ) → IsBelow 1024 set → take 2 (ranges set) ≢ codes "0x"
+ranges_have_no_prefix : (set : ℕ) → IsBelow 1024 set → take 2 (ranges set) ≢ codes "0x"
 unfolding run_byte
-ranges_have_no_mark set below = no_x run_byte refl (ranges set) (ranges_pass run_byte run_byte_test set below)
+ranges_have_no_prefix set below = no_x run_byte refl (ranges set) (ranges_pass run_byte run_byte_test set below)
 
-mask_has_mark : (set : ℕ) → take 2 (hexadecimal set) ≡ codes "0x"
+mask_has_prefix : (set : ℕ) → take 2 (hexadecimal set) ≡ codes "0x"
 unfolding hexadecimal
-mask_has_mark set = refl
+mask_has_prefix set = refl
 
 pub spelled_as_mask : (set : ℕ) (text : List ℕ) → IsBelow 1024 set → set_spelling set ≡ text → take 2 text ≡ codes "0x" → text ≡ hexadecimal set
 unfolding set_spelling
-spelled_as_mask set text below e mark = by_test (not (eqb set 0) && ltb (length (ranges set)) (length (hexadecimal set))) refl
+spelled_as_mask set text below e prefix = by_test (not (eqb set 0) && ltb (length (ranges set)) (length (hexadecimal set))) refl
   where
     by_test : (t : Bool) → (not (eqb set 0) && ltb (length (ranges set)) (length (hexadecimal set))) ≡ t → text ≡ hexadecimal set
-    by_test true is = absurd (ranges_have_no_mark set below (ap (take 2) (rw is at e) ∙ mark))
+    by_test true is = absurd (ranges_have_no_prefix set below (ap (take 2) (rw is at e) ∙ prefix))
     by_test false is = sym (rw is at e)
 
 pub spelled_as_runs : (set : ℕ) (text : List ℕ) → IsBelow 1024 set → set_spelling set ≡ text → take 2 text ≢ codes "0x" → (set ≢ 0) × (ranges set ≡ text)
@@ -118,7 +118,7 @@ spelled_as_runs set text below e unmarked = by_test (not (eqb set 0) && ltb (len
   where
     by_test : (t : Bool) → (not (eqb set 0) && ltb (length (ranges set)) (length (hexadecimal set))) ≡ t → (set ≢ 0) × (ranges set ≡ text)
     by_test true is = ((λ zero. false≢true (sym (ap (λ (z : Bool). not z && ltb (length (ranges set)) (length (hexadecimal set))) (eq-eqb set 0 zero)) ∙ is)), rw is at e)
-    by_test false is = absurd (unmarked (ap (take 2) (sym (rw is at e)) ∙ mask_has_mark set))
+    by_test false is = absurd (unmarked (ap (take 2) (sym (rw is at e)) ∙ mask_has_prefix set))
 
 -- no spelling is empty
 pub spelling_some : (set : ℕ) → IsBelow 1024 set → 0 < length (set_spelling set)

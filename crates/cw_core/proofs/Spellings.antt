@@ -15,7 +15,7 @@ use Rattle.cw_core.specs.StateSet.{IsBelow}
 use Rattle.cw_core.proofs.Decimals.{own}
 use Rattle.std.proofs.lemmas.Bool.{and_parts as both_from_and}
 use Rattle.cw_core.proofs.Hexadecimals.{hexadecimal_digits_are_digits, same_from_digits}
-use Rattle.cw_core.proofs.Texts.{mark_and_run, set_at}
+use Rattle.cw_core.proofs.Texts.{prefix_and_run, set_at}
 
 -- ---- the longest run at the front
 
@@ -62,7 +62,7 @@ set_at_text text at set rest small e stops =
 
 -- one set stands at a place
 pub one_set : (text : List ℕ) (at m n : ℕ) → IsSetAt text at m → IsSetAt text at n → m ≡ n
-one_set text at m n p q = same_from_digits m n ((mark_and_run text at m p).1 ∙ sym (mark_and_run text at n q).1)
+one_set text at m n p q = same_from_digits m n ((prefix_and_run text at m p).1 ∙ sym (prefix_and_run text at n q).1)
 
 pub set_within : (before after : List ℕ) (set : ℕ) → IsBelow 1024 set → take_while is_hexadecimal_digit after ≡ [] → IsSetAt (before ++ (hexadecimal set ++ after)) (length before) set
 set_within before after set small stops = set_at_text (before ++ (hexadecimal set ++ after)) (length before) set after small (drop-append_seam before (hexadecimal set ++ after)) stops

@@ -3,4 +3,4 @@ pub mod Numerals
 pub mod Quantities
 pub mod Ranges
 pub mod StateSet
-pub mod Words
+pub mod Limbs

@@ -44,21 +44,21 @@ pub fn read_hex(text: &[u8], at: usize) -> Option<(StateSet, usize)>
 /// The longest run of hexadecimal digits after `0x` at a place.
 fn digits_at(text: &[u8], at: usize) -> Option<&[u8]>
     requires in_range { at ≤ length text.now }
-    ensures mark { IfSome result (λ _. take 2 (drop at text.now) ≡ codes "0x") }
+    ensures prefix { IfSome result (λ _. take 2 (drop at text.now) ≡ codes "0x") }
     ensures run { IfSome result (λ digits.
         digits.now ≡ take_while is_hexadecimal_digit (drop (at + 2) text.now)) }
     ensures within { IfSome result (λ digits. at + 2 + length digits.now ≤ length text.now) }
     ensures none { IfNone result (take 2 (drop at text.now) ≢ codes "0x") }
 {
-    if !has_mark(text_from(text, at)) {
+    if !has_prefix(text_from(text, at)) {
         return None;
     }
     Some(leading_digits(text_from(text, at + 2)))
 }
 
 /// Whether the text begins with `0x`.
-pub(crate) fn has_mark(text: &[u8]) -> bool
-    ensures mark { IsTrue result ↔ (take 2 text.now ≡ codes "0x") }
+pub(crate) fn has_prefix(text: &[u8]) -> bool
+    ensures prefix { IsTrue result ↔ (take 2 text.now ≡ codes "0x") }
     ensures within { IsTrue result → 2 ≤ length text.now }
 {
     text.starts_with(b"0x")

@@ -153,38 +153,38 @@ fn write_pairs(set: &StateSet, count: usize, text: &mut [u8], from: usize) -> us
         text[at + 1] = PAIRS[pair + 1];
         at += 2;
     }
-    'words: while left > 0 {
+    'limbs: while left > 0 {
         left -= 8;
-        write_word(set.word(left / 8), &mut text[at..at + 16]);
+        write_limb(set.limb(left / 8), &mut text[at..at + 16]);
         at += 16;
     }
     at
 }
 
-/// Writes the 16 hexadecimal digits of a word, zeros in front too, over a text of 16 bytes.
+/// Writes the 16 hexadecimal digits of a limb, zeros in front too, over a text of 16 bytes.
 #[inline(always)]
-fn write_word(word: u64, text: &mut [u8])
+fn write_limb(limb: u64, text: &mut [u8])
     requires long { length text.old ≡ 16 }
-    ensures digits { text.new ≡ map digit_char (lowest_digits 16 word) }
+    ensures digits { text.new ≡ map digit_char (lowest_digits 16 limb) }
 {
     let mut at: usize = 0;
     let mut left: usize = 8;
     'pairs: while left > 0 {
         left -= 1;
-        let pair = 2 * usize::from(byte_of(word, left));
+        let pair = 2 * usize::from(byte_of(limb, left));
         text[at] = PAIRS[pair];
         text[at + 1] = PAIRS[pair + 1];
         at += 2;
     }
 }
 
-/// The eight bits of a word from 8 times a place on.
+/// The eight bits of a limb from 8 times a place on.
 #[inline(always)]
-fn byte_of(word: u64, place: usize) -> u8
+fn byte_of(limb: u64, place: usize) -> u8
     requires in_range { place < 8 }
-    ensures value { result ≡ word / 2 ^ (8 * place) % 2 ^ 8 }
+    ensures value { result ≡ limb / 2 ^ (8 * place) % 2 ^ 8 }
 {
-    ((word >> (8 * place)) & 255) as u8
+    ((limb >> (8 * place)) & 255) as u8
 }
 
 /// A hexadecimal digit as a byte.

@@ -7,7 +7,7 @@ ghost use Rattle.cw_core.specs.Ranges.{is_spelling_byte, ranges, run_text, set_s
 ghost use Rattle.cw_core.specs.StateSet.{has, IsBelow};
 
 use crate::decimal::{read_dec, text_from};
-use crate::hexadecimal::{has_mark, read_hex};
+use crate::hexadecimal::{has_prefix, read_hex};
 use crate::ids::StateId;
 use crate::line::Line;
 use crate::state_set::StateSet;
@@ -70,7 +70,7 @@ fn set_of(spelling: &[u8]) -> Option<StateSet>
     ensures found { (set : ℕ) → IsBelow 1024 set → set_spelling set ≡ spelling.now
         → result ≡ Some set }
 {
-    if has_mark(spelling) {
+    if has_prefix(spelling) {
         let (set, _) = read_hex(spelling, 0)?;
         Some(set)
     } else {

@@ -20,23 +20,23 @@ use std::marker::Model;
 /// members s. Sets are compared as these numbers.
 #[derive(Clone, Copy, Debug)]
 pub struct StateSet {
-    /// The members 64 * i to 64 * i + 63 are the bits of word i.
-    words: [u64; 16],
+    /// The members 64 * i to 64 * i + 63 are the bits of limb i.
+    limbs: [u64; 16],
 }
 
 impl Model for StateSet {
     ghost use Rattle.std.specs.Prelude.{ℕ};
-    ghost use Rattle.cw_core.specs.Words.{number_of, words_of, AreSixteenWords, words_of-number_of};
+    ghost use Rattle.cw_core.specs.Limbs.{number_of, limbs_of, AreSixteenLimbs, limbs_of-number_of};
 
     ghost Value = { ℕ };
 
-    ghost view = { λ s. number_of s.words };
+    ghost view = { λ s. number_of s.limbs };
 
-    ghost invariant = { λ s. AreSixteenWords s.words };
+    ghost invariant = { λ s. AreSixteenLimbs s.limbs };
 
-    ghost inverse = { λ n. record { words = words_of 16 n } };
+    ghost inverse = { λ n. record { limbs = limbs_of 16 n } };
 
-    ghost inverse_ok = { λ s h i. record { words = words_of-number_of 16 s.words h.0 h.1 i } };
+    ghost inverse_ok = { λ s h i. record { limbs = limbs_of-number_of 16 s.limbs h.0 h.1 i } };
 }
 
 impl PartialEq for StateSet {
@@ -45,7 +45,7 @@ impl PartialEq for StateSet {
     ghost laws = { Prim.search (comparing, rules) };
 
     fn eq(&self, other: &StateSet) -> bool {
-        self.words == other.words
+        self.limbs == other.limbs
     }
 }
 
@@ -54,14 +54,14 @@ impl Eq for StateSet {
 }
 
 impl Hash for StateSet {
-    ghost use Rattle.cw_core.specs.Words.{words_of};
+    ghost use Rattle.cw_core.specs.Limbs.{limbs_of};
 
-    ghost hash_input = { λ a. fed.slice fed.u64 (words_of 16 a) };
+    ghost hash_input = { λ a. fed.slice fed.u64 (limbs_of 16 a) };
 
     ghost respects_eq = { Prim.search (hashing, rules) };
 
     fn hash<H: Hasher>(&self, state: &mut H) {
-        self.words.hash(state);
+        self.limbs.hash(state);
     }
 }
 
@@ -76,8 +76,8 @@ impl Ord for StateSet {
 
     fn cmp(&self, other: &StateSet) -> Ordering {
         for i in (0..16).rev() {
-            if self.words[i] != other.words[i] {
-                return self.words[i].cmp(&other.words[i]);
+            if self.limbs[i] != other.limbs[i] {
+                return self.limbs[i].cmp(&other.limbs[i]);
             }
         }
         Ordering::Equal
@@ -100,16 +100,16 @@ impl StateSet {
         ensures zero { result ≡ 0 }
         ensures members { (i : ℕ) → has result i ≡ false }
     {
-        StateSet { words: [0; 16] }
+        StateSet { limbs: [0; 16] }
     }
 
     /// The set of the numbers whose bits are 1: s where bit s is.
-    #[tactic(auto, unfolding(crate::specs::Words::number_of))]
+    #[tactic(auto, unfolding(crate::specs::Limbs::number_of))]
     pub fn from_bits(bits: u64) -> StateSet
         ensures { result ≡ bits }
     {
         StateSet {
-            words: [bits, 0, 0, 0, 0, 0, 0, 0, 0, 0, 0, 0, 0, 0, 0, 0],
+            limbs: [bits, 0, 0, 0, 0, 0, 0, 0, 0, 0, 0, 0, 0, 0, 0, 0],
         }
     }
 
@@ -118,8 +118,8 @@ impl StateSet {
         requires in_range { s.0 < 1024 }
         ensures member { result ≡ has self.now s.0 }
     {
-        let word = self.words[(s.0 / 64) as usize];
-        (word >> (s.0 % 64)) & 1 == 1
+        let limb = self.limbs[(s.0 / 64) as usize];
+        (limb >> (s.0 % 64)) & 1 == 1
     }
 
     /// Adds a number; every other number stays in or out.
@@ -128,7 +128,7 @@ impl StateSet {
         ensures members { (i : ℕ) → has self.new i ≡ (i == s.0 || has self.old i) }
     {
         let at = (s.0 / 64) as usize;
-        self.words[at] |= 1 << (s.0 % 64);
+        self.limbs[at] |= 1 << (s.0 % 64);
     }
 
     /// Takes a number out; every other number stays in or out.
@@ -137,14 +137,14 @@ impl StateSet {
         ensures members { (i : ℕ) → has self.new i ≡ (not (i == s.0) && has self.old i) }
     {
         let at = (s.0 / 64) as usize;
-        self.words[at] &= !(1 << (s.0 % 64));
+        self.limbs[at] &= !(1 << (s.0 % 64));
     }
 
     /// Whether the other set has every number of this one.
     pub fn is_subset(&self, other: &StateSet) -> bool
         ensures subset { IsTrue result ↔ IsSubset self.now other.now }
     {
-        are_within(&self.words, &other.words)
+        are_within(&self.limbs, &other.limbs)
     }
 
     /// The numbers below n that aren't in the set.
@@ -152,11 +152,11 @@ impl StateSet {
         requires in_range { n ≤ 1024 }
         ensures members { (i : ℕ) → has result i ≡ (nat_lt i n && not (has self.now i)) }
     {
-        let mut words = [0; 16];
+        let mut limbs = [0; 16];
         for i in 0..16 {
-            words[i] = !self.words[i] & ones_below(n.saturating_sub(64 * i as u16));
+            limbs[i] = !self.limbs[i] & ones_below(n.saturating_sub(64 * i as u16));
         }
-        StateSet { words }
+        StateSet { limbs }
     }
 
     /// The four bits from 4 times a place on.
@@ -165,7 +165,7 @@ impl StateSet {
         ensures value { result ≡ self.now / 2 ^ (4 * place) % 2 ^ 4 }
         ensures small { result < 16 }
     {
-        ((self.words[place / 16] >> (4 * (place % 16))) & 15) as u8
+        ((self.limbs[place / 16] >> (4 * (place % 16))) & 15) as u8
     }
 
     /// The eight bits from 8 times a place on.
@@ -173,15 +173,15 @@ impl StateSet {
         requires in_range { place < 128 }
         ensures value { result ≡ self.now / 2 ^ (8 * place) % 2 ^ 8 }
     {
-        ((self.words[place / 8] >> (8 * (place % 8))) & 255) as u8
+        ((self.limbs[place / 8] >> (8 * (place % 8))) & 255) as u8
     }
 
     /// The 64 bits from 64 times a place on.
-    pub(crate) fn word(&self, place: usize) -> u64
+    pub(crate) fn limb(&self, place: usize) -> u64
         requires in_range { place < 16 }
         ensures value { result ≡ self.now / 2 ^ (64 * place) % 2 ^ 64 }
     {
-        self.words[place]
+        self.limbs[place]
     }
 
     /// How many binary digits the set's number has: one more than the greatest member, and none for the empty set.
@@ -191,9 +191,9 @@ impl StateSet {
         ensures first { 0 < result → 2 ^ (result - 1) ≤ self.now }
     {
         for i in (0..16).rev() {
-            let word = self.words[i];
-            if word != 0 {
-                return 64 * i + 64 - word.leading_zeros() as usize;
+            let limb = self.limbs[i];
+            if limb != 0 {
+                return 64 * i + 64 - limb.leading_zeros() as usize;
             }
         }
         0
@@ -218,14 +218,14 @@ impl StateSet {
         requires above { self.old < 2 ^ (4 * place) }
         ensures sum { self.new ≡ self.old + digit * 2 ^ (4 * place) }
     {
-        self.words[place / 16] |= u64::from(digit) << (4 * (place % 16));
+        self.limbs[place / 16] |= u64::from(digit) << (4 * (place % 16));
     }
 
     /// A law: the members are below 1,024.
     pub fn fact_members_are_below_1024(&self)
         ensures below { IsBelow 1024 self.now }
     {
-        let _ = &self.words;
+        let _ = &self.limbs;
     }
 
     /// A law: the number that a contract sees is the sum of 2 to the power s over the members s.
@@ -241,7 +241,7 @@ impl StateSet {
     {}
 }
 
-/// Whether every bit of the words a is one of the words b.
+/// Whether every bit of the limbs a is one of the limbs b.
 fn are_within(a: &[u64; 16], b: &[u64; 16]) -> bool
     ensures yes { IsTrue result → (k : ℕ) → k < 16
         → bit_and (slice_index a.now k) (slice_index b.now k) ≡ slice_index a.now k }
@@ -257,7 +257,7 @@ fn are_within(a: &[u64; 16], b: &[u64; 16]) -> bool
     true
 }
 
-/// The word whose ones are the bits below a place: all 64 from place 64 on.
+/// The limb whose ones are the bits below a place: all 64 from place 64 on.
 fn ones_below(place: u16) -> u64
     ensures ones { result ≡ 2 ^ min place 64 - 1 }
 {

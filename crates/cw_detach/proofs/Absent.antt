@@ -16,25 +16,25 @@ use Rattle.cw_detach.specs.Faults.{is_taken, taken}
 
 module _ (source : List ℕ) where
   -- what stands between two places of a source occurs in it
-  occurs : (word : List ℕ) (from to : ℕ) → 0 < length word → slice source from to ≡ word → OccursAt source word from
-  occurs word from to some e =
+  occurs : (needle : List ℕ) (from to : ℕ) → 0 < length needle → slice source from to ≡ needle → OccursAt source needle from
+  occurs needle from to some e =
       let rest = drop (to - from) (drop from source) in
-      let is : drop from source ≡ word ++ rest = sym (take-append-drop (to - from) (drop from source)) ∙ ap (λ (z : List ℕ). z ++ rest) e in
-      let sum = length-append word rest in
-      OccursAt-from_part source word from (omega (arith, some, ap length is, sum, length-drop from source)) (ap (take (length word)) is ∙ take-append_seam word rest)
+      let is : drop from source ≡ needle ++ rest = sym (take-append-drop (to - from) (drop from source)) ∙ ap (λ (z : List ℕ). z ++ rest) e in
+      let sum = length-append needle rest in
+      OccursAt-from_part source needle from (omega (arith, some, ap length is, sum, length-drop from source)) (ap (take (length needle)) is ∙ take-append_seam needle rest)
 
-  -- so a word that is found nowhere stands between no two places
-  pub absent : (word : List ℕ) (found : Option ℕ) → 0 < length word → FindsNeedle source word 0 found → is_some found ≡ false
-      → (from to : ℕ) → bytes_eq (slice source from to) word ≡ false
-  absent word None some nowhere e from to =
+  -- so a needle that is found nowhere stands between no two places
+  pub absent : (needle : List ℕ) (found : Option ℕ) → 0 < length needle → FindsNeedle source needle 0 found → is_some found ≡ false
+      → (from to : ℕ) → bytes_eq (slice source from to) needle ≡ false
+  absent needle None some nowhere e from to =
       false_from_ne_true _ (λ h. nowhere from (omega arith) (below from to h) (at from to h))
     where
-      at : (from to : ℕ) → bytes_eq (slice source from to) word ≡ true → OccursAt source word from
-      at from to h = occurs word from to some ((bytes_eq-Decides (slice source from to) word).0 h)
+      at : (from to : ℕ) → bytes_eq (slice source from to) needle ≡ true → OccursAt source needle from
+      at from to h = occurs needle from to some ((bytes_eq-Decides (slice source from to) needle).0 h)
 
-      below : (from to : ℕ) → bytes_eq (slice source from to) word ≡ true → from < length source + 1
+      below : (from to : ℕ) → bytes_eq (slice source from to) needle ≡ true → from < length source + 1
       below from to h = let fits = (at from to h).fits in omega (arith, fits)
-  absent word (Some k) some found e from to = absurd (cc)
+  absent needle (Some k) some found e from to = absurd (cc)
 
   none_found : (tokens : List Token) → ((t : Token) → is_taken source t ≡ false) → find (is_taken source) tokens ≡ None
   none_found [] none = refl

@@ -3,7 +3,7 @@ use Rattle.std.proofs.Common.{◌≡◌, ℕ, zero, suc, ◌<◌, ◌≤◌, Boo
 use Rattle.std.specs.List.{filter_map, flat_map}
 use Rattle.std.proofs.lemmas.List.Elements.{filter_map-append}
 use Rattle.cw_lex.proofs.Ordered.{tokens_in_order}
-use Rattle.cw_grammar.specs.declared.words.Lexeme.{Lexeme}
+use Rattle.cw_grammar.specs.declared.terminals.Lexeme.{Lexeme}
 use Rattle.cw_grammar.specs.Lexemes.{from_of, to_of, AreAll, statements}
 use Rattle.cw_grammar.specs.Expressions.{IsExpression, nesting_limit}
 use Rattle.cw_grammar.specs.Declarations.{Expressions}
@@ -11,7 +11,7 @@ use Rattle.cw_grammar.specs.Spelling.{lexemes_of}
 use Rattle.cw_grammar.specs.Statements.{Place, InBlock, BeforeElse, Elsewhere, last, IsForm, IsStatement}
 use Rattle.cw_grammar.specs.Files.{Part, Declares as DeclaresPart, Holds, Defines, IsPart, IsFunction, IsProgram, file_of}
 use Rattle.cw_syntax.specs.Trees.{Tree, Statement, Stated, Form, Block, Declares, Evaluates, Empties, Labels, Chooses, Whiles, Does, Fors, Breaks, Continues, Returns, nothing, just, Definition, File}
-use Rattle.cw_scope.specs.Walks.{Placed, placed, placed_all, body_of, every_statement}
+use Rattle.cw_scope.specs.Walks.{Nested, nested, nested_all, body_of, every_statement}
 use Rattle.cw_source.specs.Read.{ReadsAs}
 use Rattle.cw_source.proofs.Lying.{Lie, lie_of, lie_le, split, ends, lie_at}
 use Rattle.cw_detach.specs.declared.spans.Span.{Span}
@@ -26,32 +26,32 @@ apart_both a b c [] ys h k = apart_wider b c a c ys h (omega arith) k
 apart_both a b c (x ∷ xs) ys h k = (h.0, h.1, apart_both x.to b c xs ys h.2 k)
 
 module _ (source : List ℕ) (names : List (List ℕ)) where
-  abbrev own : List Placed → List Span
+  abbrev own : List Nested → List Span
   own ps = filter_map (λ p. span_of source names p.statement) ps
 
-  own_both : (ps qs : List Placed) → own (ps ++ qs) ≡ own ps ++ own qs
+  own_both : (ps qs : List Nested) → own (ps ++ qs) ≡ own ps ++ own qs
   own_both ps qs = filter_map-append (λ p. span_of source names p.statement) ps qs
 
   -- a statement that is an expression
-  one : (e : Tree) (looped : Bool) (from to a b : ℕ) → from ≤ a → a ≤ b → b ≤ to → AreApart from to (own (placed looped (Stated (Evaluates e) a b)))
+  one : (e : Tree) (looped : Bool) (from to a b : ℕ) → from ≤ a → a ≤ b → b ≤ to → AreApart from to (own (nested looped (Stated (Evaluates e) a b)))
   one e looped from to a b p q r = by (calls_one source names e) refl
     where
-      by : (t : Bool) → calls_one source names e ≡ t → AreApart from to (own (placed looped (Stated (Evaluates e) a b)))
+      by : (t : Bool) → calls_one source names e ≡ t → AreApart from to (own (nested looped (Stated (Evaluates e) a b)))
       by true t = rw t (p, q, r)
       by false t = rw t (omega arith)
 
   -- a rule, where the claim holds of the statements in it
   module _ (E : Expressions) (P : Place → List Lexeme → Statement → Type 0)
-      (h : (place : Place) (ts : List Lexeme) (st : Statement) (looped : Bool) (from to : ℕ) → P place ts st → Lie from to ts → AreApart from to (own (placed looped st))) where
-    all_apart : (ts : List Lexeme) (ss : List Statement) (looped : Bool) (from to : ℕ) → AreAll (P InBlock) ts ss → Lie from to ts → AreApart from to (own (placed_all looped (statements ss)))
+      (h : (place : Place) (ts : List Lexeme) (st : Statement) (looped : Bool) (from to : ℕ) → P place ts st → Lie from to ts → AreApart from to (own (nested looped st))) where
+    all_apart : (ts : List Lexeme) (ss : List Statement) (looped : Bool) (from to : ℕ) → AreAll (P InBlock) ts ss → Lie from to ts → AreApart from to (own (nested_all looped (statements ss)))
     all_apart ts [] looped from to none lie = lie_le from to ts lie
     all_apart ts (st ∷ ss) looped from to (x, y, whole, first, rest) lie =
         let p = split from to x y (lie_at from to ts (x ++ y) whole lie) in
-        rw (own_both (placed looped st) (placed_all looped (statements ss)))
+        rw (own_both (nested looped st) (nested_all looped (statements ss)))
         (apart_both from p.0 to _ _ (h InBlock x st looped from p.0 first p.1) (all_apart y ss looped p.0 to rest p.2))
 
     form_apart : (place : Place) (ts : List Lexeme) (form : Form) (looped : Bool) (from to : ℕ) → IsForm E P place ts form → Lie from to ts
-        → AreApart from to (own (placed looped (Stated form (from_of ts) (to_of ts))))
+        → AreApart from to (own (nested looped (Stated form (from_of ts) (to_of ts))))
     form_apart place ts (Block kids) looped from to (inner, kids_are, (o, x, c, whole, opens, closes, all)) lie =
         let p = lie_at from to ts (o ∷ x ++ c ∷ []) whole lie in
         let q = split o.to to x (c ∷ []) p.2 in
@@ -72,7 +72,7 @@ module _ (source : List ℕ) (names : List (List ℕ)) where
         let q = split i.to to x y p.2 in
         let up : from ≤ q.0 = (let a = p.0 in let b = p.1 in let c = lie_le i.to q.0 x q.1 in omega arith) in
         let first = apart_wider q.0 to from to _ up (omega arith) (h Elsewhere y arm looped q.0 to is q.2) in
-        rw (own_both (placed looped arm) []) (apart_both from to to _ _ first (omega arith))
+        rw (own_both (nested looped arm) []) (apart_both from to to _ _ first (omega arith))
     form_apart place ts (Chooses test arm (just other)) looped from to (i, x, y, e, z, whole, i_is, test_is, is, e_is, other_is) lie =
         let p = lie_at from to ts (i ∷ x ++ (y ++ e ∷ z)) whole lie in
         let q = split i.to to x (y ++ e ∷ z) p.2 in
@@ -81,7 +81,7 @@ module _ (source : List ℕ) (names : List (List ℕ)) where
         let between : r.0 ≤ e.to = (let a = r.2.0 in let b = r.2.1 in omega arith) in
         let first = apart_wider q.0 r.0 from r.0 _ up (omega arith) (h BeforeElse y arm looped q.0 r.0 is r.1) in
         let second = apart_wider e.to to r.0 to _ between (omega arith) (h (last place) z other looped e.to to other_is r.2.2) in
-        rw (own_both (placed looped arm) (placed looped other)) (apart_both from r.0 to _ _ first second)
+        rw (own_both (nested looped arm) (nested looped other)) (apart_both from r.0 to _ _ first second)
     form_apart place ts (Whiles test body) looped from to (w, x, y, whole, w_is, test_is, is) lie =
         let p = lie_at from to ts (w ∷ x ++ y) whole lie in
         let q = split w.to to x y p.2 in
@@ -106,7 +106,7 @@ module _ (source : List ℕ) (names : List (List ℕ)) where
 
   module _ (limit : ℕ) where
     statement_apart : (n : ℕ) (place : Place) (ts : List Lexeme) (st : Statement) (looped : Bool) (from to : ℕ) → IsStatement limit n place ts st → Lie from to ts
-        → AreApart from to (own (placed looped st))
+        → AreApart from to (own (nested looped st))
     statement_apart zero place ts st looped from to is lie = absurd is
     statement_apart (suc n) place ts (Stated form begin finish) looped from to (begin_is, finish_is, is) lie =
         rw (begin_is, finish_is) (form_apart (IsExpression limit) (IsStatement limit n) (statement_apart n) place ts form looped from to is lie)

@@ -8,7 +8,7 @@ use Rattle.cw_rights.specs.Policies.{PlainPolicy}
 use Rattle.cw_lex.specs.declared.tokens.Token.{Token}
 use Rattle.cw_lex.specs.Tokens.{AreTokens}
 use Rattle.cw_lex.proofs.Listing.{one_list}
-use Rattle.cw_grammar.specs.declared.words.Lexeme.{Lexeme}
+use Rattle.cw_grammar.specs.declared.terminals.Lexeme.{Lexeme}
 use Rattle.cw_grammar.specs.Lexemes.{AreAll, statements}
 use Rattle.cw_grammar.specs.Expressions.{IsExpression, nesting_limit}
 use Rattle.cw_grammar.specs.Declarations.{Expressions}
@@ -17,7 +17,7 @@ use Rattle.cw_grammar.specs.Statements.{Place, InBlock, BeforeElse, Elsewhere, l
 use Rattle.cw_grammar.specs.Files.{Part, Declares as DeclaresPart, Holds, Defines, IsPart, IsProgram, file_of}
 use Rattle.cw_syntax.specs.declared.program.Op.TheVariants.{Call as CallOp, Assign}
 use Rattle.cw_syntax.specs.Trees.{Tree, Node, none, more, Statement, Stated, Form, Block, Declares, Evaluates, Empties, Labels, Chooses, Whiles, Does, Fors, Breaks, Continues, Returns, nothing, just, File}
-use Rattle.cw_scope.specs.Walks.{Placed, every_statement}
+use Rattle.cw_scope.specs.Walks.{Nested, every_statement}
 use Rattle.cw_source.specs.Read.{ReadsAs}
 use Rattle.cw_core.specs.declared.quantity.Quantity.TheVariants.{SourceBytes, Nesting}
 use Rattle.cw_detach.specs.declared.faults.ProcFault.{ProcFault}
@@ -53,7 +53,7 @@ nothing_given h all [] = refl
 nothing_given h all (x ∷ xs) = rw (all x) (nothing_given h all xs)
 
 no_spans : (source : List ℕ) (file : File) → spans source [] file ≡ []
-no_spans source file = nothing_given (λ (p : Placed). span_of source [] p.statement) (λ p. no_span source p.statement) (every_statement file)
+no_spans source file = nothing_given (λ (p : Nested). span_of source [] p.statement) (λ p. no_span source p.statement) (every_statement file)
 
 pub form_same : (source : List ℕ) (file : File) → form_of source [] file ≡ source
 unfolding form_of form_from
@@ -118,7 +118,7 @@ no_names source file split = refl
 
 no_results : (source : List ℕ) (file : File) → result_taken source file [] ≡ None
 unfolding result_taken
-no_results source file = ap (λ (l : List ℕ). option_map Result (slice_get l 0)) (nothing_given (λ (p : Placed). result_in source [] p.statement) (λ p. no_result source p.statement) (every_statement file))
+no_results source file = ap (λ (l : List ℕ). option_map Result (slice_get l 0)) (nothing_given (λ (p : Nested). result_in source [] p.statement) (λ p. no_result source p.statement) (every_statement file))
 
 never_long : (source : List ℕ) → length source ≤ 262144 → long source ≡ None
 unfolding long

@@ -5,7 +5,7 @@ ghost use Rattle.cw_syntax.specs.Plans.{function_names};
 ghost use Rattle.cw_syntax.specs.Trees.{file_of};
 ghost use Rattle.cw_rights.specs.Policies.{policy_of};
 ghost use Rattle.cw_rights.specs.Valid.{IsValid};
-ghost use Rattle.cw_scope.specs.Held.{placed_of};
+ghost use Rattle.cw_scope.specs.Held.{nested_of};
 ghost use Rattle.cw_scope.specs.Rules.{is_main};
 ghost use Rattle.cw_scope.specs.Walks.{every_statement};
 ghost use Rattle.cw_source.specs.Read.{ReadsAs};
@@ -22,7 +22,7 @@ use crate::tokens::taken;
 use cw_core::{NoMemory, Quantity, limits};
 use cw_resolve::Scene;
 use cw_rights::Policy;
-use cw_scope::{Placed, every_statement};
+use cw_scope::{Nested, every_statement};
 use cw_syntax::checked::Checked;
 use std::alloc::{AllocError, Global};
 
@@ -73,8 +73,8 @@ fn both(split: &[Vec<u8>], detached: &[Vec<u8>]) -> Option<ProcFault>
 
 /// The first call of a detached function whose result a statement takes. The statements are those of the program.
 #[tactic(auto, unfolding(crate::specs::Faults::result_taken))]
-fn result_taken(checked: &Checked, detached: &[Vec<u8>], statements: &[Placed]) -> Option<ProcFault>
-    requires { map placed_of statements.now ≡ every_statement (file_of checked.now.program) }
+fn result_taken(checked: &Checked, detached: &[Vec<u8>], statements: &[Nested]) -> Option<ProcFault>
+    requires { map nested_of statements.now ≡ every_statement (file_of checked.now.program) }
     ensures { result ≡ result_taken checked.now.source.now (file_of checked.now.program) (lists detached.now) }
 {
     match first_result(checked.source, detached, statements) {
@@ -113,9 +113,9 @@ fn text_of(
     alloc: Global,
     checked: &Checked,
     detached: &[Vec<u8>],
-    statements: &[Placed],
+    statements: &[Nested],
 ) -> Result<Vec<u8>, NoMemory>
-    requires { map placed_of statements.now ≡ every_statement (file_of checked.now.program) }
+    requires { map nested_of statements.now ≡ every_statement (file_of checked.now.program) }
     ensures { IfOk result (λ form. form.items ≡ form_of checked.now.source.now (lists detached.now) (file_of checked.now.program)) }
 {
     let spans = spans(alloc, checked.source, detached, statements)?;
@@ -127,12 +127,12 @@ fn text_fault(
     alloc: Global,
     checked: &Checked,
     detached: &[Vec<u8>],
-    statements: &[Placed],
+    statements: &[Nested],
     form: &[u8],
 ) -> Result<Option<ProcFault>, NoMemory>
     requires short { length checked.now.source.now ≤ 262144 }
     requires reads { ReadsAs checked.now.source.now (file_of checked.now.program) }
-    requires statements { map placed_of statements.now ≡ every_statement (file_of checked.now.program) }
+    requires statements { map nested_of statements.now ≡ every_statement (file_of checked.now.program) }
     requires form { form.now ≡ form_of checked.now.source.now (lists detached.now) (file_of checked.now.program) }
     ensures { IfOk result (IsTextFault checked.now.source.now (file_of checked.now.program) (lists detached.now)) }
 {

@@ -3,13 +3,13 @@
 ghost use Rattle.std.specs.Prelude.{◌≡◌, ℕ, Some, None, cond, map, slice_get, IfOk};
 ghost use Rattle.std.specs.List.{filter_map};
 ghost use Rattle.cw_syntax.specs.Trees.{Node, tree_of, trees_of, statement_of};
-ghost use Rattle.cw_scope.specs.Held.{placed_of};
+ghost use Rattle.cw_scope.specs.Held.{nested_of};
 ghost use Rattle.cw_detach.specs.Form.{calls_one, span_of, place_if, result_of, result_in};
 ghost use Rattle.cw_resolve.specs.Held.{lists};
 
 use crate::names::is_among;
 use cw_core::NoMemory;
-use cw_scope::Placed;
+use cw_scope::Nested;
 use cw_syntax::names::text;
 use cw_syntax::program::{Expr, Op, Stmt, What};
 use std::alloc::Global;
@@ -57,13 +57,13 @@ pub(crate) fn spans(
     alloc: Global,
     source: &[u8],
     names: &[Vec<u8>],
-    statements: &[Placed],
+    statements: &[Nested],
 ) -> Result<Vec<Span>, NoMemory>
-    ensures { IfOk result (λ spans. spans.items ≡ filter_map (λ p. span_of source.now (lists names.now) p.statement) (map placed_of statements.now)) }
+    ensures { IfOk result (λ spans. spans.items ≡ filter_map (λ p. span_of source.now (lists names.now) p.statement) (map nested_of statements.now)) }
 {
     let mut spans = Vec::new(alloc);
-    for placed in statements {
-        if let Some(span) = span_of(source, names, placed.statement) {
+    for nested in statements {
+        if let Some(span) = span_of(source, names, nested.statement) {
             spans.push(span)?;
         }
     }
@@ -121,11 +121,11 @@ fn result_in(source: &[u8], names: &[Vec<u8>], statement: &Stmt) -> Option<u32>
 }
 
 /// The place of the first such call whose result one of these statements takes.
-pub(crate) fn first_result(source: &[u8], names: &[Vec<u8>], statements: &[Placed]) -> Option<u32>
-    ensures { result ≡ slice_get (filter_map (λ p. result_in source.now (lists names.now) p.statement) (map placed_of statements.now)) 0 }
+pub(crate) fn first_result(source: &[u8], names: &[Vec<u8>], statements: &[Nested]) -> Option<u32>
+    ensures { result ≡ slice_get (filter_map (λ p. result_in source.now (lists names.now) p.statement) (map nested_of statements.now)) 0 }
 {
-    for placed in statements {
-        if let Some(place) = result_in(source, names, placed.statement) {
+    for nested in statements {
+        if let Some(place) = result_in(source, names, nested.statement) {
             return Some(place);
         }
     }

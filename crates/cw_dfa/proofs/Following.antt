@@ -16,7 +16,7 @@ use Rattle.cw_dfa.specs.Verdicts.{next_of}
 use Rattle.cw_dfa.specs.Tables.{goes, firsts, lasts, linked, followers, matching, unite}
 use Rattle.cw_dfa.proofs.Bools.{has_none, has_pow}
 use Rattle.cw_dfa.proofs.Sums.{or_assoc}
-use Rattle.cw_dfa.proofs.Linear.{goes_none, goes_apart, goes_united, ends_none, below, Marks, reads_masked, has_or}
+use Rattle.cw_dfa.proofs.Linear.{goes_none, goes_apart, goes_united, ends_none, below, Masks, reads_masked, has_or}
 use Rattle.cw_dfa.proofs.Meeting.{ends_pow}
 use Rattle.cw_dfa.proofs.Picked.{picked_within}
 use Rattle.cw_lemmas.proofs.Truths.{or_false}
@@ -127,10 +127,10 @@ agree_right : (r s : Tree) (k : ℕ) (c : Letter) (m : ℕ) → ((p : ℕ) → k
 agree_right r s k c m h p l u = h p (omega arith) (omega arith) ∙ has_or (matching r k c) (matching s (k + count r) c) p
     ∙ ap (λ t. t || has (matching s (k + count r) c) p) (not_here r k c p (λ x. omega (arith, x.1)))
 
-marks_by : (r : Tree) (k : ℕ) (c : Letter) (m : ℕ) → Agrees r k c m → Marks r k c m
-marks_by nothing k c m h = tt
-marks_by never k c m h = tt
-marks_by (one l) k c m h = h k (omega arith) (omega arith) ∙ by (fits l c)
+masks_by : (r : Tree) (k : ℕ) (c : Letter) (m : ℕ) → Agrees r k c m → Masks r k c m
+masks_by nothing k c m h = tt
+masks_by never k c m h = tt
+masks_by (one l) k c m h = h k (omega arith) (omega arith) ∙ by (fits l c)
   where
     no : (t : Bool) → has 0 k ≡ t → has 0 k ≡ false
     no true e = absurd (has_none k e)
@@ -139,12 +139,12 @@ marks_by (one l) k c m h = h k (omega arith) (omega arith) ∙ by (fits l c)
     by : (t : Bool) → has (cond t (2 ^ k) 0) k ≡ t
     by true = has_pow k
     by false = no (has 0 k) refl
-marks_by (seq r s) k c m h = (marks_by r k c m (agree_left r s k c m h), marks_by s (k + count r) c m (agree_right r s k c m h))
-marks_by (alt r s) k c m h = (marks_by r k c m (agree_left r s k c m h), marks_by s (k + count r) c m (agree_right r s k c m h))
-marks_by (star r) k c m h = marks_by r k c m h
-marks_by (plus r) k c m h = marks_by r k c m h
-marks_by (maybe r) k c m h = marks_by r k c m h
+masks_by (seq r s) k c m h = (masks_by r k c m (agree_left r s k c m h), masks_by s (k + count r) c m (agree_right r s k c m h))
+masks_by (alt r s) k c m h = (masks_by r k c m (agree_left r s k c m h), masks_by s (k + count r) c m (agree_right r s k c m h))
+masks_by (star r) k c m h = masks_by r k c m h
+masks_by (plus r) k c m h = masks_by r k c m h
+masks_by (maybe r) k c m h = masks_by r k c m h
 
 -- a step: what may follow, where it matches the letter
 pub next_masked : (rules : List PlainRule) (set : ℕ) (c : Letter) → next_of rules set c ≡ bit_and (goes (bad_of rules) 1 (has set 0) set) (matching (bad_of rules) 1 c)
-next_masked rules set c = reads_masked (bad_of rules) 1 (has set 0) set c (matching (bad_of rules) 1 c) (marks_by (bad_of rules) 1 c (matching (bad_of rules) 1 c) (λ p l u. refl))
+next_masked rules set c = reads_masked (bad_of rules) 1 (has set 0) set c (matching (bad_of rules) 1 c) (masks_by (bad_of rules) 1 c (matching (bad_of rules) 1 c) (λ p l u. refl))

@@ -9,7 +9,7 @@ use Rattle.std.proofs.lemmas.Bool.{or_cases, or_left, or_right, and_from as and_
 use Rattle.std.proofs.lemmas.List.{same_from_push}
 use Rattle.cw_lemmas.proofs.Truths.{and_first as and_left, and_second as and_right}
 use Rattle.cw_dfa.proofs.Bools.{has_or_cases, has_or_left, has_or_right, has_none, has_pow, has_pow_only}
-use Rattle.cw_rights.proofs.Pieces.{NotNil, nil_or_not, not_nil_right, not_nil, cut_again, cut_before, plus_of, star_of, last_of}
+use Rattle.cw_rights.proofs.Factors.{NotNil, nil_or_not, not_nil_right, not_nil, cut_again, cut_before, plus_of, star_of, last_of}
 
 -- a way into the expression at E, and on through it
 abbrev pub Within : (Word → Type 0) → Tree → ℕ → Word → ℕ → Type 0

@@ -87,15 +87,15 @@ goes_or (plus a) k d e s t =
 goes_or (maybe a) k d e s t = goes_or a k d e s t
 
 -- a mask that tells of each literal whether it matches the letter
-abbrev pub Marks : Tree → ℕ → Letter → ℕ → Type 0
-Marks nothing k c m = Unit {0}
-Marks never k c m = Unit {0}
-Marks (one l) k c m = has m k ≡ fits l c
-Marks (seq a b) k c m = Marks a k c m × Marks b (k + count a) c m
-Marks (alt a b) k c m = Marks a k c m × Marks b (k + count a) c m
-Marks (star a) k c m = Marks a k c m
-Marks (plus a) k c m = Marks a k c m
-Marks (maybe a) k c m = Marks a k c m
+abbrev pub Masks : Tree → ℕ → Letter → ℕ → Type 0
+Masks nothing k c m = Unit {0}
+Masks never k c m = Unit {0}
+Masks (one l) k c m = has m k ≡ fits l c
+Masks (seq a b) k c m = Masks a k c m × Masks b (k + count a) c m
+Masks (alt a b) k c m = Masks a k c m × Masks b (k + count a) c m
+Masks (star a) k c m = Masks a k c m
+Masks (plus a) k c m = Masks a k c m
+Masks (maybe a) k c m = Masks a k c m
 
 and_or : (a b m : ℕ) → bit_or (bit_and a m) (bit_and b m) ≡ bit_and (bit_or a b) m
 and_or a b m = same_from_bits _ _ (λ i.
@@ -124,7 +124,7 @@ one_and k m true false h =
     let x : bit_at m k ≡ 0 = omega arith in
     sym (and_comm (2 ^ k) m ∙ and_pow m k ∙ rw x (zero_times (2 ^ k)))
 
-pub reads_masked : (r : Tree) (k : ℕ) (enter : Bool) (set : ℕ) (c : Letter) (m : ℕ) → Marks r k c m → reads r k enter set c ≡ bit_and (goes r k enter set) m
+pub reads_masked : (r : Tree) (k : ℕ) (enter : Bool) (set : ℕ) (c : Letter) (m : ℕ) → Masks r k c m → reads r k enter set c ≡ bit_and (goes r k enter set) m
 reads_masked nothing k enter set c m h = zero_and m
 reads_masked never k enter set c m h = zero_and m
 reads_masked (one l) k enter set c m h = one_and k m enter (fits l c) h

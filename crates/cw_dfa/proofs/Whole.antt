@@ -9,7 +9,7 @@ use Rattle.cw_dfa.specs.Positions.{Reads, bad_of, IsSetOf}
 use Rattle.cw_dfa.specs.Sets.{has, ends}
 use Rattle.cw_dfa.specs.Verdicts.{IsVerdict, verdict, next_of, walk}
 use Rattle.cw_dfa.proofs.Bools.{has_pow_only}
-use Rattle.cw_rights.proofs.Pieces.{NotNil, nil_or_not, not_nil_right, not_nil}
+use Rattle.cw_rights.proofs.Factors.{NotNil, nil_or_not, not_nil_right, not_nil}
 use Rattle.cw_dfa.proofs.Known.{Within, Known, Decides, reads_low, reads_exact, ends_sound, ends_complete, alt_left, alt_right}
 
 abbrev AtStart : Word → Type 0

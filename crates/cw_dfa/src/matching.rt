@@ -75,7 +75,7 @@ fn picks(lit: &Lit, sought: Sought) -> bool
 
 /// The literals of an expression that are as sought, and the number after its last literal.
 #[derive(Clone, Copy, Drop)]
-pub struct Marked {
+pub struct PickedLiterals {
     pub next: u32,
     pub set: u64,
 }
@@ -92,13 +92,13 @@ fn literal(lit: &Lit, k: u32, sought: Sought) -> u64
 /// and the position after its last one. Positions are below 64.
 #[cycle(picked)]
 #[tactic(auto, using(cw_rights::proofs::Rows::cat_of, crate::proofs::Rows::or_picked, crate::proofs::Rows::or_count))]
-pub fn picked(r: &Regex, k: u32, sought: Sought) -> Marked
+pub fn picked(r: &Regex, k: u32, sought: Sought) -> PickedLiterals
     requires { k + count (tree_of r.now) ≤ 64 }
     ensures next { result.next ≡ k + count (tree_of r.now) }
     ensures set { result.set ≡ picked (picks sought) (tree_of r.now) k }
 {
     match r {
-        Regex::Lit(lit) => Marked {
+        Regex::Lit(lit) => PickedLiterals {
             next: k + 1,
             set: literal(lit, k, sought),
         },
@@ -109,7 +109,7 @@ pub fn picked(r: &Regex, k: u32, sought: Sought) -> Marked
 
 /// The same for parts that stand one after the other.
 #[cycle(picked)]
-fn picked_row(parts: &[Regex], k: u32, sought: Sought) -> Marked
+fn picked_row(parts: &[Regex], k: u32, sought: Sought) -> PickedLiterals
     requires { k + count (seq_of parts.now) ≤ 64 }
     ensures next { result.next ≡ k + count (seq_of parts.now) }
     ensures set { result.set ≡ picked (picks sought) (seq_of parts.now) k }
@@ -121,7 +121,7 @@ fn picked_row(parts: &[Regex], k: u32, sought: Sought) -> Marked
         next = found.next;
         set |= found.set;
     }
-    Marked { next, set }
+    PickedLiterals { next, set }
 }
 
 /// The literals of all rules, numbered from 1, that are as sought.

@@ -18,11 +18,11 @@ use Rattle.cw_text.specs.Lines.{line, set_text}
 use Rattle.cw_text.specs.Lines.{joined as joined_by}
 use Rattle.cw_text.specs.RowLines.{with_fields, joined, numbered}
 use Rattle.cw_text.specs.TableText.{answer, mode}
-use Rattle.cw_text.specs.LimitsText.{descriptor_name, limit_word}
+use Rattle.cw_text.specs.LimitsText.{descriptor_name, limit_text}
 use Rattle.cw_table_text.specs.declared.row.Row.{Row}
 use Rattle.cw_table_text.specs.declared.row.Row.TheVariants.{Memory, Live, Try, At, Opened, Closed, Into, Back}
-use Rattle.cw_table_text.specs.Rows.{rows_of, row_words, called, name_of, fields_of}
-use Rattle.cw_table_text.specs.TablesText.{header, limits_words, table_words, done, tables_lines, text_of, tables_text}
+use Rattle.cw_table_text.specs.Rows.{rows_of, row_text, called, name_of, fields_of}
+use Rattle.cw_table_text.specs.TablesText.{header, limits_text, table_text, done, tables_lines, text_of, tables_text}
 use Rattle.cw_syntax.specs.PlainMarks.{HasNone}
 use Rattle.cw_emit.specs.Woven.{spelling, spelled, ArePlainNames}
 use Rattle.cw_syntax.specs.PlainMarks.{IsPlainKind}
@@ -109,7 +109,7 @@ plain_hexadecimal n = by_test (n == 0)
 
 -- ---- lines
 
--- each of the words
+-- each of the fields
 abbrev ArePlain : List (List ℕ) → Type 0
 ArePlain [] = Unit {0}
 ArePlain (w ∷ ws) = Plain w × ArePlain ws
@@ -147,7 +147,7 @@ plain_run run = by_test (run.least == run.greatest)
     by_test true = plain_decimal run.least
     by_test false = plain_append (decimal run.least) _ (plain_decimal run.least) (plain_append (codes "-") _ (plain_is _ refl) (plain_decimal run.greatest))
 
--- words with a mark between that is no slash
+-- fields with a separator between that is no slash
 plain_between : (mark : ℕ) → Plain (mark ∷ []) → (ws : List (List ℕ)) → ArePlain ws → Plain (join_with_byte mark ws)
 plain_between mark m [] p = plain_is [] refl
 plain_between mark m (w ∷ []) p = p.0
@@ -197,25 +197,25 @@ plain_row format (Closed r) = (plain_decimal r.seam.0, (plain_decimal r.mem.0, (
 plain_row format (Into r) = (plain_decimal r.seam.0, (plain_mode r.split, (plain_decimal r.mem.0, (plain_decimal r.callee.0, tt))))
 plain_row format (Back r) = (plain_decimal r.seam.0, (plain_mode r.split, (plain_decimal r.mem.0, (plain_decimal r.exit.0, (plain_decimal r.after.0, tt)))))
 
-plain_words : (format : ℕ) (r : Row) → Plain (row_words format r)
-unfolding row_words
+plain_words : (format : ℕ) (r : Row) → Plain (row_text format r)
+unfolding row_text
 plain_words format r = plain_called (name_of r) (fields_of format r) (plain_name r) (plain_row format r)
 
-plain_limits : (policy : PlainPolicy) → ArePlainNames policy → Plain (limits_words policy)
-unfolding limits_words
+plain_limits : (policy : PlainPolicy) → ArePlainNames policy → Plain (limits_text policy)
+unfolding limits_text
 plain_limits policy names =
-    plain_append (codes "#define CW_LIMITS(X)") (numbered (limit_word policy) policy.limits) (plain_is _ refl)
-    (plain_rows (λ row. limit_word policy row.0 row.1) (λ row. plain_append (codes " ") _ (plain_is _ refl) (plain_fields (codes "X") (decimal row.0 ∷ descriptor_name policy row.1.descriptor ∷ hexadecimal row.1.keep.0 ∷ []) (plain_is _ refl) (plain_decimal row.0, (plain_from_none _ (names row.1.descriptor), (plain_hexadecimal row.1.keep.0, tt))))) (enumerate_from 0 policy.limits))
+    plain_append (codes "#define CW_LIMITS(X)") (numbered (limit_text policy) policy.limits) (plain_is _ refl)
+    (plain_rows (λ row. limit_text policy row.0 row.1) (λ row. plain_append (codes " ") _ (plain_is _ refl) (plain_fields (codes "X") (decimal row.0 ∷ descriptor_name policy row.1.descriptor ∷ hexadecimal row.1.keep.0 ∷ []) (plain_is _ refl) (plain_decimal row.0, (plain_from_none _ (names row.1.descriptor), (plain_hexadecimal row.1.keep.0, tt))))) (enumerate_from 0 policy.limits))
 
-plain_head : (format states : ℕ) (start : MemId) → Plain (table_words format states start)
-unfolding table_words
+plain_head : (format states : ℕ) (start : MemId) → Plain (table_text format states start)
+unfolding table_text
 plain_head format states start = plain_called (codes "CW_TABLE") (decimal format ∷ decimal states ∷ decimal start.0 ∷ []) (plain_is _ refl) (plain_decimal format, (plain_decimal states, (plain_decimal start.0, tt)))
 
 both_plain : (xs bs : List (List ℕ)) → ArePlain xs → ArePlain bs → ArePlain (xs ++ bs)
 both_plain [] bs p q = q
 both_plain (x ∷ xs) bs p q = (p.0, both_plain xs bs p.1 q)
 
-rows_plain : (format : ℕ) (rs : List Row) → ArePlain (map (row_words format) rs)
+rows_plain : (format : ℕ) (rs : List Row) → ArePlain (map (row_text format) rs)
 rows_plain format [] = tt
 rows_plain format (r ∷ rs) = (plain_words format r, rows_plain format rs)
 
@@ -227,7 +227,7 @@ plain_tables : (policy : PlainPolicy) (t : Table) → ArePlainNames policy → P
 unfolding tables_text
 plain_tables policy t names =
     plain_text (tables_lines policy t)
-    (plain_is header refl, (plain_limits policy names, (plain_head policy.format t.states t.start, both_plain (map (row_words policy.format) (rows_of t)) (done ∷ []) (rows_plain policy.format (rows_of t)) (plain_is done refl, tt))))
+    (plain_is header refl, (plain_limits policy names, (plain_head policy.format t.states t.start, both_plain (map (row_text policy.format) (rows_of t)) (done ∷ []) (rows_plain policy.format (rows_of t)) (plain_is done refl, tt))))
 
 pub plain_lines : (policy : PlainPolicy) (t : Table) → ArePlainNames policy → is_plain (codes "\n" ++ tables_text policy t) ≡ true
 plain_lines policy t names = is_from_plain _ (plain_append (codes "\n") (tables_text policy t) (plain_is _ refl) (plain_tables policy t names))

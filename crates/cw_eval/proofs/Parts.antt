@@ -2,7 +2,7 @@
 use Rattle.std.proofs.Common.{◌≡◌, ℕ, ◌+◌, List, [], ◌∷◌, map, refl, ap}
 use Rattle.cw_syntax.specs.declared.program.Expr.{Expr}
 use Rattle.cw_syntax.specs.Trees.{declared_of, tree_of, trees_of}
-use Rattle.cw_value.specs.Expressions.{Scope, Memory, Outcome, gives, stops, ◌and◌, Place, arguments, value}
+use Rattle.cw_value.specs.Expressions.{Scope, Memory, Outcome, gives, stops, ◌and◌, Location, arguments, value}
 use Rattle.cw_syntax.specs.declared.program.Item.{Item}
 use Rattle.cw_value.specs.Declarations.{declares_all, filled}
 use Rattle.cw_value.specs.Deeds.{values}
@@ -20,7 +20,7 @@ arguments_each s (e ∷ es) m =
     same_and (argument s (tree_of e) m) (λ a k. arguments s (trees_of es) k and (λ rest l. gives (a ∷ rest) l)) (λ a k. each (λ e. argument s (tree_of e)) es k and (λ rest l. gives (a ∷ rest) l))
     (λ a k. ap (λ o. o and (λ rest l. gives (a ∷ rest) l)) (arguments_each s es k))
 
-pub filled_along : (s : Scope) (p : Place) (size i : ℕ) (es : List Expr) (m : Memory) → filled s p size i (trees_of es) m ≡ along (λ i e. listed_at s p size i (tree_of e)) i es m
+pub filled_along : (s : Scope) (p : Location) (size i : ℕ) (es : List Expr) (m : Memory) → filled s p size i (trees_of es) m ≡ along (λ i e. listed_at s p size i (tree_of e)) i es m
 filled_along s p size i [] m = refl
 filled_along s p size i (e ∷ es) m =
     same_and (listed_at s p size i (tree_of e) m) (λ d k. filled s p size (i + 1) (trees_of es) k) (λ d k. along (λ i e. listed_at s p size i (tree_of e)) (i + 1) es k)

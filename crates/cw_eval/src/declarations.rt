@@ -3,9 +3,9 @@
 ghost use Rattle.std.specs.Prelude.{◌≡◌, [], ◌++◌, ◌-◌, None, Some, false, OnOk, map, nat_lt, pos, replicate, slice_get, slice_set, take, unwrap_or};
 ghost use Rattle.cw_syntax.specs.Names.{text};
 ghost use Rattle.cw_syntax.specs.Trees.{array_of, declaration_of, declared_of, more, none, tree_of, trees_of, count};
-ghost use Rattle.cw_value.specs.Expressions.{◌and◌, from_of, place_of, value};
-ghost use Rattle.cw_value.specs.Declarations.{by_place, element_target, declares, declares_all, filled, listed, listed_array, listed_one, made_array, made_plain, new_array, new_plain, rest_stops, size_if, size_in, sized, with_list, with_zeros};
-ghost use Rattle.cw_slots.specs.Shown.{place_in, scope_of};
+ghost use Rattle.cw_value.specs.Expressions.{◌and◌, from_of, location_of, value};
+ghost use Rattle.cw_value.specs.Declarations.{by_location, element_target, declares, declares_all, filled, listed, listed_array, listed_one, made_array, made_plain, new_array, new_plain, rest_stops, size_if, size_in, sized, with_list, with_zeros};
+ghost use Rattle.cw_slots.specs.Shown.{location_in, scope_of};
 ghost use Rattle.cw_eval.specs.Parts.{declared_one, listed_at};
 ghost use Rattle.cw_eval.specs.Shown.{Shows, as_done, as_is, memory_of, target_in};
 
@@ -15,7 +15,7 @@ use crate::memory::{Memory, Target};
 use crate::store::Spot;
 use cw_cells::Cells;
 use cw_core::NoMemory;
-use cw_slots::{Place, Scope};
+use cw_slots::{Location, Scope};
 use cw_syntax::program::{Decl, Expr, Item};
 use cw_value::Stop;
 use std::alloc::Global;
@@ -33,15 +33,15 @@ fn renew(arrays: &mut Vec<Cells>, array: usize, size: usize, cell: Option<i64>)
 }
 
 /// Makes the array anew that is kept there.
-pub fn make_array(place: Place, size: usize, cell: Option<i64>, m: &mut Memory)
-    ensures made { memory_of m.new ≡ made_array (memory_of m.old) (place_in place) (replicate size cell) }
+pub fn make_array(location: Location, size: usize, cell: Option<i64>, m: &mut Memory)
+    ensures made { memory_of m.new ≡ made_array (memory_of m.old) (location_in location) (replicate size cell) }
 {
-    match place {
-        Place::OwnArray(n) => renew(&mut m.own.arrays, n, size, cell),
-        Place::SharedArray(n) => renew(&mut m.shared.arrays, n, size, cell),
-        Place::Own(_) => {}
-        Place::Shared(_) => {}
-        Place::Nowhere => {}
+    match location {
+        Location::OwnArray(n) => renew(&mut m.own.arrays, n, size, cell),
+        Location::SharedArray(n) => renew(&mut m.shared.arrays, n, size, cell),
+        Location::Own(_) => {}
+        Location::Shared(_) => {}
+        Location::Nowhere => {}
     }
 }
 
@@ -64,45 +64,45 @@ fn zero_behind(
 /// The elements past those of the list are 0.
 fn with_zeros(
     scope: &Scope,
-    place: Place,
+    location: Location,
     size: usize,
     count: usize,
     m: &mut Memory,
 ) -> Result<(), NoMemory>
-    ensures { OnOk result (memory_of m.new ≡ with_zeros (scope_of scope.now) (place_in place) size count (memory_of m.old)) }
+    ensures { OnOk result (memory_of m.new ≡ with_zeros (scope_of scope.now) (location_in location) size count (memory_of m.old)) }
 {
-    match place {
-        Place::OwnArray(n) => zero_behind(scope.alloc, &mut m.own.arrays, n, size, count),
-        Place::SharedArray(n) => zero_behind(scope.alloc, &mut m.shared.arrays, n, size, count),
-        Place::Own(_) => Ok(()),
-        Place::Shared(_) => Ok(()),
-        Place::Nowhere => Ok(()),
+    match location {
+        Location::OwnArray(n) => zero_behind(scope.alloc, &mut m.own.arrays, n, size, count),
+        Location::SharedArray(n) => zero_behind(scope.alloc, &mut m.shared.arrays, n, size, count),
+        Location::Own(_) => Ok(()),
+        Location::Shared(_) => Ok(()),
+        Location::Nowhere => Ok(()),
     }
 }
 
 /// Gives the name its first value that is kept there.
-fn make_plain(place: Place, cell: Option<i64>, m: &mut Memory) -> Result<(), NoMemory>
-    ensures { OnOk result (memory_of m.new ≡ made_plain (memory_of m.old) (place_in place) cell) }
+fn make_plain(location: Location, cell: Option<i64>, m: &mut Memory) -> Result<(), NoMemory>
+    ensures { OnOk result (memory_of m.new ≡ made_plain (memory_of m.old) (location_in location) cell) }
 {
-    match place {
-        Place::Own(n) => m.own.set(Spot::Plain(n), cell),
-        Place::Shared(n) => m.shared.set(Spot::Plain(n), cell),
-        Place::OwnArray(_) => Ok(()),
-        Place::SharedArray(_) => Ok(()),
-        Place::Nowhere => Ok(()),
+    match location {
+        Location::Own(n) => m.own.set(Spot::Plain(n), cell),
+        Location::Shared(n) => m.shared.set(Spot::Plain(n), cell),
+        Location::OwnArray(_) => Ok(()),
+        Location::SharedArray(_) => Ok(()),
+        Location::Nowhere => Ok(()),
     }
 }
 
 /// The element of the array that is kept there.
-fn element_target(place: Place, i: usize) -> Target
-    ensures { target_in result ≡ element_target (place_in place) i }
+fn element_target(location: Location, i: usize) -> Target
+    ensures { target_in result ≡ element_target (location_in location) i }
 {
-    match place {
-        Place::OwnArray(n) => Target::Own(Spot::Element(n, i)),
-        Place::SharedArray(n) => Target::Shared(Spot::Element(n, i)),
-        Place::Own(_) => Target::Nothing,
-        Place::Shared(_) => Target::Nothing,
-        Place::Nowhere => Target::Nothing,
+    match location {
+        Location::OwnArray(n) => Target::Own(Spot::Element(n, i)),
+        Location::SharedArray(n) => Target::Shared(Spot::Element(n, i)),
+        Location::Own(_) => Target::Nothing,
+        Location::Shared(_) => Target::Nothing,
+        Location::Nowhere => Target::Nothing,
     }
 }
 
@@ -176,17 +176,17 @@ pub fn sized(
 /// Stores an expression of a braced list, where the array has such an element.
 fn fill_one(
     scope: &Scope,
-    place: Place,
+    location: Location,
     size: usize,
     i: usize,
     e: &Expr,
     m: &mut Memory,
 ) -> Result<(), Halt>
-    ensures { Shows as_done result (memory_of m.new) (listed_at (scope_of scope.now) (place_in place) size i (tree_of e.now) (memory_of m.old)) }
+    ensures { Shows as_done result (memory_of m.new) (listed_at (scope_of scope.now) (location_in location) size i (tree_of e.now) (memory_of m.old)) }
 {
     if i < size {
         let z = value(scope, e, m)?;
-        m.store(element_target(place, i), z)?;
+        m.store(element_target(location, i), z)?;
         Ok(())
     } else {
         Err(Halt::Stop(Stop::Form(start(e))))
@@ -194,11 +194,17 @@ fn fill_one(
 }
 
 /// Stores the expressions of a braced list, one after the other.
-fn fill(scope: &Scope, place: Place, size: usize, init: &[Expr], m: &mut Memory) -> Result<(), Halt>
-    ensures { Shows as_done result (memory_of m.new) (filled (scope_of scope.now) (place_in place) size 0 (trees_of init.now) (memory_of m.old)) }
+fn fill(
+    scope: &Scope,
+    location: Location,
+    size: usize,
+    init: &[Expr],
+    m: &mut Memory,
+) -> Result<(), Halt>
+    ensures { Shows as_done result (memory_of m.new) (filled (scope_of scope.now) (location_in location) size 0 (trees_of init.now) (memory_of m.old)) }
 {
     for (i, e) in init.iter().enumerate() {
-        fill_one(scope, place, size, i, e, m)?;
+        fill_one(scope, location, size, i, e, m)?;
     }
     Ok(())
 }
@@ -206,32 +212,32 @@ fn fill(scope: &Scope, place: Place, size: usize, init: &[Expr], m: &mut Memory)
 /// An array of a braced list.
 fn list_array(
     scope: &Scope,
-    place: Place,
+    location: Location,
     init: &[Expr],
     size: usize,
     m: &mut Memory,
 ) -> Result<(), Halt>
-    ensures { Shows as_done result (memory_of m.new) (listed_array (scope_of scope.now) (place_in place) (trees_of init.now) size (memory_of m.old)) }
+    ensures { Shows as_done result (memory_of m.new) (listed_array (scope_of scope.now) (location_in location) (trees_of init.now) size (memory_of m.old)) }
 {
-    make_array(place, size, None, m);
-    fill(scope, place, size, init, m)?;
-    with_zeros(scope, place, size, count(init), m)?;
+    make_array(location, size, None, m);
+    fill(scope, location, size, init, m)?;
+    with_zeros(scope, location, size, count(init), m)?;
     Ok(())
 }
 
 /// An array without a list, whose initialiser isn't evaluated.
 fn bare_array(
     _scope: &Scope,
-    place: Place,
+    location: Location,
     init: &[Expr],
     size: usize,
     m: &mut Memory,
 ) -> Result<(), Halt>
-    ensures { Shows as_done result (memory_of m.new) (with_list (scope_of _scope.now) (place_in place) false (trees_of init.now) size (memory_of m.old)) }
+    ensures { Shows as_done result (memory_of m.new) (with_list (scope_of _scope.now) (location_in location) false (trees_of init.now) size (memory_of m.old)) }
 {
     match init {
         [] => {
-            make_array(place, size, None, m);
+            make_array(location, size, None, m);
             Ok(())
         }
         [e, ..] => Err(Halt::Stop(Stop::Form(start(e)))),
@@ -239,14 +245,14 @@ fn bare_array(
 }
 
 /// Makes an array, with its list.
-pub fn new_array(scope: &Scope, place: Place, item: &Item, m: &mut Memory) -> Result<(), Halt>
-    ensures made { Shows as_done result (memory_of m.new) (new_array (scope_of scope.now) (place_in place) (size_in (declared_of item.now).array) (declared_of item.now).braces (declared_of item.now).init (memory_of m.old)) }
+pub fn new_array(scope: &Scope, location: Location, item: &Item, m: &mut Memory) -> Result<(), Halt>
+    ensures made { Shows as_done result (memory_of m.new) (new_array (scope_of scope.now) (location_in location) (size_in (declared_of item.now).array) (declared_of item.now).braces (declared_of item.now).init (memory_of m.old)) }
 {
     let size = sized(scope, &item.array, item.braces, &item.init, m)?;
     if item.braces {
-        list_array(scope, place, &item.init, size, m)
+        list_array(scope, location, &item.init, size, m)
     } else {
-        bare_array(scope, place, &item.init, size, m)
+        bare_array(scope, location, &item.init, size, m)
     }
 }
 
@@ -261,32 +267,37 @@ fn rest_stops(_scope: &Scope, rest: &[Expr], m: &Memory) -> Result<(), Halt>
 }
 
 /// Gives a name that is no array its first value.
-pub fn new_plain(scope: &Scope, place: Place, init: &[Expr], m: &mut Memory) -> Result<(), Halt>
-    ensures made { Shows as_done result (memory_of m.new) (new_plain (scope_of scope.now) (place_in place) (trees_of init.now) (memory_of m.old)) }
+pub fn new_plain(
+    scope: &Scope,
+    location: Location,
+    init: &[Expr],
+    m: &mut Memory,
+) -> Result<(), Halt>
+    ensures made { Shows as_done result (memory_of m.new) (new_plain (scope_of scope.now) (location_in location) (trees_of init.now) (memory_of m.old)) }
 {
     match init {
         [] => {
-            make_plain(place, None, m)?;
+            make_plain(location, None, m)?;
             Ok(())
         }
         [e, rest @ ..] => {
             let z = value(scope, e, m)?;
-            make_plain(place, Some(z), m)?;
+            make_plain(location, Some(z), m)?;
             rest_stops(scope, rest, m)
         }
     }
 }
 
 /// Makes what is kept there.
-fn declare_at(scope: &Scope, place: Place, item: &Item, m: &mut Memory) -> Result<(), Halt>
-    ensures { Shows as_done result (memory_of m.new) (by_place (scope_of scope.now) (place_in place) (declared_of item.now) (memory_of m.old)) }
+fn declare_at(scope: &Scope, location: Location, item: &Item, m: &mut Memory) -> Result<(), Halt>
+    ensures { Shows as_done result (memory_of m.new) (by_location (scope_of scope.now) (location_in location) (declared_of item.now) (memory_of m.old)) }
 {
-    match place {
-        Place::OwnArray(_) => new_array(scope, place, item, m),
-        Place::Own(_) => new_plain(scope, place, &item.init, m),
-        Place::Shared(_) => Ok(()),
-        Place::SharedArray(_) => Ok(()),
-        Place::Nowhere => Ok(()),
+    match location {
+        Location::OwnArray(_) => new_array(scope, location, item, m),
+        Location::Own(_) => new_plain(scope, location, &item.init, m),
+        Location::Shared(_) => Ok(()),
+        Location::SharedArray(_) => Ok(()),
+        Location::Nowhere => Ok(()),
     }
 }
 
@@ -295,7 +306,7 @@ fn declare_one(scope: &Scope, item: &Item, m: &mut Memory) -> Result<(), Halt>
     ensures { Shows as_done result (memory_of m.new) (declared_one (scope_of scope.now) (declared_of item.now) (memory_of m.old)) }
 {
     let name = scope.text(item.name.from, item.name.to);
-    declare_at(scope, scope.place(name), item, m)
+    declare_at(scope, scope.location(name), item, m)
 }
 
 /// Declares the names of a declaration, from left to right.

@@ -2,8 +2,8 @@
 
 ghost use Rattle.std.specs.Prelude.{◌≡◌, ◌++◌, ◌-◌, false};
 ghost use Rattle.cw_syntax.specs.Trees.{Node, more, none, tree_of, trees_of, op_of, parts_of};
-ghost use Rattle.cw_value.specs.Expressions.{Nothing, ◌and◌, arguments, argued, assigned, base, before_first, binary, by_one, element, first, first_place, from_of, gives, index, is_span, joined, prefixed, second, stepped, target, target_of, to_of, value};
-ghost use Rattle.cw_slots.specs.Shown.{place_in, scope_of};
+ghost use Rattle.cw_value.specs.Expressions.{Nothing, ◌and◌, arguments, argued, assigned, base, before_first, binary, by_one, element, first, first_location, from_of, gives, index, is_span, joined, prefixed, second, stepped, target, target_of, to_of, value};
+ghost use Rattle.cw_slots.specs.Shown.{location_in, scope_of};
 ghost use Rattle.cw_eval.specs.Parts.{argument};
 ghost use Rattle.cw_eval.specs.Shown.{Shows, as_is, items_in, memory_of, target_in};
 
@@ -13,7 +13,7 @@ use crate::operations::{
     answered, by_one, changed, number, operated, put, signed, truth_of, updated,
 };
 use crate::reads::{
-    before_first, cell_read, element_in, first_place, is_array, is_span, name_target, read_name,
+    before_first, cell_read, element_in, first_location, is_array, is_span, name_target, read_name,
 };
 use cw_figures::{Joint, is_zero, joint_of};
 use cw_slots::Scope;
@@ -182,12 +182,12 @@ fn joined(
 #[cycle(value)]
 #[inline(always)]
 fn element(scope: &Scope, at: u32, parts: &[Expr], m: &mut Memory) -> Result<Target, Halt>
-    ensures { Shows target_in result (memory_of m.new) (element at (first_place (scope_of scope.now) (trees_of parts.now)) (first (scope_of scope.now) (trees_of parts.now)) (second (scope_of scope.now) (trees_of parts.now)) (memory_of m.old)) }
+    ensures { Shows target_in result (memory_of m.new) (element at (first_location (scope_of scope.now) (trees_of parts.now)) (first (scope_of scope.now) (trees_of parts.now)) (second (scope_of scope.now) (trees_of parts.now)) (memory_of m.old)) }
 {
-    let place = first_place(scope, parts);
-    if is_array(place) {
+    let location = first_location(scope, parts);
+    if is_array(location) {
         let i = second(scope, parts, m)?;
-        return element_in(at, place, i, m);
+        return element_in(at, location, i, m);
     }
     first(scope, parts, m)?;
     second(scope, parts, m)?;

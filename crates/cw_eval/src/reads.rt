@@ -4,14 +4,14 @@ ghost use Rattle.std.specs.Prelude.{◌≡◌, ◌||◌, option_map};
 ghost use Rattle.cw_syntax.specs.Names.{slice};
 ghost use Rattle.cw_syntax.specs.Trees.{more, none, tree_of, trees_of};
 ghost use Rattle.cw_value.specs.Stores.{array_of};
-ghost use Rattle.cw_value.specs.Expressions.{OwnSpot, SharedSpot, bare_at, bare_place, before, before_first, cell_read, element_in, first_place, given_read, indexed, is_array, is_span, is_undeclared, name_if, name_read, name_target, old_value, place_of, read_name, spot_if, target_at};
-ghost use Rattle.cw_slots.specs.Shown.{place_in, scope_of};
+ghost use Rattle.cw_value.specs.Expressions.{OwnSpot, SharedSpot, bare_at, bare_location, before, before_first, cell_read, element_in, first_location, given_read, indexed, is_array, is_span, is_undeclared, name_if, name_read, name_target, old_value, location_of, read_name, spot_if, target_at};
+ghost use Rattle.cw_slots.specs.Shown.{location_in, scope_of};
 ghost use Rattle.cw_eval.specs.Shown.{Shows, as_is, memory_of, spot_in, store_of, target_in};
 
 use crate::halt::Halt;
 use crate::memory::{Memory, Target};
 use crate::store::{Spot, Store};
-use cw_slots::{Place, Scope};
+use cw_slots::{Location, Scope};
 use cw_syntax::program::{Expr, Op};
 use cw_value::Stop;
 
@@ -38,15 +38,21 @@ fn given_read(at: u32, given: Option<i64>, m: &Memory) -> Result<i64, Halt>
 
 /// The value of a name whose values are kept there.
 #[inline(always)]
-fn name_read(scope: &Scope, name: &[u8], at: u32, m: &Memory, place: Place) -> Result<i64, Halt>
-    ensures { Shows as_is result (memory_of m.now) (name_read (scope_of scope.now) name.now at (memory_of m.now) (place_in place)) }
+fn name_read(
+    scope: &Scope,
+    name: &[u8],
+    at: u32,
+    m: &Memory,
+    location: Location,
+) -> Result<i64, Halt>
+    ensures { Shows as_is result (memory_of m.now) (name_read (scope_of scope.now) name.now at (memory_of m.now) (location_in location)) }
 {
-    match place {
-        Place::Own(n) => cell_read(at, m.own.get(Spot::Plain(n)), m),
-        Place::Shared(n) => cell_read(at, m.shared.get(Spot::Plain(n)), m),
-        Place::Nowhere => given_read(at, scope.given(name), m),
-        Place::OwnArray(_) => Err(Halt::Stop(Stop::Form(at))),
-        Place::SharedArray(_) => Err(Halt::Stop(Stop::Form(at))),
+    match location {
+        Location::Own(n) => cell_read(at, m.own.get(Spot::Plain(n)), m),
+        Location::Shared(n) => cell_read(at, m.shared.get(Spot::Plain(n)), m),
+        Location::Nowhere => given_read(at, scope.given(name), m),
+        Location::OwnArray(_) => Err(Halt::Stop(Stop::Form(at))),
+        Location::SharedArray(_) => Err(Halt::Stop(Stop::Form(at))),
     }
 }
 
@@ -55,20 +61,20 @@ pub(crate) fn read_name(scope: &Scope, from: u32, to: u32, m: &Memory) -> Result
     ensures { Shows as_is result (memory_of m.now) (read_name (scope_of scope.now) from to (memory_of m.now)) }
 {
     let name = scope.text(from, to);
-    name_read(scope, name, from, m, scope.place(name))
+    name_read(scope, name, from, m, scope.location(name))
 }
 
 /// Where a name is changed: nowhere where it isn't declared, or is an array.
 #[inline(always)]
-fn target_at(place: Place) -> Target
-    ensures { target_in result ≡ target_at (place_in place) }
+fn target_at(location: Location) -> Target
+    ensures { target_in result ≡ target_at (location_in location) }
 {
-    match place {
-        Place::Own(n) => Target::Own(Spot::Plain(n)),
-        Place::Shared(n) => Target::Shared(Spot::Plain(n)),
-        Place::OwnArray(_) => Target::Nothing,
-        Place::SharedArray(_) => Target::Nothing,
-        Place::Nowhere => Target::Nothing,
+    match location {
+        Location::Own(n) => Target::Own(Spot::Plain(n)),
+        Location::Shared(n) => Target::Shared(Spot::Plain(n)),
+        Location::OwnArray(_) => Target::Nothing,
+        Location::SharedArray(_) => Target::Nothing,
+        Location::Nowhere => Target::Nothing,
     }
 }
 
@@ -77,50 +83,50 @@ fn target_at(place: Place) -> Target
 pub fn name_target(scope: &Scope, from: u32, to: u32) -> Target
     ensures target { target_in result ≡ name_target (scope_of scope.now) from to }
 {
-    target_at(scope.place(scope.text(from, to)))
+    target_at(scope.location(scope.text(from, to)))
 }
 
-/// The place of an expression that is a bare name.
+/// The location of an expression that is a bare name.
 #[inline(always)]
-fn bare_at(scope: &Scope, op: Op, from: u32, to: u32) -> Place
-    ensures { place_in result ≡ bare_at (scope_of scope.now) op from to }
+fn bare_at(scope: &Scope, op: Op, from: u32, to: u32) -> Location
+    ensures { location_in result ≡ bare_at (scope_of scope.now) op from to }
 {
     match op {
-        Op::Name => scope.place(scope.text(from, to)),
-        Op::Number(_) | Op::Char(_) | Op::Text | Op::Call(_) => Place::Nowhere,
-        Op::Index | Op::Prefix(_) | Op::Suffix(_) | Op::Binary(_) => Place::Nowhere,
-        Op::Assign(_) | Op::Cast(_) | Op::SizeOf | Op::SizeOfType(_) => Place::Nowhere,
+        Op::Name => scope.location(scope.text(from, to)),
+        Op::Number(_) | Op::Char(_) | Op::Text | Op::Call(_) => Location::Nowhere,
+        Op::Index | Op::Prefix(_) | Op::Suffix(_) | Op::Binary(_) => Location::Nowhere,
+        Op::Assign(_) | Op::Cast(_) | Op::SizeOf | Op::SizeOfType(_) => Location::Nowhere,
     }
 }
 
-/// The place of an expression that is a name alone; nowhere for any other.
+/// The location of an expression that is a name alone; nowhere for any other.
 #[inline(always)]
-fn bare_place(scope: &Scope, e: &Expr) -> Place
-    ensures { place_in result ≡ bare_place (scope_of scope.now) (tree_of e.now) }
+fn bare_location(scope: &Scope, e: &Expr) -> Location
+    ensures { location_in result ≡ bare_location (scope_of scope.now) (tree_of e.now) }
 {
     bare_at(scope, e.op, e.from, e.to)
 }
 
-/// The place of the first of these parts, where it is a bare name.
+/// The location of the first of these parts, where it is a bare name.
 #[inline(always)]
-pub(crate) fn first_place(scope: &Scope, parts: &[Expr]) -> Place
-    ensures { place_in result ≡ first_place (scope_of scope.now) (trees_of parts.now) }
+pub(crate) fn first_location(scope: &Scope, parts: &[Expr]) -> Location
+    ensures { location_in result ≡ first_location (scope_of scope.now) (trees_of parts.now) }
 {
     match parts {
-        [] => Place::Nowhere,
-        [e, ..] => bare_place(scope, e),
+        [] => Location::Nowhere,
+        [e, ..] => bare_location(scope, e),
     }
 }
 
 /// Whether an array's elements are kept there.
 #[inline(always)]
-pub(crate) fn is_array(place: Place) -> bool
-    ensures { result ≡ is_array (place_in place) }
+pub(crate) fn is_array(location: Location) -> bool
+    ensures { result ≡ is_array (location_in location) }
 {
-    match place {
-        Place::OwnArray(_) => true,
-        Place::SharedArray(_) => true,
-        Place::Own(_) | Place::Shared(_) | Place::Nowhere => false,
+    match location {
+        Location::OwnArray(_) => true,
+        Location::SharedArray(_) => true,
+        Location::Own(_) | Location::Shared(_) | Location::Nowhere => false,
     }
 }
 
@@ -138,43 +144,43 @@ fn spot_if(store: &Store, i: i64, array: usize) -> Option<Spot>
 
 /// The element of the array that is kept there.
 #[inline(always)]
-pub(crate) fn element_in(at: u32, place: Place, i: i64, m: &Memory) -> Result<Target, Halt>
-    ensures { Shows target_in result (memory_of m.now) (element_in at (place_in place) i (memory_of m.now)) }
+pub(crate) fn element_in(at: u32, location: Location, i: i64, m: &Memory) -> Result<Target, Halt>
+    ensures { Shows target_in result (memory_of m.now) (element_in at (location_in location) i (memory_of m.now)) }
 {
-    match place {
-        Place::OwnArray(n) => match spot_if(&m.own, i, n) {
+    match location {
+        Location::OwnArray(n) => match spot_if(&m.own, i, n) {
             Some(spot) => Ok(Target::Own(spot)),
             None => Err(Halt::Stop(Stop::Index(at))),
         },
-        Place::SharedArray(n) => match spot_if(&m.shared, i, n) {
+        Location::SharedArray(n) => match spot_if(&m.shared, i, n) {
             Some(spot) => Ok(Target::Shared(spot)),
             None => Err(Halt::Stop(Stop::Index(at))),
         },
-        Place::Own(_) => Err(Halt::Stop(Stop::Form(at))),
-        Place::Shared(_) => Err(Halt::Stop(Stop::Form(at))),
-        Place::Nowhere => Err(Halt::Stop(Stop::Form(at))),
+        Location::Own(_) => Err(Halt::Stop(Stop::Form(at))),
+        Location::Shared(_) => Err(Halt::Stop(Stop::Form(at))),
+        Location::Nowhere => Err(Halt::Stop(Stop::Form(at))),
     }
 }
 
 /// Whether an undeclared name has no value.
-fn is_undeclared(scope: &Scope, name: &[u8], place: Place) -> bool
-    ensures { result ≡ is_undeclared (scope_of scope.now) name.now (place_in place) }
+fn is_undeclared(scope: &Scope, name: &[u8], location: Location) -> bool
+    ensures { result ≡ is_undeclared (scope_of scope.now) name.now (location_in location) }
 {
-    match place {
-        Place::Nowhere => scope.given(name).is_none(),
-        Place::Own(_) => false,
-        Place::OwnArray(_) => false,
-        Place::Shared(_) => false,
-        Place::SharedArray(_) => false,
+    match location {
+        Location::Nowhere => scope.given(name).is_none(),
+        Location::Own(_) => false,
+        Location::OwnArray(_) => false,
+        Location::Shared(_) => false,
+        Location::SharedArray(_) => false,
     }
 }
 
 /// Whether a name alone is passed as its span: an array, or a name that nothing declares and for which no value is handed in.
 fn is_bare(scope: &Scope, name: &[u8]) -> bool
-    ensures { result ≡ (is_array (place_of (scope_of scope.now) name.now) || is_undeclared (scope_of scope.now) name.now (place_of (scope_of scope.now) name.now)) }
+    ensures { result ≡ (is_array (location_of (scope_of scope.now) name.now) || is_undeclared (scope_of scope.now) name.now (location_of (scope_of scope.now) name.now)) }
 {
-    let place = scope.place(name);
-    is_array(place) || is_undeclared(scope, name, place)
+    let location = scope.location(name);
+    is_array(location) || is_undeclared(scope, name, location)
 }
 
 /// Whether an argument is passed as its span.

@@ -1,14 +1,14 @@
--- A token that is all of what a rule reads, by the word behind it.
+-- A token that is all of what a rule reads, by the terminal behind it.
 use Rattle.std.proofs.Common.{◌≡◌, ℕ, zero, suc, ◌≤◌, Bool, true, false, cond, Option, Some, None, is_some, List, [], ◌∷◌, length, get_or, Ok, refl, ap, ◌∙◌, arith}
 use Rattle.std.proofs.lemmas.Bool.{ltb-true, false≢true}
 use Rattle.cw_syntax.specs.declared.program.Op.{Op}
 use Rattle.cw_syntax.specs.declared.program.Op.TheVariants as op
-use Rattle.cw_grammar.specs.declared.words.Lexeme.{Lexeme}
-use Rattle.cw_grammar.specs.declared.words.Word.{Word}
-use Rattle.cw_grammar.specs.declared.words.Word.TheVariants as w
+use Rattle.cw_grammar.specs.declared.terminals.Lexeme.{Lexeme}
+use Rattle.cw_grammar.specs.declared.terminals.Terminal.{Terminal}
+use Rattle.cw_grammar.specs.declared.terminals.Terminal.TheVariants as w
 use Rattle.cw_grammar.specs.declared.rules.Rule.{Rule}
 use Rattle.cw_grammar.specs.declared.rules.Rule.TheVariants.{Expression, Level, Unary, Postfix}
-use Rattle.cw_grammar.specs.Words.{same}
+use Rattle.cw_grammar.specs.Terminals.{same}
 use Rattle.cw_grammar.specs.Operators as operators
 use Rattle.cw_grammar.specs.Lexemes.{Is}
 use Rattle.cw_grammar.specs.Expressions.{loosest}
@@ -20,14 +20,14 @@ use Rattle.cw_expressions.specs.Reading.{joined, chain, named, assigned, express
 use Rattle.cw_expressions.proofs.Repeat.{repeat_ends}
 use Rattle.cw_expressions.proofs.Follows.{Stops, StopsAt, stops_zero, stops_all, stops_below, assign_stops, ends_binary, ends_alone, ended_at, no_suffix, unextended}
 
--- a word that is an operand by itself
-abbrev pub is_leaf : Word → Bool
+-- a terminal that is an operand by itself
+abbrev pub is_leaf : Terminal → Bool
 is_leaf w.Name = true
 is_leaf (w.Number value) = true
 is_leaf (w.Character value) = true
 is_leaf _ = false
 
-leaf_opens_not : (word : Word) → is_leaf word ≡ true → same word w.Open ≡ false
+leaf_opens_not : (terminal : Terminal) → is_leaf terminal ≡ true → same terminal w.Open ≡ false
 leaf_opens_not w.Name h = refl
 leaf_opens_not (w.Number value) h = refl
 leaf_opens_not (w.Character value) h = refl
@@ -35,27 +35,27 @@ leaf_opens_not _ h = absurd (false≢true h)
 
 -- ---- what is behind a token that is alone
 
-ended_stops : (l : ℕ) (u : Lexeme) (ts : List Lexeme) → ends u.word ≡ true → Stops l (u ∷ ts)
-ended_stops l u ts e = stops_all l u ts (ends_binary u.word e) (ends_alone u.word e)
+ended_stops : (l : ℕ) (u : Lexeme) (ts : List Lexeme) → ends u.terminal ≡ true → Stops l (u ∷ ts)
+ended_stops l u ts e = stops_all l u ts (ends_binary u.terminal e) (ends_alone u.terminal e)
 
-looser_stops : (l : ℕ) (u : Lexeme) (ts : List Lexeme) (x : Option (ℕ × ℕ)) → operators.binary u.word ≡ x → is_looser l x ≡ true → Stops l (u ∷ ts)
+looser_stops : (l : ℕ) (u : Lexeme) (ts : List Lexeme) (x : Option (ℕ × ℕ)) → operators.binary u.terminal ≡ x → is_looser l x ≡ true → Stops l (u ∷ ts)
 looser_stops l u ts None is h = absurd (false≢true h)
 looser_stops l u ts (Some (number, zero)) is h = let lt = ltb-true l 0 h in absurd (omega arith)
 looser_stops l u ts (Some (number, suc found)) is h = let lt = ltb-true l (suc found) h in stops_below found l u ts number is (omega arith)
 
-assign_stops_by : (l : ℕ) (u : Lexeme) (ts : List Lexeme) (x : Option ℕ) → operators.assign u.word ≡ x → is_some x ≡ true → Stops l (u ∷ ts)
+assign_stops_by : (l : ℕ) (u : Lexeme) (ts : List Lexeme) (x : Option ℕ) → operators.assign u.terminal ≡ x → is_some x ≡ true → Stops l (u ∷ ts)
 assign_stops_by l u ts None is h = absurd (false≢true h)
 assign_stops_by l u ts (Some number) is h = assign_stops l u ts number is
 
-level_stops : (l : ℕ) (u : Lexeme) (ts : List Lexeme) (b : Bool) → ends u.word ≡ b → (c : Bool) → is_some (operators.assign u.word) ≡ c
-    → cond b true (cond c true (is_looser l (operators.binary u.word))) ≡ true → Stops l (u ∷ ts)
+level_stops : (l : ℕ) (u : Lexeme) (ts : List Lexeme) (b : Bool) → ends u.terminal ≡ b → (c : Bool) → is_some (operators.assign u.terminal) ≡ c
+    → cond b true (cond c true (is_looser l (operators.binary u.terminal))) ≡ true → Stops l (u ∷ ts)
 level_stops l u ts true e c f h = ended_stops l u ts e
-level_stops l u ts false e true f h = assign_stops_by l u ts (operators.assign u.word) refl f
-level_stops l u ts false e false f h = looser_stops l u ts (operators.binary u.word) refl h
+level_stops l u ts false e true f h = assign_stops_by l u ts (operators.assign u.terminal) refl f
+level_stops l u ts false e false f h = looser_stops l u ts (operators.binary u.terminal) refl h
 
-behind_stops : (rule : Rule) (u : Lexeme) (ts : List Lexeme) → is_behind rule u.word ≡ true → StopsAt rule (u ∷ ts)
+behind_stops : (rule : Rule) (u : Lexeme) (ts : List Lexeme) → is_behind rule u.terminal ≡ true → StopsAt rule (u ∷ ts)
 behind_stops Expression u ts h = ended_at u ts h
-behind_stops (Level l) u ts h = level_stops l u ts (ends u.word) refl (is_some (operators.assign u.word)) refl h
+behind_stops (Level l) u ts h = level_stops l u ts (ends u.terminal) refl (is_some (operators.assign u.terminal)) refl h
 behind_stops Unary u ts h = ended_stops 0 u ts h
 behind_stops Postfix u ts h = ended_stops 0 u ts h
 
@@ -81,30 +81,30 @@ module _ (read : Rule → List Lexeme → Read) (n : ℕ) (t : Lexeme) (us : Lis
   unfolding primary
   character_alone value is = rw is refl
 
-  no_cast : is_leaf t.word ≡ true → begins_cast (t ∷ us) ≡ false
+  no_cast : is_leaf t.terminal ≡ true → begins_cast (t ∷ us) ≡ false
   no_cast leaf = by_rest us where
     by_rest : (vs : List Lexeme) → begins_cast (t ∷ vs) ≡ false
     by_rest [] = refl
-    by_rest (v ∷ vs) = rw (leaf_opens_not t.word leaf) refl
+    by_rest (v ∷ vs) = rw (leaf_opens_not t.terminal leaf) refl
 
-  module _ (o : Op) (leaf : is_leaf t.word ≡ true) (is : primary read n (t ∷ us) ≡ Ok (alone o)) where
+  module _ (o : Op) (leaf : is_leaf t.terminal ≡ true) (is : primary read n (t ∷ us) ≡ Ok (alone o)) where
     postfix_alone : Stops 0 us → postfix read n (t ∷ us) ≡ Ok (alone o)
     unfolding postfix
     postfix_alone stops = rw is (repeat_ends rest_of is_suffixed (suffixed read n) (length us) (alone o) (no_suffix us stops))
 
     unary_alone : Stops 0 us → unary read n (t ∷ us) ≡ Ok (alone o)
     unfolding unary
-    unary_alone stops = by_word t.word leaf where
-      by_word : (word : Word) → is_leaf word ≡ true → elim (operators.sign word) as
+    unary_alone stops = by_terminal t.terminal leaf where
+      by_terminal : (terminal : Terminal) → is_leaf terminal ≡ true → elim (operators.sign terminal) as
           (λ z. Read) [
             | Some number ↦ prefixed read n number (Level 0) t us
-            | None ↦ elim (operators.step word) as
-                (λ z. Read) [ Some number ↦ prefixed read n number Unary t us | None ↦ cond (same word w.SizeOf) (size_of read n t us) (postfix read n (t ∷ us)) ]
+            | None ↦ elim (operators.step terminal) as
+                (λ z. Read) [ Some number ↦ prefixed read n number Unary t us | None ↦ cond (same terminal w.SizeOf) (size_of read n t us) (postfix read n (t ∷ us)) ]
           ] ≡ Ok (alone o)
-      by_word w.Name h = postfix_alone stops
-      by_word (w.Number value) h = postfix_alone stops
-      by_word (w.Character value) h = postfix_alone stops
-      by_word _ h = absurd (false≢true h)
+      by_terminal w.Name h = postfix_alone stops
+      by_terminal (w.Number value) h = postfix_alone stops
+      by_terminal (w.Character value) h = postfix_alone stops
+      by_terminal _ h = absurd (false≢true h)
 
     chain_alone : (level : ℕ) → Stops level us → chain read n level (t ∷ us) ≡ Ok (alone o)
     unfolding chain operand
@@ -130,10 +130,10 @@ module _ (read : Rule → List Lexeme → Read) (n : ℕ) (t : Lexeme) (us : Lis
 
 -- the first token, where there is one
 abbrev none : Lexeme
-none = record { word = w.Extern; from = 0; to = 0 }
+none = record { terminal = w.Extern; from = 0; to = 0 }
 
 module _ (read : Rule → List Lexeme → Read) (n : ℕ) (rule : Rule) where
-  pub name_next : (ts : List Lexeme) → 2 ≤ length ts → is_behind rule (get_or ts 1 none).word ≡ true → Is w.Name (get_or ts 0 none)
+  pub name_next : (ts : List Lexeme) → 2 ≤ length ts → is_behind rule (get_or ts 1 none).terminal ≡ true → Is w.Name (get_or ts 0 none)
       → by_rule read n rule ts ≡ Ok (built op.Name [] true 1 (get_or ts 0 none).from (get_or ts 0 none).to (after ts))
   name_next [] some ended is = absurd (omega arith)
   name_next (t ∷ []) some ended is = absurd (omega arith)
@@ -141,13 +141,13 @@ module _ (read : Rule → List Lexeme → Read) (n : ℕ) (rule : Rule) where
       let stops = behind_stops rule u ts ended in
       rule_alone read n t (u ∷ ts) op.Name (ap is_leaf is) (name_alone read n t (u ∷ ts) is (stops_alone rule (u ∷ ts) stops)) rule stops
 
-  pub number_next : (ts : List Lexeme) → 2 ≤ length ts → is_behind rule (get_or ts 1 none).word ≡ true → (value : ℕ) → Is (w.Number value) (get_or ts 0 none)
+  pub number_next : (ts : List Lexeme) → 2 ≤ length ts → is_behind rule (get_or ts 1 none).terminal ≡ true → (value : ℕ) → Is (w.Number value) (get_or ts 0 none)
       → by_rule read n rule ts ≡ Ok (built (op.Number value) [] true 1 (get_or ts 0 none).from (get_or ts 0 none).to (after ts))
   number_next [] some ended value is = absurd (omega arith)
   number_next (t ∷ []) some ended value is = absurd (omega arith)
   number_next (t ∷ u ∷ ts) some ended value is = rule_alone read n t (u ∷ ts) (op.Number value) (ap is_leaf is) (number_alone read n t (u ∷ ts) value is) rule (behind_stops rule u ts ended)
 
-  pub character_next : (ts : List Lexeme) → 2 ≤ length ts → is_behind rule (get_or ts 1 none).word ≡ true → (value : ℕ) → Is (w.Character value) (get_or ts 0 none)
+  pub character_next : (ts : List Lexeme) → 2 ≤ length ts → is_behind rule (get_or ts 1 none).terminal ≡ true → (value : ℕ) → Is (w.Character value) (get_or ts 0 none)
       → by_rule read n rule ts ≡ Ok (built (op.Char value) [] true 1 (get_or ts 0 none).from (get_or ts 0 none).to (after ts))
   character_next [] some ended value is = absurd (omega arith)
   character_next (t ∷ []) some ended value is = absurd (omega arith)

@@ -1,6 +1,6 @@
 -- Reading on from a level to looser ones.
 use Rattle.std.proofs.Common.{◌≡◌, ℕ, zero, suc, ◌+◌, ◌-◌, ◌<◌, ◌≤◌, false, List, length, Ok, Err, refl, sym, ap, ◌∙◌, arith}
-use Rattle.cw_grammar.specs.declared.words.Lexeme.{Lexeme}
+use Rattle.cw_grammar.specs.declared.terminals.Lexeme.{Lexeme}
 use Rattle.cw_grammar.specs.declared.rules.Rule.{Rule}
 use Rattle.cw_expressions.specs.declared.refusal.Refusal.{Refusal}
 use Rattle.cw_expressions.specs.declared.refusal.Refusal.TheVariants as refusal

@@ -6,12 +6,12 @@ use Rattle.cw_syntax.specs.declared.program.CType.{CType}
 use Rattle.cw_syntax.specs.declared.program.Op.{Op}
 use Rattle.cw_syntax.specs.declared.program.Op.TheVariants as op
 use Rattle.cw_syntax.specs.Trees.{Tree}
-use Rattle.cw_grammar.specs.declared.words.Lexeme.{Lexeme}
-use Rattle.cw_grammar.specs.declared.words.Word.{Word}
-use Rattle.cw_grammar.specs.declared.words.Word.TheVariants as w
+use Rattle.cw_grammar.specs.declared.terminals.Lexeme.{Lexeme}
+use Rattle.cw_grammar.specs.declared.terminals.Terminal.{Terminal}
+use Rattle.cw_grammar.specs.declared.terminals.Terminal.TheVariants as w
 use Rattle.cw_grammar.specs.declared.rules.Rule.{Rule}
 use Rattle.cw_grammar.specs.declared.rules.Rule.TheVariants.{Expression, Level, Unary, Postfix}
-use Rattle.cw_grammar.specs.Words.{same}
+use Rattle.cw_grammar.specs.Terminals.{same}
 use Rattle.cw_grammar.specs.Operators as operators
 use Rattle.cw_grammar.specs.Lexemes.{Is, from_of, to_of, IsBetween}
 use Rattle.cw_grammar.specs.Types.{IsTypeName}
@@ -27,14 +27,14 @@ use Rattle.cw_expressions.proofs.Again.{state, Again, wants_unary, unwanted, bui
 use Rattle.cw_expressions.proofs.PrimaryComplete.{EndsPrimary, ends_primary, step_sign, binary_here, primary_again}
 
 -- a suffix follows neither a name's parenthesis nor a string
-suffix_ends : (t : Lexeme) (ts : List Lexeme) (number : ℕ) → operators.suffix t.word ≡ Some number → EndsPrimary (t ∷ ts)
+suffix_ends : (t : Lexeme) (ts : List Lexeme) (number : ℕ) → operators.suffix t.terminal ≡ Some number → EndsPrimary (t ∷ ts)
 suffix_ends t ts number is = (
-  differs (λ word. is_some (operators.suffix word)) t.word w.Open refl (rw is refl) refl,
-  differs (λ word. is_some (operators.suffix word)) t.word w.Text refl (rw is refl) refl,
+  differs (λ terminal. is_some (operators.suffix terminal)) t.terminal w.Open refl (rw is refl) refl,
+  differs (λ terminal. is_some (operators.suffix terminal)) t.terminal w.Text refl (rw is refl) refl,
 )
 
-no_bracket : (t : Lexeme) (number : ℕ) → operators.suffix t.word ≡ Some number → same t.word w.OpenBracket ≡ false
-no_bracket t number is = differs (λ word. is_some (operators.suffix word)) t.word w.OpenBracket refl (rw is refl) refl
+no_bracket : (t : Lexeme) (number : ℕ) → operators.suffix t.terminal ≡ Some number → same t.terminal w.OpenBracket ≡ false
+no_bracket t number is = differs (λ terminal. is_some (operators.suffix terminal)) t.terminal w.OpenBracket refl (rw is refl) refl
 
 module _ (n : ℕ) (read : Rule → List Lexeme → Read) (again : (m : ℕ) (rule : Rule) (ts : List Lexeme) (e : Tree) (rest : List Lexeme) → IsDerived m rule ts e → StopsAt rule rest
     → Again n m (wants_unary rule) (read rule (ts ++ rest)) ts e rest) where
@@ -71,13 +71,13 @@ module _ (n : ℕ) (read : Rule → List Lexeme → Read) (again : (m : ℕ) (ru
               ∙ rw (h.is, expect_again w.CloseBracket c rest closes, test) (built_is op.Index (x ∷ y ∷ []) true (max d h.depth + 1) (from_of a) c.to ts rest e begin ends same);
         })
 
-  suffix_reads : (x : Tree) (flag : Bool) (d : ℕ) (a : List Lexeme) (t : Lexeme) (rest : List Lexeme) (number : ℕ) → operators.suffix t.word ≡ Some number
+  suffix_reads : (x : Tree) (flag : Bool) (d : ℕ) (a : List Lexeme) (t : Lexeme) (rest : List Lexeme) (number : ℕ) → operators.suffix t.terminal ≡ Some number
       → suffixed read n (state x flag d a (t ∷ rest)) ≡ above n d (built (op.Suffix number) (x ∷ []) true (d + 1) (from_of a) t.to rest)
   unfolding suffixed
   suffix_reads x flag d a t rest number is = rw (no_bracket t number is, is) refl
 
   suffix_again : (m d : ℕ) (flag : Bool) (a : List Lexeme) (t : Lexeme) (rest : List Lexeme) (number : ℕ) (x : Tree) (ts : List Lexeme) (e : Tree) → ts ≡ a ++ t ∷ [] → 0 < length a
-      → d ≤ m → operators.suffix t.word ≡ Some number → e ≡ node (op.Suffix number) (x ∷ []) ts
+      → d ≤ m → operators.suffix t.terminal ≡ Some number → e ≡ node (op.Suffix number) (x ∷ []) ts
       → Again (suc n) (suc m) true (suffixed read n (state x flag d a (t ∷ rest))) ts e rest
   suffix_again m d flag a t rest number x ts e parts some le is same = by_test (ltb n d) refl where
     by_test : (deep : Bool) → ltb n d ≡ deep → Again (suc n) (suc m) true (suffixed read n (state x flag d a (t ∷ rest))) ts e rest
@@ -142,13 +142,13 @@ module _ (n : ℕ) (read : Rule → List Lexeme → Read) (again : (m : ℕ) (ru
   unfolding prefixed
   prefixed_is number rule t ts = refl
 
-  signed_is : (t : Lexeme) (ts : List Lexeme) (number : ℕ) → operators.sign t.word ≡ Some number → unary read n (t ∷ ts) ≡ prefixed read n number (Level 0) t ts
+  signed_is : (t : Lexeme) (ts : List Lexeme) (number : ℕ) → operators.sign t.terminal ≡ Some number → unary read n (t ∷ ts) ≡ prefixed read n number (Level 0) t ts
   unfolding unary
   signed_is t ts number is = rw (is, unary) refl
 
-  stepped_is : (t : Lexeme) (ts : List Lexeme) (number : ℕ) → operators.step t.word ≡ Some number → unary read n (t ∷ ts) ≡ prefixed read n number Unary t ts
+  stepped_is : (t : Lexeme) (ts : List Lexeme) (number : ℕ) → operators.step t.terminal ≡ Some number → unary read n (t ∷ ts) ≡ prefixed read n number Unary t ts
   unfolding unary
-  stepped_is t ts number is = rw (step_sign t.word number is, is, unary) refl
+  stepped_is t ts number is = rw (step_sign t.terminal number is, is, unary) refl
 
   size_of_is : (t : Lexeme) (ts : List Lexeme) → Is w.SizeOf t → unary read n (t ∷ ts) ≡ size_of read n t ts
   unfolding unary
@@ -166,19 +166,19 @@ module _ (n : ℕ) (read : Rule → List Lexeme → Read) (again : (m : ℕ) (ru
   postfix_is : (ts : List Lexeme) → Starts starts_primary ts → unary read n ts ≡ postfix read n ts
   unfolding unary
   postfix_is [] h = absurd h
-  postfix_is (t ∷ ts) h = by_word t.word h where
-    by_word : (word : Word) → starts_primary word ≡ true → elim (operators.sign word) as
+  postfix_is (t ∷ ts) h = by_terminal t.terminal h where
+    by_terminal : (terminal : Terminal) → starts_primary terminal ≡ true → elim (operators.sign terminal) as
         (λ z. Read) [
           | Some number ↦ prefixed read n number (Level 0) t ts
-          | None ↦ elim (operators.step word) as
-              (λ z. Read) [ Some number ↦ prefixed read n number Unary t ts | None ↦ cond (same word w.SizeOf) (size_of read n t ts) (postfix read n (t ∷ ts)) ]
+          | None ↦ elim (operators.step terminal) as
+              (λ z. Read) [ Some number ↦ prefixed read n number Unary t ts | None ↦ cond (same terminal w.SizeOf) (size_of read n t ts) (postfix read n (t ∷ ts)) ]
         ] ≡ postfix read n (t ∷ ts)
-    by_word w.Name h = refl
-    by_word (w.Number value) h = refl
-    by_word (w.Character value) h = refl
-    by_word w.Text h = refl
-    by_word w.Open h = refl
-    by_word _ h = absurd (false≢true h)
+    by_terminal w.Name h = refl
+    by_terminal (w.Number value) h = refl
+    by_terminal (w.Character value) h = refl
+    by_terminal w.Text h = refl
+    by_terminal w.Open h = refl
+    by_terminal _ h = absurd (false≢true h)
 
   -- a token before one part
   before_again : (m : ℕ) (o : Op) (rule : Rule) (t : Lexeme) (b : List Lexeme) (x : Tree) (ts : List Lexeme) (e : Tree) (rest : List Lexeme) → ts ≡ t ∷ b → IsDerived m rule b x
@@ -248,7 +248,7 @@ module _ (n : ℕ) (read : Rule → List Lexeme → Read) (again : (m : ℕ) (ru
   unfolding chain
   level_starts_loop l m wanted ts e rest h = loop_starts (suc n) wanted (goes_on_at (suc l)) (joined read n l) m (chain read n l (ts ++ rest)) ts e rest h
 
-  joined_reads : (l : ℕ) (x : Tree) (flag : Bool) (d : ℕ) (a : List Lexeme) (t : Lexeme) (ts : List Lexeme) (number : ℕ) → operators.binary t.word ≡ Some (number, suc l)
+  joined_reads : (l : ℕ) (x : Tree) (flag : Bool) (d : ℕ) (a : List Lexeme) (t : Lexeme) (ts : List Lexeme) (number : ℕ) → operators.binary t.terminal ≡ Some (number, suc l)
       → joined read n l (state x flag d a (t ∷ ts)) ≡ (read (Level l) ts >>= λ y. above n (max d y.depth)
       (built (op.Binary number) (x ∷ y.tree ∷ []) false (max d y.depth + 1) (from_of a) y.to y.rest))
   unfolding joined
@@ -309,12 +309,12 @@ module _ (n : ℕ) (read : Rule → List Lexeme → Read) (again : (m : ℕ) (ru
   unfolding assigned
   assigned_is number x flag d a t b = refl
 
-  behind_target : (number : ℕ) (x : Tree) (flag : Bool) (d : ℕ) (a : List Lexeme) (t : Lexeme) (b : List Lexeme) → operators.assign t.word ≡ Some number → flag ≡ true
+  behind_target : (number : ℕ) (x : Tree) (flag : Bool) (d : ℕ) (a : List Lexeme) (t : Lexeme) (b : List Lexeme) → operators.assign t.terminal ≡ Some number → flag ≡ true
       → behind (state x flag d a (t ∷ b)) ≡ assigned read n number (state x flag d a (t ∷ b))
   behind_target number x flag d a t b next unary_is = rw (next, behind, unary_is) refl
 
   assigned_reads : (ts a : List Lexeme) (x : Tree) (d : ℕ) (flag : Bool) (t : Lexeme) (b : List Lexeme) (number : ℕ) → chain read n loosest ts ≡ Ok (state x flag d a (t ∷ b))
-      → flag ≡ true → operators.assign t.word ≡ Some number
+      → flag ≡ true → operators.assign t.terminal ≡ Some number
       → expression read n ts ≡ (read Expression b >>= λ y. above n (max d y.depth) (built (op.Assign number) (x ∷ y.tree ∷ []) false (max d y.depth + 1) (from_of a) y.to y.rest))
   assigned_reads ts a x d flag t b number is unary_is next = target_reads ts (state x flag d a (t ∷ b)) is ∙ behind_target number x flag d a t b next unary_is ∙ assigned_is number x flag d a t b
 

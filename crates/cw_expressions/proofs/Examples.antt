@@ -4,17 +4,17 @@ use Rattle.cw_syntax.specs.declared.program.CType.{CType}
 use Rattle.cw_syntax.specs.declared.program.Base.TheVariants as base
 use Rattle.cw_syntax.specs.declared.program.Op.TheVariants as op
 use Rattle.cw_syntax.specs.Trees.{Tree, Trees, Node, none, more}
-use Rattle.cw_grammar.specs.declared.words.Word.{Word}
-use Rattle.cw_grammar.specs.declared.words.Word.TheVariants as w
-use Rattle.cw_grammar.specs.declared.words.Lexeme.{Lexeme}
+use Rattle.cw_grammar.specs.declared.terminals.Terminal.{Terminal}
+use Rattle.cw_grammar.specs.declared.terminals.Terminal.TheVariants as w
+use Rattle.cw_grammar.specs.declared.terminals.Lexeme.{Lexeme}
 use Rattle.cw_grammar.specs.declared.rules.Rule.TheVariants.{Expression}
 use Rattle.cw_grammar.specs.Expressions.{loosest}
 use Rattle.cw_expressions.specs.Cursor.{expect, repeat}
 use Rattle.cw_expressions.specs.TypeReading.{unsigned_base, base_of, stars_of, type_name, type_between}
 use Rattle.cw_expressions.specs.Reading.{Got, argument, arguments, named, between, primary, suffixed, postfix, size_of, prefixed, unary, cast, operand, joined, chain, assigned, expression, read_at}
 
-at : Word → ℕ → ℕ → Lexeme
-at word from to = record { word = word; from = from; to = to }
+at : Terminal → ℕ → ℕ → Lexeme
+at terminal from to = record { terminal = terminal; from = from; to = to }
 
 name : ℕ → Tree
 name from = Node op.Name none from (from + 1)

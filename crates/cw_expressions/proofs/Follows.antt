@@ -3,16 +3,16 @@ use Rattle.std.proofs.Common.{◌≡◌, ℕ, zero, suc, ◌<◌, ◌≤◌, Boo
 use Rattle.std.proofs.Common.{append_assoc, arith, inl, inr}
 use Rattle.std.proofs.lemmas.Bool.{false≢true, eqb-true}
 use Rattle.cw_syntax.specs.Trees.{Tree}
-use Rattle.cw_grammar.specs.declared.words.Lexeme.{Lexeme}
-use Rattle.cw_grammar.specs.declared.words.Word.{Word}
-use Rattle.cw_grammar.specs.declared.words.Word.TheVariants as w
+use Rattle.cw_grammar.specs.declared.terminals.Lexeme.{Lexeme}
+use Rattle.cw_grammar.specs.declared.terminals.Terminal.{Terminal}
+use Rattle.cw_grammar.specs.declared.terminals.Terminal.TheVariants as w
 use Rattle.cw_grammar.specs.declared.rules.Rule.{Rule}
 use Rattle.cw_grammar.specs.declared.rules.Rule.TheVariants.{Expression, Level, Unary, Postfix}
-use Rattle.cw_grammar.specs.Words.{same}
+use Rattle.cw_grammar.specs.Terminals.{same}
 use Rattle.cw_grammar.specs.Operators as operators
 use Rattle.cw_grammar.specs.Lexemes.{Is}
 use Rattle.cw_grammar.specs.Expressions.{AreStrings, IsPrimary, IsUnary, IsLevel, IsDerived, loosest}
-use Rattle.cw_grammar.proofs.SameWord.{is_plain, same-true}
+use Rattle.cw_grammar.proofs.SameTerminal.{is_plain, same-true}
 use Rattle.cw_expressions.specs.Cursor.{begins}
 use Rattle.cw_expressions.specs.TypeReading.{starts_type}
 use Rattle.cw_expressions.specs.Next.{ends}
@@ -20,13 +20,13 @@ use Rattle.cw_expressions.specs.Reading.{begins_cast, next_of, goes_on_at, is_su
 use Rattle.cw_lemmas.proofs.Truths.{and_false}
 use Rattle.std.proofs.lemmas.Bool.{false_from_ne_true as is_false}
 
--- a word that a test takes isn't one that it refuses
-pub differs : (f : Word → Bool) (a b : Word) → is_plain b ≡ true → f a ≡ true → f b ≡ false → same a b ≡ false
+-- a terminal that a test takes isn't one that it refuses
+pub differs : (f : Terminal → Bool) (a b : Terminal) → is_plain b ≡ true → f a ≡ true → f b ≡ false → same a b ≡ false
 differs f a b plain yes_a no_b = is_false (same a b) (λ e. false≢true (sym no_b ∙ (ap f (sym (same-true a b plain e)) ∙ yes_a)))
 
 -- ---- what begins an expression
 
-abbrev pub starts_primary : Word → Bool
+abbrev pub starts_primary : Terminal → Bool
 starts_primary w.Name = true
 starts_primary (w.Number value) = true
 starts_primary (w.Character value) = true
@@ -34,7 +34,7 @@ starts_primary w.Text = true
 starts_primary w.Open = true
 starts_primary _ = false
 
-abbrev pub starts_expression : Word → Bool
+abbrev pub starts_expression : Terminal → Bool
 starts_expression w.Name = true
 starts_expression (w.Number value) = true
 starts_expression (w.Character value) = true
@@ -51,26 +51,26 @@ starts_expression w.MinusMinus = true
 starts_expression w.SizeOf = true
 starts_expression _ = false
 
-abbrev pub Starts : (Word → Bool) → List Lexeme → Type 0
+abbrev pub Starts : (Terminal → Bool) → List Lexeme → Type 0
 Starts f [] = ⊥
-Starts f (t ∷ ts) = f t.word ≡ true
+Starts f (t ∷ ts) = f t.terminal ≡ true
 
-pub starts_some : (f : Word → Bool) (ts : List Lexeme) → Starts f ts → 0 < length ts
+pub starts_some : (f : Terminal → Bool) (ts : List Lexeme) → Starts f ts → 0 < length ts
 starts_some f [] h = absurd h
 starts_some f (t ∷ ts) h = omega arith
 
-pub starts_append : (f : Word → Bool) (a b : List Lexeme) → Starts f a → Starts f (a ++ b)
+pub starts_append : (f : Terminal → Bool) (a b : List Lexeme) → Starts f a → Starts f (a ++ b)
 starts_append f [] b h = absurd h
 starts_append f (t ∷ a) b h = h
 
-pub starts_never : (f : Word → Bool) (word : Word) → is_plain word ≡ true → f word ≡ false → (ts : List Lexeme) → Starts f ts → begins word ts ≡ false
-starts_never f word plain refused [] h = absurd h
-starts_never f word plain refused (t ∷ ts) h = differs f t.word word plain h refused
+pub starts_never : (f : Terminal → Bool) (terminal : Terminal) → is_plain terminal ≡ true → f terminal ≡ false → (ts : List Lexeme) → Starts f ts → begins terminal ts ≡ false
+starts_never f terminal plain refused [] h = absurd h
+starts_never f terminal plain refused (t ∷ ts) h = differs f t.terminal terminal plain h refused
 
-starts_with : (f : Word → Bool) (word : Word) (t : Lexeme) → Is word t → f word ≡ true → f t.word ≡ true
-starts_with f word t is e = ap f is ∙ e
+starts_with : (f : Terminal → Bool) (terminal : Terminal) (t : Lexeme) → Is terminal t → f terminal ≡ true → f t.terminal ≡ true
+starts_with f terminal t is e = ap f is ∙ e
 
-pub primary_expression : (word : Word) → starts_primary word ≡ true → starts_expression word ≡ true
+pub primary_expression : (terminal : Terminal) → starts_primary terminal ≡ true → starts_expression terminal ≡ true
 primary_expression w.Name h = refl
 primary_expression (w.Number value) h = refl
 primary_expression (w.Character value) h = refl
@@ -78,7 +78,7 @@ primary_expression w.Text h = refl
 primary_expression w.Open h = refl
 primary_expression _ h = absurd (false≢true h)
 
-sign_expression : (word : Word) (number : ℕ) → operators.sign word ≡ Some number → starts_expression word ≡ true
+sign_expression : (terminal : Terminal) (number : ℕ) → operators.sign terminal ≡ Some number → starts_expression terminal ≡ true
 sign_expression w.Plus number e = refl
 sign_expression w.Minus number e = refl
 sign_expression w.Exclamation number e = refl
@@ -87,12 +87,12 @@ sign_expression w.Star number e = refl
 sign_expression w.Ampersand number e = refl
 sign_expression _ number e = absurd (cc)
 
-step_expression : (word : Word) (number : ℕ) → operators.step word ≡ Some number → starts_expression word ≡ true
+step_expression : (terminal : Terminal) (number : ℕ) → operators.step terminal ≡ Some number → starts_expression terminal ≡ true
 step_expression w.PlusPlus number e = refl
 step_expression w.MinusMinus number e = refl
 step_expression _ number e = absurd (cc)
 
-pub no_type : (word : Word) → starts_expression word ≡ true → starts_type word ≡ false
+pub no_type : (terminal : Terminal) → starts_expression terminal ≡ true → starts_type terminal ≡ false
 no_type w.Const h = absurd (false≢true h)
 no_type w.Void h = absurd (false≢true h)
 no_type w.Unsigned h = absurd (false≢true h)
@@ -119,19 +119,19 @@ postfix_starts (suc n) ts e (inr (inr h)) = rw h.4 (starts_append starts_primary
 
 starts_wider : (ts : List Lexeme) → Starts starts_primary ts → Starts starts_expression ts
 starts_wider [] h = absurd h
-starts_wider (t ∷ ts) h = primary_expression t.word h
+starts_wider (t ∷ ts) h = primary_expression t.terminal h
 
 unary_starts : (n : ℕ) (ts : List Lexeme) (e : Tree) → IsUnary (IsDerived n) ts e → Starts starts_expression ts
-unary_starts n ts e (inl h) = rw h.4 (sign_expression h.0.word h.2 h.5)
-unary_starts n ts e (inr (inl h)) = rw h.4 (step_expression h.0.word h.2 h.5)
+unary_starts n ts e (inl h) = rw h.4 (sign_expression h.0.terminal h.2 h.5)
+unary_starts n ts e (inr (inl h)) = rw h.4 (step_expression h.0.terminal h.2 h.5)
 unary_starts n ts e (inr (inr (inl h))) = rw h.3 (starts_with starts_expression w.SizeOf h.0 h.4 refl)
 unary_starts n ts e (inr (inr (inr (inl h)))) = rw h.3 (starts_with starts_expression w.SizeOf h.0 h.4 refl)
 unary_starts n ts e (inr (inr (inr (inr h)))) = starts_wider ts (postfix_starts (suc n) ts e h)
 
 -- ---- what follows an expression
 
--- a word that goes on behind a postfix, a name or a string
-abbrev pub extends : Word → Bool
+-- a terminal that goes on behind a postfix, a name or a string
+abbrev pub extends : Terminal → Bool
 extends w.Open = true
 extends w.OpenBracket = true
 extends w.PlusPlus = true
@@ -141,7 +141,7 @@ extends _ = false
 
 abbrev pub extended : List Lexeme → Bool
 extended [] = false
-extended (t ∷ ts) = extends t.word
+extended (t ∷ ts) = extends t.terminal
 
 -- nothing that goes on with what was read on this level is next
 abbrev pub Stops : ℕ → List Lexeme → Type 0
@@ -159,11 +159,11 @@ stops_zero zero rest h = h
 stops_zero (suc l) rest h = stops_zero l rest h.1
 
 -- neither a binary operator nor what goes on behind a postfix
-pub stops_all : (l : ℕ) (t : Lexeme) (ts : List Lexeme) → operators.binary t.word ≡ None → extends t.word ≡ false → Stops l (t ∷ ts)
+pub stops_all : (l : ℕ) (t : Lexeme) (ts : List Lexeme) → operators.binary t.terminal ≡ None → extends t.terminal ≡ false → Stops l (t ∷ ts)
 stops_all zero t ts b e = e
 stops_all (suc l) t ts b e = (rw b refl, stops_all l t ts b e)
 
-binary_alone : (word : Word) (x : ℕ × ℕ) → operators.binary word ≡ Some x → extends word ≡ false
+binary_alone : (terminal : Terminal) (x : ℕ × ℕ) → operators.binary terminal ≡ Some x → extends terminal ≡ false
 binary_alone w.Open x e = absurd (cc)
 binary_alone w.OpenBracket x e = absurd (cc)
 binary_alone w.PlusPlus x e = absurd (cc)
@@ -172,13 +172,13 @@ binary_alone w.Text x e = absurd (cc)
 binary_alone _ x e = refl
 
 -- an operator of a level stops those below
-pub stops_below : (l j : ℕ) (t : Lexeme) (ts : List Lexeme) (number : ℕ) → operators.binary t.word ≡ Some (number, suc l) → j ≤ l → Stops j (t ∷ ts)
-stops_below l zero t ts number is le = binary_alone t.word (number, suc l) is
+pub stops_below : (l j : ℕ) (t : Lexeme) (ts : List Lexeme) (number : ℕ) → operators.binary t.terminal ≡ Some (number, suc l) → j ≤ l → Stops j (t ∷ ts)
+stops_below l zero t ts number is le = binary_alone t.terminal (number, suc l) is
 stops_below l (suc j) t ts number is le =
     let other : eqb (suc l) (suc j) ≡ false = is_false (eqb (suc l) (suc j)) (λ e. let same_level : suc l ≡ suc j = eqb-true (suc l) (suc j) e in absurd (omega arith)) in
     (rw (is, other) refl, stops_below l j t ts number is (omega arith))
 
-assign_binary : (word : Word) (number : ℕ) → operators.assign word ≡ Some number → operators.binary word ≡ None
+assign_binary : (terminal : Terminal) (number : ℕ) → operators.assign terminal ≡ Some number → operators.binary terminal ≡ None
 assign_binary w.Assign number e = refl
 assign_binary w.AddAssign number e = refl
 assign_binary w.SubtractAssign number e = refl
@@ -192,7 +192,7 @@ assign_binary w.LeftShiftAssign number e = refl
 assign_binary w.RightShiftAssign number e = refl
 assign_binary _ number e = absurd (cc)
 
-assign_alone : (word : Word) (number : ℕ) → operators.assign word ≡ Some number → extends word ≡ false
+assign_alone : (terminal : Terminal) (number : ℕ) → operators.assign terminal ≡ Some number → extends terminal ≡ false
 assign_alone w.Open number e = absurd (cc)
 assign_alone w.OpenBracket number e = absurd (cc)
 assign_alone w.PlusPlus number e = absurd (cc)
@@ -200,10 +200,10 @@ assign_alone w.MinusMinus number e = absurd (cc)
 assign_alone w.Text number e = absurd (cc)
 assign_alone _ number e = refl
 
-pub assign_stops : (l : ℕ) (t : Lexeme) (ts : List Lexeme) (number : ℕ) → operators.assign t.word ≡ Some number → Stops l (t ∷ ts)
-assign_stops l t ts number is = stops_all l t ts (assign_binary t.word number is) (assign_alone t.word number is)
+pub assign_stops : (l : ℕ) (t : Lexeme) (ts : List Lexeme) (number : ℕ) → operators.assign t.terminal ≡ Some number → Stops l (t ∷ ts)
+assign_stops l t ts number is = stops_all l t ts (assign_binary t.terminal number is) (assign_alone t.terminal number is)
 
-pub ends_binary : (word : Word) → ends word ≡ true → operators.binary word ≡ None
+pub ends_binary : (terminal : Terminal) → ends terminal ≡ true → operators.binary terminal ≡ None
 ends_binary w.Close h = refl
 ends_binary w.CloseBracket h = refl
 ends_binary w.CloseBrace h = refl
@@ -211,7 +211,7 @@ ends_binary w.Comma h = refl
 ends_binary w.Semicolon h = refl
 ends_binary _ h = absurd (false≢true h)
 
-ends_assign : (word : Word) → ends word ≡ true → operators.assign word ≡ None
+ends_assign : (terminal : Terminal) → ends terminal ≡ true → operators.assign terminal ≡ None
 ends_assign w.Close h = refl
 ends_assign w.CloseBracket h = refl
 ends_assign w.CloseBrace h = refl
@@ -219,7 +219,7 @@ ends_assign w.Comma h = refl
 ends_assign w.Semicolon h = refl
 ends_assign _ h = absurd (false≢true h)
 
-pub ends_alone : (word : Word) → ends word ≡ true → extends word ≡ false
+pub ends_alone : (terminal : Terminal) → ends terminal ≡ true → extends terminal ≡ false
 ends_alone w.Close h = refl
 ends_alone w.CloseBracket h = refl
 ends_alone w.CloseBrace h = refl
@@ -227,11 +227,11 @@ ends_alone w.Comma h = refl
 ends_alone w.Semicolon h = refl
 ends_alone _ h = absurd (false≢true h)
 
-pub ended_at : (t : Lexeme) (ts : List Lexeme) → ends t.word ≡ true → StopsAt Expression (t ∷ ts)
-ended_at t ts e = (ends_assign t.word e, stops_all loosest t ts (ends_binary t.word e) (ends_alone t.word e))
+pub ended_at : (t : Lexeme) (ts : List Lexeme) → ends t.terminal ≡ true → StopsAt Expression (t ∷ ts)
+ended_at t ts e = (ends_assign t.terminal e, stops_all loosest t ts (ends_binary t.terminal e) (ends_alone t.terminal e))
 
-pub ended_by : (word : Word) (t : Lexeme) (ts : List Lexeme) → Is word t → ends word ≡ true → StopsAt Expression (t ∷ ts)
-ended_by word t ts is e = ended_at t ts (ap ends is ∙ e)
+pub ended_by : (terminal : Terminal) (t : Lexeme) (ts : List Lexeme) → Is terminal t → ends terminal ≡ true → StopsAt Expression (t ∷ ts)
+ended_by terminal t ts is e = ended_at t ts (ap ends is ∙ e)
 
 nothing_follows : (l : ℕ) → Stops l []
 nothing_follows zero = refl
@@ -243,18 +243,18 @@ ended_nothing = (refl, nothing_follows loosest)
 -- what doesn't go on has no suffix
 pub no_suffix : (rest : List Lexeme) → extended rest ≡ false → is_suffixed rest ≡ false
 no_suffix [] e = refl
-no_suffix (t ∷ ts) e = by_word t.word e where
-  by_word : (word : Word) → extends word ≡ false → cond (same word w.OpenBracket) true (is_some (operators.suffix word)) ≡ false
-  by_word w.Open f = absurd (false≢true (sym f))
-  by_word w.OpenBracket f = absurd (false≢true (sym f))
-  by_word w.PlusPlus f = absurd (false≢true (sym f))
-  by_word w.MinusMinus f = absurd (false≢true (sym f))
-  by_word w.Text f = absurd (false≢true (sym f))
-  by_word _ f = refl
+no_suffix (t ∷ ts) e = by_terminal t.terminal e where
+  by_terminal : (terminal : Terminal) → extends terminal ≡ false → cond (same terminal w.OpenBracket) true (is_some (operators.suffix terminal)) ≡ false
+  by_terminal w.Open f = absurd (false≢true (sym f))
+  by_terminal w.OpenBracket f = absurd (false≢true (sym f))
+  by_terminal w.PlusPlus f = absurd (false≢true (sym f))
+  by_terminal w.MinusMinus f = absurd (false≢true (sym f))
+  by_terminal w.Text f = absurd (false≢true (sym f))
+  by_terminal _ f = refl
 
-pub unextended : (word : Word) → is_plain word ≡ true → extends word ≡ true → (rest : List Lexeme) → extended rest ≡ false → begins word rest ≡ false
-unextended word plain yes_word [] e = refl
-unextended word plain yes_word (t ∷ ts) e = is_false (same t.word word) (λ s. false≢true (sym e ∙ ap extends (same-true t.word word plain s) ∙ yes_word))
+pub unextended : (terminal : Terminal) → is_plain terminal ≡ true → extends terminal ≡ true → (rest : List Lexeme) → extended rest ≡ false → begins terminal rest ≡ false
+unextended terminal plain yes_terminal [] e = refl
+unextended terminal plain yes_terminal (t ∷ ts) e = is_false (same t.terminal terminal) (λ s. false≢true (sym e ∙ ap extends (same-true t.terminal terminal plain s) ∙ yes_terminal))
 
 -- ---- first tokens
 
@@ -279,13 +279,13 @@ derived_some n rule ts e h = starts_some starts_expression ts (derived_starts n 
 
 -- ---- a unary doesn't begin as a cast does
 
-no_open : (o : Lexeme) (ts : List Lexeme) → same o.word w.Open ≡ false → begins_cast (o ∷ ts) ≡ false
+no_open : (o : Lexeme) (ts : List Lexeme) → same o.terminal w.Open ≡ false → begins_cast (o ∷ ts) ≡ false
 no_open o [] e = refl
 no_open o (t ∷ ts) e = rw e refl
 
 inner_first : (o : Lexeme) (ts rest : List Lexeme) → Starts starts_expression ts → begins_cast (o ∷ ts ++ rest) ≡ false
 inner_first o [] rest h = absurd h
-inner_first o (t ∷ ts) rest h = rw (no_type t.word h) (and_false (same o.word w.Open))
+inner_first o (t ∷ ts) rest h = rw (no_type t.terminal h) (and_false (same o.terminal w.Open))
 
 primary_no_cast : (n : ℕ) (ts : List Lexeme) (e : Tree) (rest : List Lexeme) → IsPrimary (IsDerived n) ts e → begins_cast (ts ++ rest) ≡ false
 primary_no_cast n ts e rest (inl h) = rw h.1 (no_open h.0 rest (rw h.2 refl))
@@ -307,8 +307,8 @@ postfix_no_cast (suc n) ts e rest (inr (inr h)) = rw (h.4, append_assoc h.0 (h.1
 
 pub unary_no_cast : (n : ℕ) (ts : List Lexeme) (e : Tree) (rest : List Lexeme) → IsDerived n Unary ts e → begins_cast (ts ++ rest) ≡ false
 unary_no_cast zero ts e rest h = absurd h
-unary_no_cast (suc n) ts e rest (inl h) = rw h.4 (no_open h.0 (h.1 ++ rest) (differs (λ word. is_some (operators.sign word)) h.0.word w.Open refl (rw h.5 refl) refl))
-unary_no_cast (suc n) ts e rest (inr (inl h)) = rw h.4 (no_open h.0 (h.1 ++ rest) (differs (λ word. is_some (operators.step word)) h.0.word w.Open refl (rw h.5 refl) refl))
+unary_no_cast (suc n) ts e rest (inl h) = rw h.4 (no_open h.0 (h.1 ++ rest) (differs (λ terminal. is_some (operators.sign terminal)) h.0.terminal w.Open refl (rw h.5 refl) refl))
+unary_no_cast (suc n) ts e rest (inr (inl h)) = rw h.4 (no_open h.0 (h.1 ++ rest) (differs (λ terminal. is_some (operators.step terminal)) h.0.terminal w.Open refl (rw h.5 refl) refl))
 unary_no_cast (suc n) ts e rest (inr (inr (inl h))) = rw h.3 (no_open h.0 (h.1 ++ rest) (rw h.4 refl))
 unary_no_cast (suc n) ts e rest (inr (inr (inr (inl h)))) = rw h.3 (no_open h.0 (h.1 ++ rest) (rw h.4 refl))
 unary_no_cast (suc n) ts e rest (inr (inr (inr (inr h)))) = postfix_no_cast (suc n) ts e rest h

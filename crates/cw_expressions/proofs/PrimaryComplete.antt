@@ -6,12 +6,12 @@ use Rattle.std.proofs.lemmas.Bool.{eq-eqb}
 use Rattle.cw_syntax.specs.declared.program.Op.{Op}
 use Rattle.cw_syntax.specs.declared.program.Op.TheVariants as op
 use Rattle.cw_syntax.specs.Trees.{Tree}
-use Rattle.cw_grammar.specs.declared.words.Lexeme.{Lexeme}
-use Rattle.cw_grammar.specs.declared.words.Word.{Word}
-use Rattle.cw_grammar.specs.declared.words.Word.TheVariants as w
+use Rattle.cw_grammar.specs.declared.terminals.Lexeme.{Lexeme}
+use Rattle.cw_grammar.specs.declared.terminals.Terminal.{Terminal}
+use Rattle.cw_grammar.specs.declared.terminals.Terminal.TheVariants as w
 use Rattle.cw_grammar.specs.declared.rules.Rule.{Rule}
 use Rattle.cw_grammar.specs.declared.rules.Rule.TheVariants.{Expression}
-use Rattle.cw_grammar.specs.Words.{same}
+use Rattle.cw_grammar.specs.Terminals.{same}
 use Rattle.cw_grammar.specs.Operators as operators
 use Rattle.cw_grammar.specs.Lexemes.{Is, name_of, from_of, to_of, AreSeparated}
 use Rattle.cw_grammar.specs.Expressions.{node, AreStrings, IsCall, IsPrimary, IsDerived}
@@ -38,12 +38,12 @@ strings_again t [] rest s e = by_rest rest e where
   by_rest (u ∷ ts) f = rw f refl
 strings_again t (u ∷ a) rest s e = rw s.1.0 (strings_again u a rest s.1 e)
 
-pub step_sign : (word : Word) (number : ℕ) → operators.step word ≡ Some number → operators.sign word ≡ None
+pub step_sign : (terminal : Terminal) (number : ℕ) → operators.step terminal ≡ Some number → operators.sign terminal ≡ None
 step_sign w.PlusPlus number e = refl
 step_sign w.MinusMinus number e = refl
 step_sign _ number e = absurd (cc)
 
-pub binary_here : (l : ℕ) (t : Lexeme) (ts : List Lexeme) (number : ℕ) → operators.binary t.word ≡ Some (number, l) → binary_at l (t ∷ ts) ≡ Some number
+pub binary_here : (l : ℕ) (t : Lexeme) (ts : List Lexeme) (number : ℕ) → operators.binary t.terminal ≡ Some (number, l) → binary_at l (t ∷ ts) ≡ Some number
 binary_here l t ts number is = rw (is, eq-eqb l l refl) refl
 
 -- arguments that were read

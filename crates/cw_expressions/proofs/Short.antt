@@ -2,8 +2,8 @@
 use Rattle.std.proofs.Common.{◌≡◌, ℕ, zero, suc, ◌-◌, ◌<◌, ◌≤◌, max, ltb, List, [], ◌∷◌, length, Ok, Err, refl, ap, arith, length-append}
 use Rattle.std.specs.Prelude.{IfOk}
 use Rattle.std.proofs.lemmas.Result.{IfOk-at_ok}
-use Rattle.cw_grammar.specs.declared.words.Lexeme.{Lexeme}
-use Rattle.cw_grammar.specs.declared.words.Word.TheVariants as w
+use Rattle.cw_grammar.specs.declared.terminals.Lexeme.{Lexeme}
+use Rattle.cw_grammar.specs.declared.terminals.Terminal.TheVariants as w
 use Rattle.cw_grammar.specs.declared.rules.Rule.{Rule}
 use Rattle.cw_grammar.specs.declared.rules.Rule.TheVariants.{Expression, Level}
 use Rattle.cw_grammar.specs.Operators as operators
@@ -44,7 +44,7 @@ module _ (read : Rule → List Lexeme → Read) (n : ℕ) (short : ReadShortens 
       if_cond (ltb n (max x.depth y.depth)) _ _ _ (λ e. tt) (λ e. omega (arith, s, after_shorter x.rest, ap length q.0)))))
       (λ go.
       if_bind (first x.rest) _ _ _ (first_takes x.rest) (λ t q.
-      if_bind (known (operators.suffix t.0.word)) _ _ _ (known_is (operators.suffix t.0.word)) (λ number is.
+      if_bind (known (operators.suffix t.0.terminal)) _ _ _ (known_is (operators.suffix t.0.terminal)) (λ number is.
       if_cond (ltb n x.depth) _ _ _ (λ e. tt) (λ e. omega (arith, ap length q)))))
 
   argument_shorter : (x : Arguments) → IfOk (argument read n x) (λ y. length y.rest < length x.rest)

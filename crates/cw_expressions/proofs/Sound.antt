@@ -7,16 +7,16 @@ use Rattle.std.proofs.lemmas.Result.{IfOk-weaker}
 use Rattle.cw_syntax.specs.declared.program.Op.{Op}
 use Rattle.cw_syntax.specs.declared.program.Op.TheVariants as op
 use Rattle.cw_syntax.specs.Trees.{Tree, Node}
-use Rattle.cw_grammar.specs.declared.words.Lexeme.{Lexeme}
-use Rattle.cw_grammar.specs.declared.words.Word.{Word}
-use Rattle.cw_grammar.specs.declared.words.Word.TheVariants as w
+use Rattle.cw_grammar.specs.declared.terminals.Lexeme.{Lexeme}
+use Rattle.cw_grammar.specs.declared.terminals.Terminal.{Terminal}
+use Rattle.cw_grammar.specs.declared.terminals.Terminal.TheVariants as w
 use Rattle.cw_grammar.specs.declared.rules.Rule.{Rule}
 use Rattle.cw_grammar.specs.declared.rules.Rule.TheVariants.{Expression, Level, Unary, Postfix}
-use Rattle.cw_grammar.specs.Words.{same}
+use Rattle.cw_grammar.specs.Terminals.{same}
 use Rattle.cw_grammar.specs.Operators as operators
 use Rattle.cw_grammar.specs.Lexemes.{Is, name_of, from_of, to_of, AreSeparated, trees}
 use Rattle.cw_grammar.specs.Expressions.{node, IsDerived, AreStrings, loosest}
-use Rattle.cw_grammar.proofs.SameWord.{same-true}
+use Rattle.cw_grammar.proofs.SameTerminal.{same-true}
 use Rattle.cw_expressions.specs.declared.refusal.Refusal.TheVariants as refusal
 use Rattle.cw_expressions.specs.Cursor.{begins, after, first, known, expect, repeat}
 use Rattle.cw_expressions.specs.TypeReading.{type_between}
@@ -61,19 +61,19 @@ separated_more P (x ∷ []) ts c b y some h comma p = (ts, c, b, refl, comma, h,
 separated_more P (x ∷ z ∷ es) ts c b y some h comma p =
     (h.0, h.1, h.2 ++ c ∷ b, rw h.3 (append_assoc h.0 (h.1 ∷ h.2) (c ∷ b)), h.4, h.5, separated_more P (z ∷ es) h.2 c b y (omega arith) h.6 comma p)
 
-binary_found : (level number : ℕ) (ts : List Lexeme) → binary_at level ts ≡ Some number → (t : Lexeme) × (ts ≡ t ∷ after ts) × (operators.binary t.word ≡ Some (number, level))
+binary_found : (level number : ℕ) (ts : List Lexeme) → binary_at level ts ≡ Some number → (t : Lexeme) × (ts ≡ t ∷ after ts) × (operators.binary t.terminal ≡ Some (number, level))
 binary_found level number [] e = absurd (cc)
-binary_found level number (t ∷ ts) e = by_option (operators.binary t.word) refl e where
-  by_test : (m k : ℕ) (b : Bool) → operators.binary t.word ≡ Some (m, k) → eqb k level ≡ b → cond b (Some m) None ≡ Some number → (u : Lexeme) × (t ∷ ts ≡ u ∷ ts)
-      × (operators.binary u.word ≡ Some (number, level))
+binary_found level number (t ∷ ts) e = by_option (operators.binary t.terminal) refl e where
+  by_test : (m k : ℕ) (b : Bool) → operators.binary t.terminal ≡ Some (m, k) → eqb k level ≡ b → cond b (Some m) None ≡ Some number → (u : Lexeme) × (t ∷ ts ≡ u ∷ ts)
+      × (operators.binary u.terminal ≡ Some (number, level))
   by_test m k true is f g = let l : k ≡ level = eqb-true k level f in (t, refl, cc)
   by_test m k false is f g = absurd (cc)
 
-  by_option : (o : Option (ℕ × ℕ)) → operators.binary t.word ≡ o → at_level level o ≡ Some number → (u : Lexeme) × (t ∷ ts ≡ u ∷ ts) × (operators.binary u.word ≡ Some (number, level))
+  by_option : (o : Option (ℕ × ℕ)) → operators.binary t.terminal ≡ o → at_level level o ≡ Some number → (u : Lexeme) × (t ∷ ts ≡ u ∷ ts) × (operators.binary u.terminal ≡ Some (number, level))
   by_option None is f = absurd (cc)
   by_option (Some x) is f = by_test x.0 x.1 (eqb x.1 level) is refl f
 
-next_found : {X : Type 0} (table : Word → Option X) (x : X) (ts : List Lexeme) → next_of table ts ≡ Some x → (t : Lexeme) × (ts ≡ t ∷ after ts) × (table t.word ≡ Some x)
+next_found : {X : Type 0} (table : Terminal → Option X) (x : X) (ts : List Lexeme) → next_of table ts ≡ Some x → (t : Lexeme) × (ts ≡ t ∷ after ts) × (table t.terminal ≡ Some x)
 next_found table x [] e = absurd (cc)
 next_found table x (t ∷ ts) e = (t, refl, e)
 
@@ -81,16 +81,16 @@ next_found table x (t ∷ ts) e = (t, refl, e)
 abbrev Strings : Lexeme → List Lexeme → ℕ × List Lexeme → Type 0
 Strings t ts x = (a : List Lexeme) × (ts ≡ a ++ x.1) × AreStrings (t ∷ a) × (x.0 ≡ to_of (t ∷ a))
 
-strings_by : (t u : Lexeme) (ts : List Lexeme) → Is w.Text t → (Is w.Text u → Strings u ts (past_strings u.to ts)) → (b : Bool) → same u.word w.Text ≡ b
+strings_by : (t u : Lexeme) (ts : List Lexeme) → Is w.Text t → (Is w.Text u → Strings u ts (past_strings u.to ts)) → (b : Bool) → same u.terminal w.Text ≡ b
     → Strings t (u ∷ ts) (cond b (past_strings u.to ts) (t.to, u ∷ ts))
 strings_by t u ts is rec true e =
-    let p = rec (same-true u.word w.Text refl e) in
+    let p = rec (same-true u.terminal w.Text refl e) in
     (u ∷ p.0, ap (λ (z : List Lexeme). u ∷ z) p.1, (is, p.2), p.3)
 strings_by t u ts is rec false e = ([], refl, (is, tt), refl)
 
 strings_take : (t : Lexeme) (ts : List Lexeme) → Is w.Text t → Strings t ts (past_strings t.to ts)
 strings_take t [] is = ([], refl, (is, tt), refl)
-strings_take t (u ∷ ts) is = strings_by t u ts is (λ next. strings_take u ts next) (same u.word w.Text) refl
+strings_take t (u ∷ ts) is = strings_by t u ts is (λ next. strings_take u ts next) (same u.terminal w.Text) refl
 
 module _ (n : ℕ) (read : Rule → List Lexeme → Read) (h : (rule : Rule) (ts : List Lexeme) → IfOk (read rule ts) (IsRead n rule ts)) where
   -- ---- primary
@@ -198,8 +198,8 @@ module _ (n : ℕ) (read : Rule → List Lexeme → Read) (h : (rule : Rule) (ts
             λ u. postfix_unary 1 (t ∷ p.0) (Node op.Text (trees []) t.from (past_strings t.to ts).0) d;
       }
 
-  primary_by_word : (t : Lexeme) (ts : List Lexeme) (word : Word) → Is word t
-      → IfOk (elim word [
+  primary_by_terminal : (t : Lexeme) (ts : List Lexeme) (terminal : Terminal) → Is terminal t
+      → IfOk (elim terminal [
         | w.Name ↦ named read n t ts
         | w.Number value ↦ Ok (built (op.Number value) [] true 1 t.from t.to ts)
         | w.Character value ↦ Ok
@@ -209,17 +209,17 @@ module _ (n : ℕ) (read : Rule → List Lexeme → Read) (h : (rule : Rule) (ts
         | w.Open ↦ between read n t ts
         | _ ↦ Err refusal.Syntax
       ]) (IsRead (suc n) Postfix (t ∷ ts))
-  primary_by_word t ts w.Name is = named_sound t ts is
-  primary_by_word t ts (w.Number value) is = leaf_sound t ts (op.Number value) (inl (inr (inr (inl (t, value, refl, is, refl)))))
-  primary_by_word t ts (w.Character value) is = leaf_sound t ts (op.Char value) (inl (inr (inr (inr (inl (t, value, refl, is, refl))))))
-  primary_by_word t ts w.Text is = text_sound t ts is
-  primary_by_word t ts w.Open is = between_sound t ts is
-  primary_by_word t ts _ is = tt
+  primary_by_terminal t ts w.Name is = named_sound t ts is
+  primary_by_terminal t ts (w.Number value) is = leaf_sound t ts (op.Number value) (inl (inr (inr (inl (t, value, refl, is, refl)))))
+  primary_by_terminal t ts (w.Character value) is = leaf_sound t ts (op.Char value) (inl (inr (inr (inr (inl (t, value, refl, is, refl))))))
+  primary_by_terminal t ts w.Text is = text_sound t ts is
+  primary_by_terminal t ts w.Open is = between_sound t ts is
+  primary_by_terminal t ts _ is = tt
 
   primary_sound : (ts : List Lexeme) → IfOk (primary read n ts) (IsRead (suc n) Postfix ts)
   unfolding primary
   primary_sound [] = tt
-  primary_sound (t ∷ ts) = primary_by_word t ts t.word refl
+  primary_sound (t ∷ ts) = primary_by_terminal t ts t.terminal refl
 
   -- ---- postfix
 
@@ -258,7 +258,7 @@ module _ (n : ℕ) (read : Rule → List Lexeme → Read) (h : (rule : Rule) (ts
         unary = λ u. postfix_unary (deep + 1) front (Node op.Index (trees (x.tree ∷ y.tree ∷ [])) x.from c.0.to) d;
       }
 
-  suffix_sound : (ts : List Lexeme) (x : Got) → IsRead (suc n) Postfix ts x → (t : Lexeme × List Lexeme) → x.rest ≡ t.0 ∷ t.1 → (number : ℕ) → operators.suffix t.0.word ≡ Some number → x.depth ≤ n
+  suffix_sound : (ts : List Lexeme) (x : Got) → IsRead (suc n) Postfix ts x → (t : Lexeme × List Lexeme) → x.rest ≡ t.0 ∷ t.1 → (number : ℕ) → operators.suffix t.0.terminal ≡ Some number → x.depth ≤ n
       → IsRead (suc n) Postfix ts (built (op.Suffix number) (x.tree ∷ []) true (x.depth + 1) x.from t.0.to t.1)
   suffix_sound ts x f t e number is le =
       let front : List Lexeme = f.front ++ t.0 ∷ [] in
@@ -288,7 +288,7 @@ module _ (n : ℕ) (read : Rule → List Lexeme → Read) (h : (rule : Rule) (ts
       index_sound ts x go f y g c q (ltb-false n (max x.depth y.depth) e)))))
       (λ go.
       if_bind (first x.rest) _ _ _ (first_takes x.rest) (λ t q.
-      if_bind (known (operators.suffix t.0.word)) _ _ _ (known_is (operators.suffix t.0.word)) (λ number is.
+      if_bind (known (operators.suffix t.0.terminal)) _ _ _ (known_is (operators.suffix t.0.terminal)) (λ number is.
       if_cond (ltb n x.depth) _ _ _ (λ e. tt) (λ e.
       suffix_sound ts x f t q number is (ltb-false n x.depth e)))))
 
@@ -319,13 +319,13 @@ module _ (n : ℕ) (read : Rule → List Lexeme → Read) (h : (rule : Rule) (ts
         unary = λ u. d;
       }
 
-  signed_sound : (t : Lexeme) (ts : List Lexeme) (number : ℕ) → operators.sign t.word ≡ Some number → IfOk (prefixed read n number (Level 0) t ts) (IsRead (suc n) Unary (t ∷ ts))
+  signed_sound : (t : Lexeme) (ts : List Lexeme) (number : ℕ) → operators.sign t.terminal ≡ Some number → IfOk (prefixed read n number (Level 0) t ts) (IsRead (suc n) Unary (t ∷ ts))
   unfolding prefixed
   signed_sound t ts number is =
       if_bind (read (Level 0) ts) _ _ _ (h (Level 0) ts) (λ x f.
       before_sound Unary t ts (op.Prefix number) x (Level 0) f (λ front d e same. inl (t, front, number, x.tree, refl, is, d, same)))
 
-  stepped_sound : (t : Lexeme) (ts : List Lexeme) (number : ℕ) → operators.step t.word ≡ Some number → IfOk (prefixed read n number Unary t ts) (IsRead (suc n) Unary (t ∷ ts))
+  stepped_sound : (t : Lexeme) (ts : List Lexeme) (number : ℕ) → operators.step t.terminal ≡ Some number → IfOk (prefixed read n number Unary t ts) (IsRead (suc n) Unary (t ∷ ts))
   unfolding prefixed
   stepped_sound t ts number is =
       if_bind (read Unary ts) _ _ _ (h Unary ts) (λ x f.
@@ -354,24 +354,24 @@ module _ (n : ℕ) (read : Rule → List Lexeme → Read) (h : (rule : Rule) (ts
       if_bind (read Unary ts) _ _ _ (h Unary ts) (λ x f.
       before_sound Unary t ts op.SizeOf x Unary f (λ front d tree same. inr (inr (inl (t, front, x.tree, refl, is, d, same))))))
 
-  unary_by : (t : Lexeme) (ts : List Lexeme) (a b : Option ℕ) → operators.sign t.word ≡ a → operators.step t.word ≡ b
+  unary_by : (t : Lexeme) (ts : List Lexeme) (a b : Option ℕ) → operators.sign t.terminal ≡ a → operators.step t.terminal ≡ b
       → IfOk (elim a [
         | Some number ↦ prefixed read n number
             (Level 0) t ts
-        | None ↦ elim b [ Some number ↦ prefixed read n number Unary t ts | None ↦ cond (same t.word w.SizeOf) (size_of read n t ts) (postfix read n (t ∷ ts)) ]
+        | None ↦ elim b [ Some number ↦ prefixed read n number Unary t ts | None ↦ cond (same t.terminal w.SizeOf) (size_of read n t ts) (postfix read n (t ∷ ts)) ]
       ])
       (IsRead (suc n) Unary (t ∷ ts))
   unary_by t ts (Some number) b p q = signed_sound t ts number p
   unary_by t ts None (Some number) p q = stepped_sound t ts number q
   unary_by t ts None None p q =
-      if_cond (same t.word w.SizeOf) _ _ _
-      (λ e. size_of_sound t ts (same-true t.word w.SizeOf refl e))
+      if_cond (same t.terminal w.SizeOf) _ _ _
+      (λ e. size_of_sound t ts (same-true t.terminal w.SizeOf refl e))
       (λ e. IfOk-weaker (postfix read n (t ∷ ts)) _ _ (λ x f. read_as (suc n) Postfix Unary (t ∷ ts) x (λ front d. postfix_unary x.depth front x.tree d) f) (postfix_sound (t ∷ ts)))
 
   unary_sound : (ts : List Lexeme) → IfOk (unary read n ts) (IsRead (suc n) Unary ts)
   unfolding unary
   unary_sound [] = tt
-  unary_sound (t ∷ ts) = unary_by t ts (operators.sign t.word) (operators.step t.word) refl refl
+  unary_sound (t ∷ ts) = unary_by t ts (operators.sign t.terminal) (operators.step t.terminal) refl refl
 
   -- ---- operands and levels
 

@@ -1,11 +1,11 @@
 -- One token after the other, both ways.
 use Rattle.std.proofs.Common.{◌≡◌, ◌<◌, Bool, true, false, cond, List, [], ◌∷◌, ◌++◌, length, Option, Some, None, Result, Ok, Err, refl, arith}
 use Rattle.std.specs.Prelude.{IfOk}
-use Rattle.cw_grammar.specs.declared.words.Lexeme.{Lexeme}
-use Rattle.cw_grammar.specs.declared.words.Word.{Word}
-use Rattle.cw_grammar.specs.Words.{same}
+use Rattle.cw_grammar.specs.declared.terminals.Lexeme.{Lexeme}
+use Rattle.cw_grammar.specs.declared.terminals.Terminal.{Terminal}
+use Rattle.cw_grammar.specs.Terminals.{same}
 use Rattle.cw_grammar.specs.Lexemes.{Is, from_of, to_of}
-use Rattle.cw_grammar.proofs.SameWord.{is_plain, same-true, same-itself}
+use Rattle.cw_grammar.proofs.SameTerminal.{is_plain, same-true, same-itself}
 use Rattle.cw_expressions.specs.declared.refusal.Refusal.{Refusal}
 use Rattle.cw_expressions.specs.declared.refusal.Refusal.TheVariants as refusal
 use Rattle.cw_expressions.specs.Cursor.{◌>>=◌, begins, after, first, known, expect}
@@ -27,24 +27,24 @@ first_takes [] = tt
 first_takes (t ∷ ts) = refl
 
 -- a token of this kind, and the others
-abbrev pub Takes : Word → List Lexeme → Lexeme × List Lexeme → Type 0
-Takes word ts x = (ts ≡ x.0 ∷ x.1) × Is word x.0
+abbrev pub Takes : Terminal → List Lexeme → Lexeme × List Lexeme → Type 0
+Takes terminal ts x = (ts ≡ x.0 ∷ x.1) × Is terminal x.0
 
-pub expect_takes : (word : Word) → is_plain word ≡ true → (ts : List Lexeme) → IfOk (expect word ts) (Takes word ts)
+pub expect_takes : (terminal : Terminal) → is_plain terminal ≡ true → (ts : List Lexeme) → IfOk (expect terminal ts) (Takes terminal ts)
 unfolding expect
-expect_takes word plain [] = tt
-expect_takes word plain (t ∷ ts) = if_cond (same t.word word) (Ok (t, ts)) (Err refusal.Syntax) (Takes word (t ∷ ts)) (λ e. (refl, same-true t.word word plain e)) (λ e. tt)
+expect_takes terminal plain [] = tt
+expect_takes terminal plain (t ∷ ts) = if_cond (same t.terminal terminal) (Ok (t, ts)) (Err refusal.Syntax) (Takes terminal (t ∷ ts)) (λ e. (refl, same-true t.terminal terminal plain e)) (λ e. tt)
 
-pub expect_again : (word : Word) (t : Lexeme) (ts : List Lexeme) → Is word t → expect word (t ∷ ts) ≡ Ok (t, ts)
+pub expect_again : (terminal : Terminal) (t : Lexeme) (ts : List Lexeme) → Is terminal t → expect terminal (t ∷ ts) ≡ Ok (t, ts)
 unfolding expect
-expect_again word t ts is = rw (is, same-itself word) refl
+expect_again terminal t ts is = rw (is, same-itself terminal) refl
 
-pub begins_takes : (word : Word) → is_plain word ≡ true → (ts : List Lexeme) → begins word ts ≡ true → (t : Lexeme) × (ts ≡ t ∷ after ts) × Is word t
-begins_takes word plain [] e = absurd (cc)
-begins_takes word plain (t ∷ ts) e = (t, refl, same-true t.word word plain e)
+pub begins_takes : (terminal : Terminal) → is_plain terminal ≡ true → (ts : List Lexeme) → begins terminal ts ≡ true → (t : Lexeme) × (ts ≡ t ∷ after ts) × Is terminal t
+begins_takes terminal plain [] e = absurd (cc)
+begins_takes terminal plain (t ∷ ts) e = (t, refl, same-true t.terminal terminal plain e)
 
-pub begins_again : (word : Word) (t : Lexeme) (ts : List Lexeme) → Is word t → begins word (t ∷ ts) ≡ true
-begins_again word t ts is = rw is (same-itself word)
+pub begins_again : (terminal : Terminal) (t : Lexeme) (ts : List Lexeme) → Is terminal t → begins terminal (t ∷ ts) ≡ true
+begins_again terminal t ts is = rw is (same-itself terminal)
 
 -- ---- the first and the last token
 

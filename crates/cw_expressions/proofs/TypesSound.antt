@@ -4,39 +4,39 @@ use Rattle.std.specs.Prelude.{IfOk}
 use Rattle.cw_syntax.specs.declared.program.CType.{CType}
 use Rattle.cw_syntax.specs.declared.program.Base.{Base}
 use Rattle.cw_syntax.specs.declared.program.Base.TheVariants as base
-use Rattle.cw_grammar.specs.declared.words.Lexeme.{Lexeme}
-use Rattle.cw_grammar.specs.declared.words.Word.{Word}
-use Rattle.cw_grammar.specs.declared.words.Word.TheVariants as w
-use Rattle.cw_grammar.specs.Lexemes.{Is, words, from_of, to_of, IsFlag, IsBetween}
+use Rattle.cw_grammar.specs.declared.terminals.Lexeme.{Lexeme}
+use Rattle.cw_grammar.specs.declared.terminals.Terminal.{Terminal}
+use Rattle.cw_grammar.specs.declared.terminals.Terminal.TheVariants as w
+use Rattle.cw_grammar.specs.Lexemes.{Is, terminals, from_of, to_of, IsFlag, IsBetween}
 use Rattle.cw_grammar.specs.Types.{IsType, AreStars, IsTypeName}
-use Rattle.cw_grammar.proofs.SameWord.{is_plain}
+use Rattle.cw_grammar.proofs.SameTerminal.{is_plain}
 use Rattle.cw_expressions.specs.declared.refusal.Refusal.TheVariants as refusal
 use Rattle.cw_expressions.specs.Cursor.{begins, after, expect}
 use Rattle.cw_expressions.specs.TypeReading.{skip, based, unsigned_base, base_of, stars_of, type_name, type_between}
 use Rattle.cw_expressions.proofs.Steps.{if_bind, expect_takes, begins_takes, to_of_append}
-use Rattle.cw_grammar.proofs.Wording.{words_one as alone, words_two as paired}
+use Rattle.cw_grammar.proofs.Wording.{terminals_one as alone, terminals_two as paired}
 
--- past a word, where it is next
-abbrev pub Skips : Word → List Lexeme → List Lexeme → Type 0
-Skips word ts rest = (flag : Bool) × (a : List Lexeme) × (ts ≡ a ++ rest) × IsFlag word a flag
+-- past a terminal, where it is next
+abbrev pub Skips : Terminal → List Lexeme → List Lexeme → Type 0
+Skips terminal ts rest = (flag : Bool) × (a : List Lexeme) × (ts ≡ a ++ rest) × IsFlag terminal a flag
 
-skips_by : (word : Word) → is_plain word ≡ true → (ts : List Lexeme) (b : Bool) → begins word ts ≡ b → Skips word ts (cond b (after ts) ts)
-skips_by word plain ts true e =
-    let p = begins_takes word plain ts e in
-    (true, p.0 ∷ [], p.1, ap (λ (z : Word). z ∷ []) p.2)
-skips_by word plain ts false e = (false, [], refl, refl)
+skips_by : (terminal : Terminal) → is_plain terminal ≡ true → (ts : List Lexeme) (b : Bool) → begins terminal ts ≡ b → Skips terminal ts (cond b (after ts) ts)
+skips_by terminal plain ts true e =
+    let p = begins_takes terminal plain ts e in
+    (true, p.0 ∷ [], p.1, ap (λ (z : Terminal). z ∷ []) p.2)
+skips_by terminal plain ts false e = (false, [], refl, refl)
 
-pub skips : (word : Word) → is_plain word ≡ true → (ts : List Lexeme) → Skips word ts (skip word ts)
-skips word plain ts = skips_by word plain ts (begins word ts) refl
+pub skips : (terminal : Terminal) → is_plain terminal ≡ true → (ts : List Lexeme) → Skips terminal ts (skip terminal ts)
+skips terminal plain ts = skips_by terminal plain ts (begins terminal ts) refl
 
 abbrev pub TakesBase : List Lexeme → (Base × Bool) × List Lexeme → Type 0
 TakesBase ts x = (a : List Lexeme) × (ts ≡ a ++ x.1) × (0 < length a) × IsType a x.0.0 x.0.1
 
-abbrev known_type : List Word → Base → Bool → List Word × (Base × Bool)
+abbrev known_type : List Terminal → Base → Bool → List Terminal × (Base × Bool)
 known_type ws b unsigned = (ws, (b, unsigned))
 
-is_entry : (a : List Lexeme) (ws : List Word) (b : Base) (unsigned : Bool) → words a ≡ ws → known_type (words a) b unsigned ≡ known_type ws b unsigned
-is_entry a ws b unsigned e = ap (λ (z : List Word). known_type z b unsigned) e
+is_entry : (a : List Lexeme) (ws : List Terminal) (b : Base) (unsigned : Bool) → terminals a ≡ ws → known_type (terminals a) b unsigned ≡ known_type ws b unsigned
+is_entry a ws b unsigned e = ap (λ (z : List Terminal). known_type z b unsigned) e
 
 -- `long`, and `int` where it is next
 long_takes : (t : Lexeme) (ts : List Lexeme) → Is w.Long t → TakesBase (t ∷ ts) ((base.Long, false), skip w.Int ts)
@@ -72,27 +72,27 @@ unsigned_long_takes u t ts first is = by_flag (skips w.Int refl ts) where
 unsigned_alone : (u : Lexeme) (ts : List Lexeme) → Is w.Unsigned u → TakesBase (u ∷ ts) ((base.Int, true), ts)
 unsigned_alone u ts is = (u ∷ [], refl, omega arith, inr (inr (inr (inr (inr (inl (is_entry (u ∷ []) (w.Unsigned ∷ []) base.Int true (alone u w.Unsigned is))))))))
 
-unsigned_by_word : (u t : Lexeme) (ts : List Lexeme) → Is w.Unsigned u → (word : Word) → Is word t
-    → IfOk (elim word [ w.Char ↦ based base.Char true ts | w.Int ↦ based base.Int true ts | w.Long ↦ based base.Long true (skip w.Int ts) | _ ↦ based base.Int true (t ∷ ts) ])
+unsigned_by_terminal : (u t : Lexeme) (ts : List Lexeme) → Is w.Unsigned u → (terminal : Terminal) → Is terminal t
+    → IfOk (elim terminal [ w.Char ↦ based base.Char true ts | w.Int ↦ based base.Int true ts | w.Long ↦ based base.Long true (skip w.Int ts) | _ ↦ based base.Int true (t ∷ ts) ])
     (TakesBase (u ∷ t ∷ ts))
-unsigned_by_word u t ts first w.Char is = (u ∷ t ∷ [], refl, omega arith, inr (inr (inl (is_entry (u ∷ t ∷ []) (w.Unsigned ∷ w.Char ∷ []) base.Char true (paired u t w.Unsigned w.Char first is)))))
-unsigned_by_word u t ts first w.Int is = (
+unsigned_by_terminal u t ts first w.Char is = (u ∷ t ∷ [], refl, omega arith, inr (inr (inl (is_entry (u ∷ t ∷ []) (w.Unsigned ∷ w.Char ∷ []) base.Char true (paired u t w.Unsigned w.Char first is)))))
+unsigned_by_terminal u t ts first w.Int is = (
   u ∷ t ∷ [],
   refl,
   omega arith,
   inr
       (inr (inr (inr (inl (is_entry (u ∷ t ∷ []) (w.Unsigned ∷ w.Int ∷ []) base.Int true (paired u t w.Unsigned w.Int first is)))))),
 )
-unsigned_by_word u t ts first w.Long is = unsigned_long_takes u t ts first is
-unsigned_by_word u t ts first _ is = unsigned_alone u (t ∷ ts) first
+unsigned_by_terminal u t ts first w.Long is = unsigned_long_takes u t ts first is
+unsigned_by_terminal u t ts first _ is = unsigned_alone u (t ∷ ts) first
 
 unsigned_takes : (u : Lexeme) (ts : List Lexeme) → Is w.Unsigned u → IfOk (unsigned_base ts) (TakesBase (u ∷ ts))
 unfolding unsigned_base
 unsigned_takes u [] is = unsigned_alone u [] is
-unsigned_takes u (t ∷ ts) is = unsigned_by_word u t ts is t.word refl
+unsigned_takes u (t ∷ ts) is = unsigned_by_terminal u t ts is t.terminal refl
 
-base_by_word : (t : Lexeme) (ts : List Lexeme) (word : Word) → Is word t
-    → IfOk (elim word [
+base_by_terminal : (t : Lexeme) (ts : List Lexeme) (terminal : Terminal) → Is terminal t
+    → IfOk (elim terminal [
       | w.Void ↦ based base.Void false ts
       | w.Char ↦ based base.Char false ts
       | w.Int ↦ based base.Int false ts
@@ -101,17 +101,17 @@ base_by_word : (t : Lexeme) (ts : List Lexeme) (word : Word) → Is word t
       | w.Unsigned ↦ unsigned_base ts
       | _ ↦ Err refusal.Syntax
     ]) (TakesBase (t ∷ ts))
-base_by_word t ts w.Void is = (t ∷ [], refl, omega arith, inl (is_entry (t ∷ []) (w.Void ∷ []) base.Void false (alone t w.Void is)))
-base_by_word t ts w.Char is = (t ∷ [], refl, omega arith, inr (inl (is_entry (t ∷ []) (w.Char ∷ []) base.Char false (alone t w.Char is))))
-base_by_word t ts w.Int is = (t ∷ [], refl, omega arith, inr (inr (inr (inl (is_entry (t ∷ []) (w.Int ∷ []) base.Int false (alone t w.Int is))))))
-base_by_word t ts w.Long is = long_takes t ts is
-base_by_word t ts w.Unsigned is = unsigned_takes t ts is
-base_by_word t ts _ is = tt
+base_by_terminal t ts w.Void is = (t ∷ [], refl, omega arith, inl (is_entry (t ∷ []) (w.Void ∷ []) base.Void false (alone t w.Void is)))
+base_by_terminal t ts w.Char is = (t ∷ [], refl, omega arith, inr (inl (is_entry (t ∷ []) (w.Char ∷ []) base.Char false (alone t w.Char is))))
+base_by_terminal t ts w.Int is = (t ∷ [], refl, omega arith, inr (inr (inr (inl (is_entry (t ∷ []) (w.Int ∷ []) base.Int false (alone t w.Int is))))))
+base_by_terminal t ts w.Long is = long_takes t ts is
+base_by_terminal t ts w.Unsigned is = unsigned_takes t ts is
+base_by_terminal t ts _ is = tt
 
 pub base_takes : (ts : List Lexeme) → IfOk (base_of ts) (TakesBase ts)
 unfolding base_of
 base_takes [] = tt
-base_takes (t ∷ ts) = base_by_word t ts t.word refl
+base_takes (t ∷ ts) = base_by_terminal t ts t.terminal refl
 
 abbrev pub TakesStars : List Lexeme → ℕ × List Lexeme → Type 0
 TakesStars ts x = (a : List Lexeme) × (ts ≡ a ++ x.1) × AreStars a x.0

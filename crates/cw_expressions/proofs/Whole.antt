@@ -4,7 +4,7 @@ use Rattle.std.specs.Prelude.{◌⊎◌, IfOk}
 use Rattle.std.specs.Borrow.{Bor}
 use Rattle.cw_syntax.specs.declared.program.Expr.{Expr}
 use Rattle.cw_syntax.specs.Trees.{Tree, tree_of}
-use Rattle.cw_grammar.specs.declared.words.Lexeme.{Lexeme}
+use Rattle.cw_grammar.specs.declared.terminals.Lexeme.{Lexeme}
 use Rattle.cw_grammar.specs.declared.rules.Rule.TheVariants.{Expression}
 use Rattle.cw_grammar.specs.Expressions.{nesting_limit}
 use Rattle.cw_expressions.specs.declared.refusal.Refusal.{Refusal}

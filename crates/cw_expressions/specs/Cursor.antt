@@ -1,8 +1,8 @@
 -- Working definitions: reading tokens from left to right, on lists, by the steps that all readers take.
 use Rattle.std.specs.Prelude.{◌≡◌, ℕ, zero, suc, Bool, false, Option, Some, None, List, [], ◌∷◌, Result, Ok, Err, if◌then◌else◌}
-use Rattle.cw_grammar.specs.declared.words.Word.{Word}
-use Rattle.cw_grammar.specs.declared.words.Lexeme.{Lexeme}
-use Rattle.cw_grammar.specs.Words.{same}
+use Rattle.cw_grammar.specs.declared.terminals.Terminal.{Terminal}
+use Rattle.cw_grammar.specs.declared.terminals.Lexeme.{Lexeme}
+use Rattle.cw_grammar.specs.Terminals.{same}
 use Rattle.cw_expressions.specs.declared.refusal.Refusal.{Refusal}
 use Rattle.cw_expressions.specs.declared.refusal.Refusal.TheVariants as refusal
 
@@ -21,9 +21,9 @@ abbrev pub Gives : {X Y : Type 0} → (X → Y) → Result X Refusal → Result 
 Gives view (Ok x) read = read ≡ Ok (view x)
 Gives view (Err e) read = Fails e read
 
-abbrev pub begins : Word → List Lexeme → Bool
-begins word [] = false
-begins word (t ∷ ts) = same t.word word
+abbrev pub begins : Terminal → List Lexeme → Bool
+begins terminal [] = false
+begins terminal (t ∷ ts) = same t.terminal terminal
 
 abbrev pub after : List Lexeme → List Lexeme
 after [] = []
@@ -39,9 +39,9 @@ known None = Err refusal.Syntax
 known (Some x) = Ok x
 
 -- the token of this kind at the front
-unfoldable pub expect : Word → List Lexeme → Result (Lexeme × List Lexeme) Refusal
-expect word [] = Err refusal.Syntax
-expect word (t ∷ ts) = if same t.word word then Ok (t, ts) else Err refusal.Syntax
+unfoldable pub expect : Terminal → List Lexeme → Result (Lexeme × List Lexeme) Refusal
+expect terminal [] = Err refusal.Syntax
+expect terminal (t ∷ ts) = if same t.terminal terminal then Ok (t, ts) else Err refusal.Syntax
 
 -- what a step goes on with as long as tokens of some kind are next
 unfoldable pub repeat : {S : Type 0} → (S → List Lexeme) → (List Lexeme → Bool) → (S → Result S Refusal) → ℕ → S → Result S Refusal

@@ -3,12 +3,12 @@ use Rattle.std.specs.Prelude.{ℕ, zero, suc, ◌+◌, max, nat_lt, nat_eq, Bool
 use Rattle.cw_syntax.specs.declared.program.Op.{Op}
 use Rattle.cw_syntax.specs.declared.program.Op.TheVariants as op
 use Rattle.cw_syntax.specs.Trees.{Tree, Node}
-use Rattle.cw_grammar.specs.declared.words.Word.{Word}
-use Rattle.cw_grammar.specs.declared.words.Word.TheVariants as w
-use Rattle.cw_grammar.specs.declared.words.Lexeme.{Lexeme}
+use Rattle.cw_grammar.specs.declared.terminals.Terminal.{Terminal}
+use Rattle.cw_grammar.specs.declared.terminals.Terminal.TheVariants as w
+use Rattle.cw_grammar.specs.declared.terminals.Lexeme.{Lexeme}
 use Rattle.cw_grammar.specs.declared.rules.Rule.{Rule}
 use Rattle.cw_grammar.specs.declared.rules.Rule.TheVariants.{Expression, Level, Unary, Postfix}
-use Rattle.cw_grammar.specs.Words.{same}
+use Rattle.cw_grammar.specs.Terminals.{same}
 use Rattle.cw_grammar.specs.Operators as operators
 use Rattle.cw_grammar.specs.Lexemes.{name_of, trees}
 use Rattle.cw_grammar.specs.Expressions.{loosest}
@@ -54,16 +54,16 @@ rest_of_arguments x = x.rest
 abbrev pub begins_cast : List Lexeme → Bool
 begins_cast [] = false
 begins_cast (o ∷ []) = false
-begins_cast (o ∷ t ∷ ts) = same o.word w.Open && starts_type t.word
+begins_cast (o ∷ t ∷ ts) = same o.terminal w.Open && starts_type t.terminal
 
 -- past strings: the place after the last, and the tokens after it
 abbrev pub past_strings : ℕ → List Lexeme → ℕ × List Lexeme
 past_strings to [] = (to, [])
-past_strings to (t ∷ ts) = if same t.word w.Text then past_strings t.to ts else (to, t ∷ ts)
+past_strings to (t ∷ ts) = if same t.terminal w.Text then past_strings t.to ts else (to, t ∷ ts)
 
-abbrev pub next_of : {X : Type 0} → (Word → Option X) → List Lexeme → Option X
+abbrev pub next_of : {X : Type 0} → (Terminal → Option X) → List Lexeme → Option X
 next_of table [] = None
-next_of table (t ∷ ts) = table t.word
+next_of table (t ∷ ts) = table t.terminal
 
 -- a binary operator of this level
 abbrev pub at_level : ℕ → Option (ℕ × ℕ) → Option ℕ
@@ -108,7 +108,7 @@ module _ (read : Rule → List Lexeme → Read) (limit : ℕ) where
 
   unfoldable pub primary : List Lexeme → Read
   primary [] = Err Syntax
-  primary (t ∷ ts) = elim t.word [
+  primary (t ∷ ts) = elim t.terminal [
     | w.Name ↦ named t ts
     | w.Number value ↦ Ok (built (op.Number value) [] true 1 t.from t.to ts)
     | w.Character value ↦ Ok (built (op.Char value) [] true 1 t.from t.to ts)
@@ -125,7 +125,7 @@ module _ (read : Rule → List Lexeme → Read) (limit : ℕ) where
     above limit (max x.depth y.depth) (built op.Index (x.tree ∷ y.tree ∷ []) true (max x.depth y.depth + 1) x.from c.0.to c.1))
       else do
         t ← first x.rest
-        number ← known (operators.suffix t.0.word)
+        number ← known (operators.suffix t.0.terminal)
         above limit x.depth (built (op.Suffix number) (x.tree ∷ []) true (x.depth + 1) x.from t.0.to t.1)
 
   unfoldable pub postfix : List Lexeme → Read
@@ -148,11 +148,11 @@ module _ (read : Rule → List Lexeme → Read) (limit : ℕ) where
 
   unfoldable pub unary : List Lexeme → Read
   unary [] = Err Syntax
-  unary (t ∷ ts) = elim (operators.sign t.word) [
+  unary (t ∷ ts) = elim (operators.sign t.terminal) [
     | Some number ↦ prefixed number (Level 0) t ts
-    | None ↦ elim (operators.step t.word) [
+    | None ↦ elim (operators.step t.terminal) [
       | Some number ↦ prefixed number Unary t ts
-      | None ↦ (if same t.word w.SizeOf then size_of t ts else postfix (t ∷ ts))
+      | None ↦ (if same t.terminal w.SizeOf then size_of t ts else postfix (t ∷ ts))
     ]
   ]
 

@@ -3,15 +3,15 @@ use Rattle.std.specs.Prelude.{ℕ, Bool, true, false, List, [], ◌∷◌, Resul
 use Rattle.cw_syntax.specs.declared.program.CType.{CType}
 use Rattle.cw_syntax.specs.declared.program.Base.{Base}
 use Rattle.cw_syntax.specs.declared.program.Base.TheVariants as base
-use Rattle.cw_grammar.specs.declared.words.Word.{Word}
-use Rattle.cw_grammar.specs.declared.words.Word.TheVariants as w
-use Rattle.cw_grammar.specs.declared.words.Lexeme.{Lexeme}
+use Rattle.cw_grammar.specs.declared.terminals.Terminal.{Terminal}
+use Rattle.cw_grammar.specs.declared.terminals.Terminal.TheVariants as w
+use Rattle.cw_grammar.specs.declared.terminals.Lexeme.{Lexeme}
 use Rattle.cw_expressions.specs.declared.refusal.Refusal.{Refusal}
 use Rattle.cw_expressions.specs.declared.refusal.Refusal.TheVariants.{Syntax}
 use Rattle.cw_expressions.specs.Cursor.{◌>>=◌, begins, after, expect}
 
--- a word that begins a type, or a type with `const`
-abbrev pub starts_type : Word → Bool
+-- a terminal that begins a type, or a type with `const`
+abbrev pub starts_type : Terminal → Bool
 starts_type w.Const = true
 starts_type w.Void = true
 starts_type w.Unsigned = true
@@ -20,9 +20,9 @@ starts_type w.Int = true
 starts_type w.Long = true
 starts_type _ = false
 
--- past this word, where it is next
-abbrev pub skip : Word → List Lexeme → List Lexeme
-skip word ts = if begins word ts then after ts else ts
+-- past this terminal, where it is next
+abbrev pub skip : Terminal → List Lexeme → List Lexeme
+skip terminal ts = if begins terminal ts then after ts else ts
 
 abbrev pub Based : Type 0
 Based = Result ((Base × Bool) × List Lexeme) Refusal
@@ -33,7 +33,7 @@ based b unsigned ts = Ok ((b, unsigned), ts)
 -- what follows `unsigned`
 unfoldable pub unsigned_base : List Lexeme → Based
 unsigned_base [] = based base.Int true []
-unsigned_base (t ∷ ts) = elim t.word [
+unsigned_base (t ∷ ts) = elim t.terminal [
   | w.Char ↦ based base.Char true ts
   | w.Int ↦ based base.Int true ts
   | w.Long ↦ based base.Long true (skip w.Int ts)
@@ -42,7 +42,7 @@ unsigned_base (t ∷ ts) = elim t.word [
 
 unfoldable pub base_of : List Lexeme → Based
 base_of [] = Err Syntax
-base_of (t ∷ ts) = elim t.word [
+base_of (t ∷ ts) = elim t.terminal [
   | w.Void ↦ based base.Void false ts
   | w.Char ↦ based base.Char false ts
   | w.Int ↦ based base.Int false ts

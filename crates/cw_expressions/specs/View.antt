@@ -2,7 +2,7 @@
 use Rattle.std.specs.Prelude.{◌≤◌, List, map}
 use Rattle.std.specs.Borrow.{Bor}
 use Rattle.cw_syntax.specs.declared.program.Expr.{Expr}
-use Rattle.cw_grammar.specs.declared.words.Lexeme.{Lexeme}
+use Rattle.cw_grammar.specs.declared.terminals.Lexeme.{Lexeme}
 use Rattle.cw_syntax.specs.Trees.{Tree, tree_of}
 use Rattle.cw_grammar.specs.declared.rules.Rule.{Rule}
 use Rattle.cw_grammar.specs.declared.rules.Rule.TheVariants.{Level}

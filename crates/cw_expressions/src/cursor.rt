@@ -4,16 +4,16 @@ ghost use Rattle.std.specs.Prelude.{◌≡◌};
 ghost use Rattle.cw_expressions.specs.Cursor.{Gives, begins, after, first, expect};
 
 use crate::refusal::Refusal;
-use cw_grammar::words::{Lexeme, Word, is_same};
+use cw_grammar::terminals::{Lexeme, Terminal, is_same};
 
 /// Whether a token of this kind is next.
 #[inline(always)]
-pub fn begins_with(tokens: &[Lexeme], word: Word) -> bool
-    ensures begins { result ≡ begins word tokens.now }
+pub fn begins_with(tokens: &[Lexeme], terminal: Terminal) -> bool
+    ensures begins { result ≡ begins terminal tokens.now }
 {
     match tokens {
         [] => false,
-        [first, ..] => is_same(first.word, word),
+        [first, ..] => is_same(first.terminal, terminal),
     }
 }
 
@@ -42,13 +42,13 @@ pub fn first_of(tokens: &[Lexeme]) -> Result<(Lexeme, &[Lexeme]), Refusal>
 /// The token of this kind that is next, and the tokens after it. Syntax where another is next.
 #[inline(always)]
 #[tactic(auto, unfolding(crate::specs::Cursor::expect))]
-pub fn take(tokens: &[Lexeme], word: Word) -> Result<(Lexeme, &[Lexeme]), Refusal>
-    ensures token { Gives (λ x. (x.0, x.1.now)) result (expect word tokens.now) }
+pub fn take(tokens: &[Lexeme], terminal: Terminal) -> Result<(Lexeme, &[Lexeme]), Refusal>
+    ensures token { Gives (λ x. (x.0, x.1.now)) result (expect terminal tokens.now) }
 {
     match tokens {
         [] => Err(Refusal::Syntax),
         [first, rest @ ..] => {
-            if is_same(first.word, word) {
+            if is_same(first.terminal, terminal) {
                 Ok((*first, rest))
             } else {
                 Err(Refusal::Syntax)

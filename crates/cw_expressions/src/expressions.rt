@@ -2,12 +2,12 @@
 
 ghost use Rattle.std.specs.Prelude.{◌≡◌, ◌+◌, ◌<◌, ◌≤◌, ℕ, suc, List, length, IfOk, IfSome, Ok, Err};
 ghost use Rattle.cw_syntax.specs.Trees.{Tree, tree_of};
-ghost use Rattle.cw_grammar.specs.declared.words.Lexeme.{Lexeme};
+ghost use Rattle.cw_grammar.specs.declared.terminals.Lexeme.{Lexeme};
 ghost use Rattle.cw_expressions.specs.declared.refusal.Refusal.TheVariants.{Syntax, TooDeep};
 ghost use Rattle.cw_expressions.specs.Behind.{is_behind};
 ghost use Rattle.cw_expressions.specs.Next.{IsNext, IsEnd, ends, answer, refused, next_expression};
 ghost use Rattle.cw_grammar.specs.Expressions.{nesting_limit};
-ghost use Rattle.cw_grammar.specs.declared.words.Word.TheVariants.{Comma};
+ghost use Rattle.cw_grammar.specs.declared.terminals.Terminal.TheVariants.{Comma};
 ghost use Rattle.cw_expressions.specs.Cursor.{Gives, repeat, begins};
 ghost use Rattle.cw_expressions.specs.Reading.{rest_of, rest_of_arguments, begins_cast, past_strings, is_suffixed, argument, arguments, named, between, primary, suffixed, postfix, size_of, prefixed, unary, cast, operand, joined, chain, assigned, expression, by_rule, read_at};
 ghost use Rattle.cw_expressions.specs.View.{got, got_arguments, seen, IsInRange};
@@ -22,7 +22,7 @@ use crate::refusal::Refusal;
 use crate::types::{begins_type, type_between_at};
 use cw_core::limits::NESTING;
 use cw_grammar::rules::Rule;
-use cw_grammar::words::{Lexeme, Word, is_same};
+use cw_grammar::terminals::{Lexeme, Terminal, is_same};
 use cw_syntax::program::{Expr, Name, Op};
 use std::alloc::Global;
 
@@ -34,7 +34,8 @@ fn is_cast_next(tokens: &[Lexeme]) -> bool
     match tokens {
         [] => false,
         [_] => false,
-        [open, word, ..] => is_same(open.word, Word::Open) && begins_type(word.word),
+        [open, terminal, ..] => is_same(open.terminal, Terminal::Open)
+            && begins_type(terminal.terminal),
     }
 }
 
@@ -45,7 +46,7 @@ fn strings_end(to: u32, tokens: &[Lexeme]) -> (u32, &[Lexeme])
     let mut end = to;
     let mut rest = tokens;
     'strings: while let [first, after @ ..] = rest {
-        if !is_same(first.word, Word::Text) {
+        if !is_same(first.terminal, Terminal::Text) {
             return (end, rest);
         }
         end = first.to;
@@ -54,13 +55,17 @@ fn strings_end(to: u32, tokens: &[Lexeme]) -> (u32, &[Lexeme])
     (end, rest)
 }
 
-/// Whether a word is one of the marks that follow an expression.
+/// Whether a terminal is one of the punctuators that follow an expression.
 #[inline(always)]
-fn is_end(word: Word) -> bool
-    ensures { result ≡ ends word }
+fn is_end(terminal: Terminal) -> bool
+    ensures { result ≡ ends terminal }
 {
-    match word {
-        Word::Close | Word::CloseBracket | Word::CloseBrace | Word::Comma | Word::Semicolon => true,
+    match terminal {
+        Terminal::Close
+        | Terminal::CloseBracket
+        | Terminal::CloseBrace
+        | Terminal::Comma
+        | Terminal::Semicolon => true,
         _ => false,
     }
 }
@@ -70,24 +75,24 @@ fn is_end(word: Word) -> bool
 fn has_suffix(tokens: &[Lexeme]) -> bool
     ensures { result ≡ is_suffixed tokens.now }
 {
-    begins_with(tokens, Word::OpenBracket) || suffix_next(tokens).is_some()
+    begins_with(tokens, Terminal::OpenBracket) || suffix_next(tokens).is_some()
 }
 
-/// Whether a word ends what this rule reads, if an operand stands before it.
+/// Whether a terminal ends what this rule reads, if an operand stands before it.
 #[inline(always)]
-fn is_behind(rule: Rule, word: Word) -> bool
-    ensures { result ≡ is_behind rule word }
+fn is_behind(rule: Rule, terminal: Terminal) -> bool
+    ensures { result ≡ is_behind rule terminal }
 {
-    if is_end(word) {
+    if is_end(terminal) {
         return true;
     }
     match rule {
-        Rule::Level(level) => is_assign(word) || is_looser(level, word),
+        Rule::Level(level) => is_assign(terminal) || is_looser(level, terminal),
         _ => false,
     }
 }
 
-/// A token that is all of what the rule reads, by the word behind it. Most expressions are read so: the rules lead to the
+/// A token that is all of what the rule reads, by the terminal behind it. Most expressions are read so: the rules lead to the
 /// same, but by a way through all of them.
 #[inline(always)]
 fn alone_next<'t>(alloc: Global, rule: Rule, tokens: &'t [Lexeme]) -> Option<Found<'t>>
@@ -97,17 +102,17 @@ fn alone_next<'t>(alloc: Global, rule: Rule, tokens: &'t [Lexeme]) -> Option<Fou
     let [first, next, ..] = tokens else {
         return None;
     };
-    if !is_behind(rule, next.word) {
+    if !is_behind(rule, next.terminal) {
         return None;
     }
     let rest = past(tokens);
-    match first.word {
-        Word::Name => Some(leaf(alloc, Op::Name, first.from, first.to, rest)),
-        Word::Number(value) => {
+    match first.terminal {
+        Terminal::Name => Some(leaf(alloc, Op::Name, first.from, first.to, rest)),
+        Terminal::Number(value) => {
             let op = Op::Number(value);
             Some(leaf(alloc, op, first.from, first.to, rest))
         }
-        Word::Character(value) => {
+        Terminal::Character(value) => {
             let op = Op::Char(value);
             Some(leaf(alloc, op, first.from, first.to, rest))
         }
@@ -333,12 +338,12 @@ fn unary_at<'t>(alloc: Global, depth: u32, tokens: &'t [Lexeme]) -> Result<Found
     let [first, rest @ ..] = tokens else {
         return Err(Refusal::Syntax);
     };
-    match sign_of(first.word) {
+    match sign_of(first.terminal) {
         Some(number) => prefixed_at(alloc, depth, number, Rule::Level(0), *first, rest),
-        None => match step_of(first.word) {
+        None => match step_of(first.terminal) {
             Some(number) => prefixed_at(alloc, depth, number, Rule::Unary, *first, rest),
             None => {
-                if is_same(first.word, Word::SizeOf) {
+                if is_same(first.terminal, Terminal::SizeOf) {
                     size_of_at(alloc, depth, *first, rest)
                 } else {
                     postfix_at(alloc, depth, tokens)
@@ -428,9 +433,9 @@ fn suffixed_at<'t>(alloc: Global, depth: u32, first: Found<'t>) -> Result<Found<
     ensures gives { Gives got result (suffixed (read_at depth) depth (got first.entry)) }
     ensures fits { IfOk result (λ x. x.depth ≤ depth + 1) }
 {
-    if begins_with(first.rest, Word::OpenBracket) {
+    if begins_with(first.rest, Terminal::OpenBracket) {
         let index = read(alloc, depth, Rule::Expression, past(first.rest))?;
-        let (close, rest) = take(index.rest, Word::CloseBracket)?;
+        let (close, rest) = take(index.rest, Terminal::CloseBracket)?;
         if depth < first.depth.max(index.depth) {
             return Err(Refusal::TooDeep);
         }
@@ -438,7 +443,7 @@ fn suffixed_at<'t>(alloc: Global, depth: u32, first: Found<'t>) -> Result<Found<
         return join(alloc, Op::Index, true, first, Found { to, rest, ..index });
     }
     let (suffix, rest) = first_of(first.rest)?;
-    let Some(number) = suffix_of(suffix.word) else {
+    let Some(number) = suffix_of(suffix.terminal) else {
         return Err(Refusal::Syntax);
     };
     if depth < first.depth {
@@ -467,21 +472,21 @@ fn primary_at<'t>(alloc: Global, depth: u32, tokens: &'t [Lexeme]) -> Result<Fou
     let [first, rest @ ..] = tokens else {
         return Err(Refusal::Syntax);
     };
-    match first.word {
-        Word::Name => named_at(alloc, depth, *first, rest),
-        Word::Number(value) => {
+    match first.terminal {
+        Terminal::Name => named_at(alloc, depth, *first, rest),
+        Terminal::Number(value) => {
             let op = Op::Number(value);
             Ok(leaf(alloc, op, first.from, first.to, rest))
         }
-        Word::Character(value) => {
+        Terminal::Character(value) => {
             let op = Op::Char(value);
             Ok(leaf(alloc, op, first.from, first.to, rest))
         }
-        Word::Text => {
+        Terminal::Text => {
             let (to, rest) = strings_end(first.to, rest);
             Ok(leaf(alloc, Op::Text, first.from, to, rest))
         }
-        Word::Open => between_at(alloc, depth, *first, rest),
+        Terminal::Open => between_at(alloc, depth, *first, rest),
         _ => Err(Refusal::Syntax),
     }
 }
@@ -501,7 +506,7 @@ fn between_at<'t>(
     ensures fits { IfOk result (λ x. x.depth ≤ depth + 1) }
 {
     let inner = read(alloc, depth, Rule::Expression, tokens)?;
-    let (close, rest) = take(inner.rest, Word::Close)?;
+    let (close, rest) = take(inner.rest, Terminal::Close)?;
     Ok(Found {
         tree: inner.tree,
         unary: true,
@@ -526,9 +531,9 @@ fn named_at<'t>(
     ensures gives { Gives got result (named (read_at depth) depth name tokens.now) }
     ensures fits { IfOk result (λ x. x.depth ≤ depth + 1) }
 {
-    if begins_with(tokens, Word::Open) {
+    if begins_with(tokens, Terminal::Open) {
         let found = arguments_at(alloc, depth, past(tokens))?;
-        let (close, rest) = take(found.rest, Word::Close)?;
+        let (close, rest) = take(found.rest, Terminal::Close)?;
         let called = Name {
             from: name.from,
             to: name.to,
@@ -550,7 +555,7 @@ fn arguments_at<'t>(
     ensures gives { Gives got_arguments result (arguments (read_at depth) depth tokens.now) }
     ensures fits { IfOk result (λ x. x.depth ≤ depth) }
 {
-    if begins_with(tokens, Word::Close) {
+    if begins_with(tokens, Terminal::Close) {
         return Ok(FoundList {
             list: Vec::new(alloc),
             depth: 0,
@@ -580,7 +585,7 @@ fn arguments_all<'t>(
     ensures fits { IfOk result (λ x. x.depth ≤ depth) }
 {
     let mut so_far = first;
-    'arguments: while begins_with(so_far.rest, Word::Comma) {
+    'arguments: while begins_with(so_far.rest, Terminal::Comma) {
         so_far = argument_at(alloc, depth, so_far)?;
     }
     so_far.list.shrink_to_fit();

@@ -8,7 +8,7 @@ ghost use Rattle.cw_expressions.specs.Reading.{built};
 ghost use Rattle.cw_expressions.specs.View.{got};
 
 use crate::refusal::Refusal;
-use cw_grammar::words::Lexeme;
+use cw_grammar::terminals::Lexeme;
 use cw_syntax::program::{Expr, Name, Op};
 use std::alloc::{AllocError, Global};
 

@@ -5,109 +5,109 @@ ghost use Rattle.cw_grammar.specs.Operators.{sign, step, suffix, binary, assign}
 ghost use Rattle.cw_expressions.specs.Behind.{is_looser};
 ghost use Rattle.cw_expressions.specs.Reading.{next_of, at_level, binary_at, goes_on_at};
 
-use cw_grammar::words::{Lexeme, Word};
+use cw_grammar::terminals::{Lexeme, Terminal};
 
 /// The number of `+ - ! ~ * &` as an operator before an operand (ISO C11, 6.5.3).
-pub(crate) fn sign_of(word: Word) -> Option<u8>
-    ensures { result ≡ sign word }
+pub(crate) fn sign_of(terminal: Terminal) -> Option<u8>
+    ensures { result ≡ sign terminal }
 {
-    match word {
-        Word::Plus => Some(0),
-        Word::Minus => Some(1),
-        Word::Exclamation => Some(2),
-        Word::Tilde => Some(3),
-        Word::Star => Some(4),
-        Word::Ampersand => Some(5),
+    match terminal {
+        Terminal::Plus => Some(0),
+        Terminal::Minus => Some(1),
+        Terminal::Exclamation => Some(2),
+        Terminal::Tilde => Some(3),
+        Terminal::Star => Some(4),
+        Terminal::Ampersand => Some(5),
         _ => None,
     }
 }
 
 /// The number of `++` or `--` as an operator before a unary (ISO C11, 6.5.3.1).
-pub(crate) fn step_of(word: Word) -> Option<u8>
-    ensures { result ≡ step word }
+pub(crate) fn step_of(terminal: Terminal) -> Option<u8>
+    ensures { result ≡ step terminal }
 {
-    match word {
-        Word::PlusPlus => Some(6),
-        Word::MinusMinus => Some(7),
+    match terminal {
+        Terminal::PlusPlus => Some(6),
+        Terminal::MinusMinus => Some(7),
         _ => None,
     }
 }
 
 /// The number of `++` or `--` as an operator behind (ISO C11, 6.5.2.4).
 #[inline(always)]
-pub(crate) fn suffix_of(word: Word) -> Option<u8>
-    ensures { result ≡ suffix word }
+pub(crate) fn suffix_of(terminal: Terminal) -> Option<u8>
+    ensures { result ≡ suffix terminal }
 {
-    match word {
-        Word::PlusPlus => Some(0),
-        Word::MinusMinus => Some(1),
+    match terminal {
+        Terminal::PlusPlus => Some(0),
+        Terminal::MinusMinus => Some(1),
         _ => None,
     }
 }
 
 /// The number of a binary operator and its level, 1 to 10, of which 1 binds tightest (ISO C11, 6.5.5 to 6.5.14).
 #[inline(always)]
-fn binary_of(word: Word) -> Option<(u8, u32)>
-    ensures { result ≡ binary word }
+fn binary_of(terminal: Terminal) -> Option<(u8, u32)>
+    ensures { result ≡ binary terminal }
 {
-    match word {
-        Word::BarBar => Some((0, 10)),
-        Word::AmpersandAmpersand => Some((1, 9)),
-        Word::Bar => Some((2, 8)),
-        Word::Caret => Some((3, 7)),
-        Word::Ampersand => Some((4, 6)),
-        Word::Equal => Some((5, 5)),
-        Word::NotEqual => Some((6, 5)),
-        Word::Less => Some((7, 4)),
-        Word::LessEqual => Some((8, 4)),
-        Word::Greater => Some((9, 4)),
-        Word::GreaterEqual => Some((10, 4)),
-        Word::LeftShift => Some((11, 3)),
-        Word::RightShift => Some((12, 3)),
-        Word::Plus => Some((13, 2)),
-        Word::Minus => Some((14, 2)),
-        Word::Star => Some((15, 1)),
-        Word::Slash => Some((16, 1)),
-        Word::Percent => Some((17, 1)),
+    match terminal {
+        Terminal::BarBar => Some((0, 10)),
+        Terminal::AmpersandAmpersand => Some((1, 9)),
+        Terminal::Bar => Some((2, 8)),
+        Terminal::Caret => Some((3, 7)),
+        Terminal::Ampersand => Some((4, 6)),
+        Terminal::Equal => Some((5, 5)),
+        Terminal::NotEqual => Some((6, 5)),
+        Terminal::Less => Some((7, 4)),
+        Terminal::LessEqual => Some((8, 4)),
+        Terminal::Greater => Some((9, 4)),
+        Terminal::GreaterEqual => Some((10, 4)),
+        Terminal::LeftShift => Some((11, 3)),
+        Terminal::RightShift => Some((12, 3)),
+        Terminal::Plus => Some((13, 2)),
+        Terminal::Minus => Some((14, 2)),
+        Terminal::Star => Some((15, 1)),
+        Terminal::Slash => Some((16, 1)),
+        Terminal::Percent => Some((17, 1)),
         _ => None,
     }
 }
 
 /// The number of an operator that assigns (ISO C11, 6.5.16).
 #[inline(always)]
-fn assign_of(word: Word) -> Option<u8>
-    ensures { result ≡ assign word }
+fn assign_of(terminal: Terminal) -> Option<u8>
+    ensures { result ≡ assign terminal }
 {
-    match word {
-        Word::Assign => Some(0),
-        Word::AddAssign => Some(1),
-        Word::SubtractAssign => Some(2),
-        Word::MultiplyAssign => Some(3),
-        Word::DivideAssign => Some(4),
-        Word::RemainderAssign => Some(5),
-        Word::AndAssign => Some(6),
-        Word::OrAssign => Some(7),
-        Word::XorAssign => Some(8),
-        Word::LeftShiftAssign => Some(9),
-        Word::RightShiftAssign => Some(10),
+    match terminal {
+        Terminal::Assign => Some(0),
+        Terminal::AddAssign => Some(1),
+        Terminal::SubtractAssign => Some(2),
+        Terminal::MultiplyAssign => Some(3),
+        Terminal::DivideAssign => Some(4),
+        Terminal::RemainderAssign => Some(5),
+        Terminal::AndAssign => Some(6),
+        Terminal::OrAssign => Some(7),
+        Terminal::XorAssign => Some(8),
+        Terminal::LeftShiftAssign => Some(9),
+        Terminal::RightShiftAssign => Some(10),
         _ => None,
     }
 }
 
-/// Whether a word is an assignment's operator.
+/// Whether a terminal is an assignment's operator.
 #[inline(always)]
-pub(crate) fn is_assign(word: Word) -> bool
-    ensures { result ≡ is_some (assign word) }
+pub(crate) fn is_assign(terminal: Terminal) -> bool
+    ensures { result ≡ is_some (assign terminal) }
 {
-    assign_of(word).is_some()
+    assign_of(terminal).is_some()
 }
 
-/// Whether a word is a binary operator of a looser level than this one.
+/// Whether a terminal is a binary operator of a looser level than this one.
 #[inline(always)]
-pub(crate) fn is_looser(level: u32, word: Word) -> bool
-    ensures { result ≡ is_looser level (binary word) }
+pub(crate) fn is_looser(level: u32, terminal: Terminal) -> bool
+    ensures { result ≡ is_looser level (binary terminal) }
 {
-    match binary_of(word) {
+    match binary_of(terminal) {
         None => false,
         Some((_, found)) => level < found,
     }
@@ -120,7 +120,7 @@ pub(crate) fn suffix_next(tokens: &[Lexeme]) -> Option<u8>
 {
     match tokens {
         [] => None,
-        [first, ..] => suffix_of(first.word),
+        [first, ..] => suffix_of(first.terminal),
     }
 }
 
@@ -131,7 +131,7 @@ pub(crate) fn assign_next(tokens: &[Lexeme]) -> Option<u8>
 {
     match tokens {
         [] => None,
-        [first, ..] => assign_of(first.word),
+        [first, ..] => assign_of(first.terminal),
     }
 }
 
@@ -142,7 +142,7 @@ fn binary_next(tokens: &[Lexeme]) -> Option<(u8, u32)>
 {
     match tokens {
         [] => None,
-        [first, ..] => binary_of(first.word),
+        [first, ..] => binary_of(first.terminal),
     }
 }
 

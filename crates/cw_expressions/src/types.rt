@@ -6,24 +6,29 @@ ghost use Rattle.cw_expressions.specs.TypeReading.{starts_type, skip, unsigned_b
 
 use crate::cursor::{begins_with, past, take};
 use crate::refusal::Refusal;
-use cw_grammar::words::{Lexeme, Word};
+use cw_grammar::terminals::{Lexeme, Terminal};
 use cw_syntax::program::{Base, CType};
 
-/// Whether a word begins a type, or a type with `const`.
-pub(crate) fn begins_type(word: Word) -> bool
-    ensures starts { result ≡ starts_type word }
+/// Whether a terminal begins a type, or a type with `const`.
+pub(crate) fn begins_type(terminal: Terminal) -> bool
+    ensures starts { result ≡ starts_type terminal }
 {
-    match word {
-        Word::Const | Word::Void | Word::Unsigned | Word::Char | Word::Int | Word::Long => true,
+    match terminal {
+        Terminal::Const
+        | Terminal::Void
+        | Terminal::Unsigned
+        | Terminal::Char
+        | Terminal::Int
+        | Terminal::Long => true,
         _ => false,
     }
 }
 
-/// The tokens behind this word, if it stands there.
-fn past_word(tokens: &[Lexeme], word: Word) -> &[Lexeme]
-    ensures { result.now ≡ skip word tokens.now }
+/// The tokens behind this terminal, if it stands there.
+fn past_terminal(tokens: &[Lexeme], terminal: Terminal) -> &[Lexeme]
+    ensures { result.now ≡ skip terminal tokens.now }
 {
-    if begins_with(tokens, word) {
+    if begins_with(tokens, terminal) {
         past(tokens)
     } else {
         tokens
@@ -37,10 +42,10 @@ fn unsigned_base_at(tokens: &[Lexeme]) -> Result<((Base, bool), &[Lexeme]), Refu
 {
     match tokens {
         [] => Ok(((Base::Int, true), tokens)),
-        [first, rest @ ..] => match first.word {
-            Word::Char => Ok(((Base::Char, true), rest)),
-            Word::Int => Ok(((Base::Int, true), rest)),
-            Word::Long => Ok(((Base::Long, true), past_word(rest, Word::Int))),
+        [first, rest @ ..] => match first.terminal {
+            Terminal::Char => Ok(((Base::Char, true), rest)),
+            Terminal::Int => Ok(((Base::Int, true), rest)),
+            Terminal::Long => Ok(((Base::Long, true), past_terminal(rest, Terminal::Int))),
             _ => Ok(((Base::Int, true), tokens)),
         },
     }
@@ -53,12 +58,12 @@ pub fn base_at(tokens: &[Lexeme]) -> Result<((Base, bool), &[Lexeme]), Refusal>
 {
     match tokens {
         [] => Err(Refusal::Syntax),
-        [first, rest @ ..] => match first.word {
-            Word::Void => Ok(((Base::Void, false), rest)),
-            Word::Char => Ok(((Base::Char, false), rest)),
-            Word::Int => Ok(((Base::Int, false), rest)),
-            Word::Long => Ok(((Base::Long, false), past_word(rest, Word::Int))),
-            Word::Unsigned => unsigned_base_at(rest),
+        [first, rest @ ..] => match first.terminal {
+            Terminal::Void => Ok(((Base::Void, false), rest)),
+            Terminal::Char => Ok(((Base::Char, false), rest)),
+            Terminal::Int => Ok(((Base::Int, false), rest)),
+            Terminal::Long => Ok(((Base::Long, false), past_terminal(rest, Terminal::Int))),
+            Terminal::Unsigned => unsigned_base_at(rest),
             _ => Err(Refusal::Syntax),
         },
     }
@@ -69,9 +74,9 @@ pub fn base_at(tokens: &[Lexeme]) -> Result<((Base, bool), &[Lexeme]), Refusal>
 pub fn stars_at(tokens: &[Lexeme]) -> (u8, &[Lexeme])
     ensures stars { (result.0, result.1.now) ≡ stars_of tokens.now }
 {
-    if begins_with(tokens, Word::Star) {
+    if begins_with(tokens, Terminal::Star) {
         let rest = past(tokens);
-        if begins_with(rest, Word::Star) {
+        if begins_with(rest, Terminal::Star) {
             (2, past(rest))
         } else {
             (1, rest)
@@ -86,7 +91,7 @@ pub fn stars_at(tokens: &[Lexeme]) -> (u8, &[Lexeme])
 pub fn type_name_at(tokens: &[Lexeme]) -> Result<(CType, &[Lexeme]), Refusal>
     ensures kind { Gives (λ x. (x.0, x.1.now)) result (type_name tokens.now) }
 {
-    let ((base, unsigned), rest) = base_at(past_word(tokens, Word::Const))?;
+    let ((base, unsigned), rest) = base_at(past_terminal(tokens, Terminal::Const))?;
     let (stars, rest) = stars_at(rest);
     Ok((
         CType {
@@ -105,8 +110,8 @@ pub(crate) fn type_between_at(
 ) -> Result<((CType, (u32, u32)), &[Lexeme]), Refusal>
     ensures kind { Gives (λ x. (x.0, x.1.now)) result (type_between tokens.now) }
 {
-    let (open, rest) = take(tokens, Word::Open)?;
+    let (open, rest) = take(tokens, Terminal::Open)?;
     let (kind, rest) = type_name_at(rest)?;
-    let (close, rest) = take(rest, Word::Close)?;
+    let (close, rest) = take(rest, Terminal::Close)?;
     Ok(((kind, (open.from, close.to)), rest))
 }

@@ -39,7 +39,7 @@ pub seen_none : {K : Type 0} (cmp : K → K → Ordering) (index : K → ℕ) (h
 unfolding IsDistinct
 seen_none cmp index hints = record {
   once = tt;
-  marked = λ k c. absurd (contains_none k c);
+  noted = λ k c. absurd (contains_none k c);
   found = λ k c. absurd (contains_none k c);
   from = λ k c. absurd (contains_none k c);
 }
@@ -73,11 +73,11 @@ module _ {K : Type 0} (cmp : K → K → Ordering) (total : IsTotalOrder cmp) (e
       here : slice_get hinted (index k) ≡ Some (length keys + 1)
       here = get_set hints (index k) 0 (length keys + 1) free
 
-      marks : (q : K) → Contains (keys ++ k ∷ []) q → IsFree hinted (index q) → ⊥
-      marks q c none = elim (cases_eq (index q) (index k)) [
+      notes : (q : K) → Contains (keys ++ k ∷ []) q → IsFree hinted (index q) → ⊥
+      notes q c none = elim (cases_eq (index q) (index k)) [
         | inl e ↦ let z : length keys + 1 ≡ 0 = same_Some (length keys + 1) 0 (sym here ∙ subst (IsFree hinted) e none) in omega (arith, z)
         | inr n ↦ elim (Contains-push_cases keys k q c) [
-          | inl old ↦ h.marked q old (sym (get_other hints (index k) (index q) (length keys + 1) n) ∙ none)
+          | inl old ↦ h.noted q old (sym (get_other hints (index k) (index q) (length keys + 1) n) ∙ none)
           | inr e ↦ n (ap index (sym e))
         ]
       ]
@@ -85,7 +85,7 @@ module _ {K : Type 0} (cmp : K → K → Ordering) (total : IsTotalOrder cmp) (e
       finds : (q : K) → Contains (keys ++ k ∷ []) q → IsHinted (keys ++ k ∷ []) hinted (index q) q ⊎ Contains others q
       finds q c = elim (Contains-push_cases keys k q c) [
         | inl old ↦ elim (h.found q old) [
-          | inl f ↦ inl (f.0, get_other hints (index k) (index q) (length keys + 1) (λ e. h.marked q old (ap (slice_get hints) e ∙ free)) ∙ f.1, named_more keys (k ∷ []) f.0 q f.2)
+          | inl f ↦ inl (f.0, get_other hints (index k) (index q) (length keys + 1) (λ e. h.noted q old (ap (slice_get hints) e ∙ free)) ∙ f.1, named_more keys (k ∷ []) f.0 q f.2)
           | inr m ↦ inr m
         ]
         | inr e ↦ subst (λ (x : K). IsHinted (keys ++ k ∷ []) hinted (index x) x ⊎ Contains others x) e (inl (length keys + 1, here, named_last keys k))
@@ -93,8 +93,8 @@ module _ {K : Type 0} (cmp : K → K → Ordering) (total : IsTotalOrder cmp) (e
 
       pub seen_hinted : IsSeen cmp index (keys ++ k ∷ []) (set hints (index k) (length keys + 1)) others
       seen_hinted = record {
-        once = once_more keys k h.once (λ c. h.marked k c free);
-        marked = marks;
+        once = once_more keys k h.once (λ c. h.noted k c free);
+        noted = notes;
         found = finds;
         from = λ q c. Contains-append_left keys (k ∷ []) q (h.from q c);
       }
@@ -111,7 +111,7 @@ module _ {K : Type 0} (cmp : K → K → Ordering) (total : IsTotalOrder cmp) (e
       seen_again : contains cmp s k ≡ true → IsSeen cmp index keys hints n.keys
       seen_again t = record {
         once = h.once;
-        marked = h.marked;
+        noted = h.noted;
         found = λ q c. elim (h.found q c) [ inl g ↦ inl g | inr m ↦ inr (inserted_old cmp total exact s n k u q m) ];
         from = λ q c. elim (inserted_from cmp total exact s n k u q c) [ inl e ↦ subst (Contains keys) e (there t) | inr m ↦ h.from q m ];
       }
@@ -119,7 +119,7 @@ module _ {K : Type 0} (cmp : K → K → Ordering) (total : IsTotalOrder cmp) (e
       seen_among : contains cmp s k ≡ false → IsSeen cmp index (keys ++ k ∷ []) hints n.keys
       seen_among f = record {
         once = once_more keys k h.once (not_there f);
-        marked = λ q c. elim (Contains-push_cases keys k q c) [ inl old ↦ h.marked q old | inr e ↦ subst (λ (x : K). IsFree hints (index x) → ⊥) e free ];
+        noted = λ q c. elim (Contains-push_cases keys k q c) [ inl old ↦ h.noted q old | inr e ↦ subst (λ (x : K). IsFree hints (index x) → ⊥) e free ];
         found = λ q c. elim (Contains-push_cases keys k q c) [
           | inl old ↦ elim (h.found q old) [ inl g ↦ inl (g.0, g.1, named_more keys (k ∷ []) g.0 q g.2) | inr m ↦ inr (inserted_old cmp total exact s n k u q m) ]
           | inr e ↦ inr (subst (Contains n.keys) e (inserted_new cmp total exact s n k u))

@@ -4,8 +4,8 @@ use Rattle.std.specs.declared.cmp.Ordering.{Ordering}
 use Rattle.std.specs.Ordering.{eq_by_cmp}
 use Rattle.std.specs.List.{Contains, IsDistinct}
 use Rattle.cw_fixpoint.specs.declared.indexed.Seen.{Seen}
-use Rattle.cw_fixpoint.specs.declared.indexed.Told.{Told}
-use Rattle.cw_fixpoint.specs.declared.indexed.Told.TheVariants.{New, Old, Nothing}
+use Rattle.cw_fixpoint.specs.declared.indexed.Recalled.{Recalled}
+use Rattle.cw_fixpoint.specs.declared.indexed.Recalled.TheVariants.{New, Old, Nothing}
 
 -- the key that a hint names: it is the key's place, counted from 1
 abbrev pub named : {K : Type 0} → List K → ℕ → Option K
@@ -21,7 +21,7 @@ abbrev pub IsFree : (hints : List ℕ) (at : ℕ) → Type 0
 IsFree hints at = slice_get hints at ≡ Some 0
 
 -- what the hint at an index tells of a key
-abbrev pub Tells : {K : Type 0} → (keys : List K) (hints : List ℕ) (at : ℕ) → K → Told → Type 0
+abbrev pub Tells : {K : Type 0} → (keys : List K) (hints : List ℕ) (at : ℕ) → K → Recalled → Type 0
 Tells {K} keys hints at k New = IsFree hints at
 Tells {K} keys hints at k Old = IsHinted keys hints at k
 Tells {K} keys hints at k Nothing = (IsFree hints at → ⊥) × (IsHinted keys hints at k → ⊥)
@@ -29,7 +29,7 @@ Tells {K} keys hints at k Nothing = (IsFree hints at → ⊥) × (IsHinted keys 
 -- each key was seen once; the hint at its index isn't 0; and that hint names it, or it is one of the others
 pub record IsSeen {K : Type 0} (cmp : K → K → Ordering) (index : K → ℕ) (keys : List K) (hints : List ℕ) (others : List K) : Type 0 where
   pub once : IsDistinct (eq_by_cmp cmp) keys
-  pub marked : (k : K) → Contains keys k → IsFree hints (index k) → ⊥
+  pub noted : (k : K) → Contains keys k → IsFree hints (index k) → ⊥
   pub found : (k : K) → Contains keys k → IsHinted keys hints (index k) k ⊎ Contains others k
   pub from : (k : K) → Contains others k → Contains keys k
 

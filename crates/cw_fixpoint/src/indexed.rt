@@ -31,7 +31,7 @@ pub(crate) struct Seen<K: Ord + Copy + Drop> {
 
 /// What the hint at its index tells of a key: that none has come with this index, that the key has come, or nothing.
 #[derive(Clone, Copy, Drop)]
-pub(crate) enum Told {
+pub(crate) enum Recalled {
     New,
     Old,
     Nothing,
@@ -80,19 +80,19 @@ fn names<K: Ord + Copy + Drop>(keys: &[K], hint: usize, key: K) -> bool
 }
 
 /// What the hint at an index tells of a key.
-fn tell<K: Ord + Copy + Drop>(seen: &Seen<K>, at: usize, key: K) -> Told
+fn tell<K: Ord + Copy + Drop>(seen: &Seen<K>, at: usize, key: K) -> Recalled
     requires exact { IsAntisymmetric K.cmp }
     ensures { Tells seen.now.keys.items seen.now.hints.items at key result }
 {
     match seen.hints.get(at) {
-        None => Told::Nothing,
+        None => Recalled::Nothing,
         Some(hint) => {
             if *hint == 0 {
-                Told::New
+                Recalled::New
             } else if names(&seen.keys, *hint, key) {
-                Told::Old
+                Recalled::Old
             } else {
-                Told::Nothing
+                Recalled::Nothing
             }
         }
     }
@@ -137,12 +137,12 @@ pub(crate) fn see<K: Ord + Copy + Drop, I: Indices<K>>(
 {
     let at = indices.index_of(key);
     match tell(seen, at, key) {
-        Told::New => {
+        Recalled::New => {
             put_hinted(seen, at, key)?;
             Ok(())
         }
-        Told::Old => Ok(()),
-        Told::Nothing => {
+        Recalled::Old => Ok(()),
+        Recalled::Nothing => {
             put_other(seen, key)?;
             Ok(())
         }

@@ -11,14 +11,14 @@ use Rattle.std.proofs.Math.Seq.{take-append_seam}
 use Rattle.cw_lemmas.proofs.Truths.{and_false}
 use Rattle.cw_lex.specs.declared.tokens.TokenKind.{TokenKind}
 use Rattle.cw_lex.specs.declared.tokens.TokenKind.TheVariants as kind
-use Rattle.cw_lex.specs.declared.piece.Front.{Front}
-use Rattle.cw_lex.specs.declared.piece.Front.TheVariants as piece
+use Rattle.cw_lex.specs.declared.front.Front.{Front}
+use Rattle.cw_lex.specs.declared.front.Front.TheVariants as lexed
 use Rattle.cw_lex.specs.Bytes.{is_white, is_blank, is_line_byte, is_letter, is_digit, is_name_byte, is_number_byte, is_octal_digit, is_hexadecimal_digit}
 use Rattle.cw_lex.specs.Keywords.{is_keyword}
 use Rattle.cw_lex.specs.Numbers.{is_number}
 use Rattle.cw_lex.specs.Characters.{Spelled, spelled, escape_at, item_at, closed, character_len, more_by, text_len}
-use Rattle.cw_lex.specs.Marks.{three_byte_marks, two_byte_marks, one_byte_marks, begins, mark_len}
-use Rattle.cw_lex.specs.Pieces.{word, number, quoted, to_close, comment, is_include, line, directive, mark, piece_at, size}
+use Rattle.cw_lex.specs.Punctuators.{three_byte_punctuators, two_byte_punctuators, one_byte_punctuators, begins, punctuator_len}
+use Rattle.cw_lex.specs.Fronts.{identifier, number, quoted, to_close, comment, is_include, line, directive, punctuator, front_at, size}
 use Rattle.cw_lex.proofs.Alone.{both, chosen, more_is, by_item, text_long, longer_cut}
 use Rattle.cw_lex.proofs.Tokened.{no_directive}
 
@@ -200,9 +200,9 @@ include_same v r s =
         let n = run_stops is_name_byte (drop k v) 10 z refl in
         rw d (rw n (take-append-le (prefix_len is_name_byte (drop k v)) (drop k v) (10 ∷ z) (prefix_len-le-length is_name_byte (drop k v))))
 
--- ---- marks
+-- ---- punctuators
 
--- no mark goes on with a brace
+-- no punctuator goes on with a brace
 abbrev Plain : List (List ℕ) → Type 0
 Plain [] = Unit {0}
 Plain ((x ∷ (y ∷ w)) ∷ ws) = (eqb y 123 ≡ false) × Plain ws
@@ -218,42 +218,42 @@ no_brace ((x ∷ (y ∷ w)) ∷ ws) c r h = rw (h.0, no_brace ws c r h.1) (by (e
     by true = refl
     by false = refl
 
-two_plain : Plain two_byte_marks
+two_plain : Plain two_byte_punctuators
 two_plain = search rules
 
-three_plain : Plain three_byte_marks
+three_plain : Plain three_byte_punctuators
 three_plain = search rules
 
-abbrev marks : Bool → Bool → Bool → ℕ
-marks t u o = cond t 3 (cond u 2 (cond o 1 0))
+abbrev punctuators : Bool → Bool → Bool → ℕ
+punctuators t u o = cond t 3 (cond u 2 (cond o 1 0))
 
-one_mark : (t u o : Bool) → marks t u o ≡ 1 → (t ≡ false) × (u ≡ false)
-one_mark true u o e = absurd (omega arith)
-one_mark false true o e = absurd (omega arith)
-one_mark false false o e = (refl, refl)
+one_punctuator : (t u o : Bool) → punctuators t u o ≡ 1 → (t ≡ false) × (u ≡ false)
+one_punctuator true u o e = absurd (omega arith)
+one_punctuator false true o e = absurd (omega arith)
+one_punctuator false false o e = (refl, refl)
 
-two_mark : (t u o : Bool) → marks t u o ≡ 2 → t ≡ false
-two_mark true u o e = absurd (omega arith)
-two_mark false u o e = refl
+two_punctuator : (t u o : Bool) → punctuators t u o ≡ 2 → t ≡ false
+two_punctuator true u o e = absurd (omega arith)
+two_punctuator false u o e = refl
 
-few_marks : (t u o : Bool) → marks t u o ≤ 3
-few_marks true u o = omega arith
-few_marks false true o = omega arith
-few_marks false false true = omega arith
-few_marks false false false = omega arith
+few_punctuators : (t u o : Bool) → punctuators t u o ≤ 3
+few_punctuators true u o = omega arith
+few_punctuators false true o = omega arith
+few_punctuators false false true = omega arith
+few_punctuators false false false = omega arith
 
--- a mark of three bytes goes on from one of two
-longer_marks : (x y u v rest p q : Bool) → ((x && (y && true)) || ((u && (v && true)) || rest)) ≡ false → ((x && (y && p)) || ((u && (v && q)) || false)) ≡ false
-longer_marks true true u v rest p q e = absurd cc
-longer_marks true false true true rest p q e = absurd cc
-longer_marks true false true false rest p q e = refl
-longer_marks true false false v rest p q e = refl
-longer_marks false y true true rest p q e = absurd cc
-longer_marks false y true false rest p q e = refl
-longer_marks false y false v rest p q e = refl
+-- a punctuator of three bytes goes on from one of two
+longer_punctuators : (x y u v rest p q : Bool) → ((x && (y && true)) || ((u && (v && true)) || rest)) ≡ false → ((x && (y && p)) || ((u && (v && q)) || false)) ≡ false
+longer_punctuators true true u v rest p q e = absurd cc
+longer_punctuators true false true true rest p q e = absurd cc
+longer_punctuators true false true false rest p q e = refl
+longer_punctuators true false false v rest p q e = refl
+longer_punctuators false y true true rest p q e = absurd cc
+longer_punctuators false y true false rest p q e = refl
+longer_punctuators false y false v rest p q e = refl
 
-three_ended : (c a : ℕ) (r s : List ℕ) → begins two_byte_marks (c ∷ a ∷ r) ≡ false → begins three_byte_marks (c ∷ a ∷ s) ≡ false
-three_ended c a r s e = longer_marks (eqb 60 c) (eqb 60 a) (eqb 62 c) (eqb 62 a) _ _ _ e
+three_ended : (c a : ℕ) (r s : List ℕ) → begins two_byte_punctuators (c ∷ a ∷ r) ≡ false → begins three_byte_punctuators (c ∷ a ∷ s) ≡ false
+three_ended c a r s e = longer_punctuators (eqb 60 c) (eqb 60 a) (eqb 62 c) (eqb 62 a) _ _ _ e
 
 third_none : (x y u v : Bool) → ((x && (y && false)) || ((u && (v && false)) || false)) ≡ false
 third_none true true true true = refl
@@ -266,36 +266,36 @@ third_none false y true true = refl
 third_none false y true false = refl
 third_none false y false v = refl
 
-mark_ahead : (w : List ℕ) (a b : ℕ) (r s : List ℕ) → Follows a b → 0 < length w → mark_len (w ++ a ∷ r) ≡ length w → mark_len (w ++ b ∷ s) ≡ length w
-unfolding mark_len
-mark_ahead [] a b r s f some e = absurd (omega arith)
-mark_ahead (c ∷ []) a b r s (inl same) some e =
-    let h = one_mark (begins three_byte_marks (c ∷ a ∷ r)) (begins two_byte_marks (c ∷ a ∷ r)) (begins one_byte_marks (c ∷ a ∷ r)) e in
-    subst (λ (z : ℕ). mark_len (c ∷ z ∷ s) ≡ 1) (sym same) (rw (three_ended c a r s h.1, h.1) (rw (h.0, h.1) at e))
-mark_ahead (c ∷ []) a b r s (inr (brace, other)) some e =
-    let h = one_mark (begins three_byte_marks (c ∷ a ∷ r)) (begins two_byte_marks (c ∷ a ∷ r)) (begins one_byte_marks (c ∷ a ∷ r)) e in
-    subst (λ (z : ℕ). mark_len (c ∷ z ∷ s) ≡ 1) (sym brace) (rw (no_brace three_byte_marks c s three_plain, no_brace two_byte_marks c s two_plain) (rw (h.0, h.1) at e))
-mark_ahead (c ∷ (d ∷ [])) a b r s (inl same) some e = subst (λ (z : ℕ). mark_len (c ∷ d ∷ z ∷ s) ≡ 2) (sym same) e
-mark_ahead (c ∷ (d ∷ [])) a b r s (inr (brace, other)) some e =
-    let h = two_mark (begins three_byte_marks (c ∷ d ∷ a ∷ r)) (begins two_byte_marks (c ∷ d ∷ a ∷ r)) (begins one_byte_marks (c ∷ d ∷ a ∷ r)) e in
-    subst (λ (z : ℕ). mark_len (c ∷ d ∷ z ∷ s) ≡ 2) (sym brace) (rw (third_none (eqb 60 c) (eqb 60 d) (eqb 62 c) (eqb 62 d)) (rw h at e))
-mark_ahead (c ∷ (d ∷ (g ∷ []))) a b r s f some e = e
-mark_ahead (c ∷ (d ∷ (g ∷ (h ∷ w)))) a b r s f some e = absurd (let few = few_marks (begins three_byte_marks (c ∷ d ∷ g ∷ h ∷ w ++ a ∷ r)) (begins two_byte_marks
-    (c ∷ d ∷ g ∷ h ∷ w ++ a ∷ r)) (begins one_byte_marks (c ∷ d ∷ g ∷ h ∷ w ++ a ∷ r)) in omega (arith, few, e))
+punctuator_ahead : (w : List ℕ) (a b : ℕ) (r s : List ℕ) → Follows a b → 0 < length w → punctuator_len (w ++ a ∷ r) ≡ length w → punctuator_len (w ++ b ∷ s) ≡ length w
+unfolding punctuator_len
+punctuator_ahead [] a b r s f some e = absurd (omega arith)
+punctuator_ahead (c ∷ []) a b r s (inl same) some e =
+    let h = one_punctuator (begins three_byte_punctuators (c ∷ a ∷ r)) (begins two_byte_punctuators (c ∷ a ∷ r)) (begins one_byte_punctuators (c ∷ a ∷ r)) e in
+    subst (λ (z : ℕ). punctuator_len (c ∷ z ∷ s) ≡ 1) (sym same) (rw (three_ended c a r s h.1, h.1) (rw (h.0, h.1) at e))
+punctuator_ahead (c ∷ []) a b r s (inr (brace, other)) some e =
+    let h = one_punctuator (begins three_byte_punctuators (c ∷ a ∷ r)) (begins two_byte_punctuators (c ∷ a ∷ r)) (begins one_byte_punctuators (c ∷ a ∷ r)) e in
+    subst (λ (z : ℕ). punctuator_len (c ∷ z ∷ s) ≡ 1) (sym brace) (rw (no_brace three_byte_punctuators c s three_plain, no_brace two_byte_punctuators c s two_plain) (rw (h.0, h.1) at e))
+punctuator_ahead (c ∷ (d ∷ [])) a b r s (inl same) some e = subst (λ (z : ℕ). punctuator_len (c ∷ d ∷ z ∷ s) ≡ 2) (sym same) e
+punctuator_ahead (c ∷ (d ∷ [])) a b r s (inr (brace, other)) some e =
+    let h = two_punctuator (begins three_byte_punctuators (c ∷ d ∷ a ∷ r)) (begins two_byte_punctuators (c ∷ d ∷ a ∷ r)) (begins one_byte_punctuators (c ∷ d ∷ a ∷ r)) e in
+    subst (λ (z : ℕ). punctuator_len (c ∷ d ∷ z ∷ s) ≡ 2) (sym brace) (rw (third_none (eqb 60 c) (eqb 60 d) (eqb 62 c) (eqb 62 d)) (rw h at e))
+punctuator_ahead (c ∷ (d ∷ (g ∷ []))) a b r s f some e = e
+punctuator_ahead (c ∷ (d ∷ (g ∷ (h ∷ w)))) a b r s f some e = absurd (let few = few_punctuators (begins three_byte_punctuators (c ∷ d ∷ g ∷ h ∷ w ++ a ∷ r)) (begins two_byte_punctuators
+    (c ∷ d ∷ g ∷ h ∷ w ++ a ∷ r)) (begins one_byte_punctuators (c ∷ d ∷ g ∷ h ∷ w ++ a ∷ r)) in omega (arith, few, e))
 
--- ---- pieces
+-- ---- fronts
 
-gap_as : (m n : ℕ) (p : Front) → n ≡ m → piece.Gap m ≡ p → piece.Gap n ≡ p
-gap_as m n p same is = ap (λ (k : ℕ). piece.Gap k) same ∙ is
+gap_as : (m n : ℕ) (p : Front) → n ≡ m → lexed.Gap m ≡ p → lexed.Gap n ≡ p
+gap_as m n p same is = ap (λ (k : ℕ). lexed.Gap k) same ∙ is
 
-gap_size : (m : ℕ) (p : Front) (n : ℕ) → size p ≡ n → piece.Gap m ≡ p → m ≡ n
+gap_size : (m : ℕ) (p : Front) (n : ℕ) → size p ≡ n → lexed.Gap m ≡ p → m ≡ n
 gap_size m p n long is = ap size is ∙ long
 
-fault_none : (d : _) (p : Front) → 0 < size p → piece.Fault d ≡ p → ⊥
+fault_none : (d : _) (p : Front) → 0 < size p → lexed.Fault d ≡ p → ⊥
 fault_none d p some is = let z : 0 ≡ size p = ap size is in omega arith
 
-word_size : (text : List ℕ) (p : Front) → word text ≡ p → length text ≡ size p
-word_size text p e = chosen (is_keyword text) _ _ p _ (λ t h. ap size h) (λ t h. ap size h) e
+identifier_size : (text : List ℕ) (p : Front) → identifier text ≡ p → length text ≡ size p
+identifier_size text p e = chosen (is_keyword text) _ _ p _ (λ t h. ap size h) (λ t h. ap size h) e
 
 number_size : (text : List ℕ) (p : Front) → 0 < size p → number text ≡ p → length text ≡ size p
 number_size text p some e = chosen (is_number text) _ _ p _ (λ t h. ap size h) (λ t h. absurd (fault_none _ p some h)) e
@@ -307,8 +307,8 @@ quoted_ahead k (Some m) u n p some long same e =
     let is : m ≡ n = omega arith in
     rw (same (ap (λ (j : ℕ). Some j) is)) (rw is at e)
 
-mark_size : (n : ℕ) (p : Front) → 0 < size p → mark n ≡ p → n ≡ size p
-mark_size n p some e = chosen (eqb n 0) _ _ p _ (λ t h. absurd (fault_none _ p some h)) (λ t h. ap size h) e
+punctuator_size : (n : ℕ) (p : Front) → 0 < size p → punctuator n ≡ p → n ≡ size p
+punctuator_size n p some e = chosen (eqb n 0) _ _ p _ (λ t h. absurd (fault_none _ p some h)) (λ t h. ap size h) e
 
 line_ahead : (w : List ℕ) (a b : ℕ) (r s : List ℕ) (p : Front) → Follows a b → size p ≡ length w → line (w ++ a ∷ r) ≡ p → ((a ≡ 10) × (b ≡ 10)) × (line (w ++ b ∷ s) ≡ p)
 line_ahead w a b r s p f long e =
@@ -363,26 +363,26 @@ lines_ahead c [] a b r s p x y f long rest e = chosen (starts_with nat_eq (c ∷
 lines_ahead c (d ∷ v) a b r s p x y f long rest e = both (starts_with nat_eq (c ∷ d ∷ v ++ a ∷ r) (codes "//")) _ _ _ _ p
     (λ h. (line_ahead (c ∷ d ∷ v) a b r s p f long h).1) rest e
 
-pub ahead : (f : Bool) (w : List ℕ) (a b : ℕ) (r s : List ℕ) (p : Front) → Follows a b → 0 < size p → size p ≡ length w → piece_at f (w ++ a ∷ r) ≡ p → piece_at f (w ++ b ∷ s) ≡ p
-unfolding piece_at
+pub ahead : (f : Bool) (w : List ℕ) (a b : ℕ) (r s : List ℕ) (p : Front) → Follows a b → 0 < size p → size p ≡ length w → front_at f (w ++ a ∷ r) ≡ p → front_at f (w ++ b ∷ s) ≡ p
+unfolding front_at
 ahead f [] a b r s p fo some long e = absurd (omega arith)
 ahead f (c ∷ v) a b r s p fo some long e =
     both (is_white c) _ _ _ _ p (λ h. (let is = gap_size _ p (suc (length v)) long h in gap_as _ _ p (run_all is_white (c ∷ v) a b r s refl fo is ∙ sym is) h)) (λ h1.
-    both (is_letter c) _ _ _ _ p (λ h. ap word (while_all is_name_byte (c ∷ v) a b r s refl fo (word_size _ p h ∙ long)) ∙ h) (λ h2.
+    both (is_letter c) _ _ _ _ p (λ h. ap identifier (while_all is_name_byte (c ∷ v) a b r s refl fo (identifier_size _ p h ∙ long)) ∙ h) (λ h2.
     both (is_digit c) _ _ _ _ p (λ h. ap number (while_all is_number_byte (c ∷ v) a b r s refl fo (number_size _ p some h ∙ long)) ∙ h) (λ h3.
     both (eqb c 39) _ _ _ _ p (λ h. quoted_ahead kind.Character _ _ (length v) p some long (character_few v (a ∷ r) (b ∷ s)) h) (λ h4.
     both (eqb c 34) _ _ _ _ p (λ h. quoted_ahead kind.Text _ _ (length v) p some long (text_few 0 v (a ∷ r) (b ∷ s)) h) (λ h5.
     both (eqb c 35) _ _ _ _ p (λ h. directive_ahead f c v a b r s p fo some long h) (λ h6.
     comment_ahead c v a b r s p _ _ fo some long (λ h7.
     lines_ahead c v a b r s p _ _ fo long (λ h8.
-    (let is : mark_len (c ∷ v ++ a ∷ r) ≡ suc (length v) = mark_size _ p some h8 ∙ long in ap mark (mark_ahead (c ∷ v) a b r s fo (omega arith) is ∙ sym is) ∙ h8)) h7) h6) h5) h4) h3) h2) h1) e
+    (let is : punctuator_len (c ∷ v ++ a ∷ r) ≡ suc (length v) = punctuator_size _ p some h8 ∙ long in ap punctuator (punctuator_ahead (c ∷ v) a b r s fo (omega arith) is ∙ sym is) ∙ h8)) h7) h6) h5) h4) h3) h2) h1) e
 
 -- a token is one whatever stands before it on its line
-pub any_line : (f g : Bool) (bs : List ℕ) (k : TokenKind) (n : ℕ) → piece_at f bs ≡ piece.Token k n → piece_at g bs ≡ piece.Token k n
-unfolding piece_at
+pub any_line : (f g : Bool) (bs : List ℕ) (k : TokenKind) (n : ℕ) → front_at f bs ≡ lexed.Token k n → front_at g bs ≡ lexed.Token k n
+unfolding front_at
 any_line f g [] k n e = e
 any_line f g (c ∷ bs) k n e =
-    let v = piece.Token k n in
+    let v = lexed.Token k n in
     both (is_white c) _ _ _ _ v (λ h. h) (λ h1.
     both (is_letter c) _ _ _ _ v (λ h. h) (λ h2.
     both (is_digit c) _ _ _ _ v (λ h. h) (λ h3.
@@ -391,10 +391,10 @@ any_line f g (c ∷ bs) k n e =
     both (eqb c 35) _ _ _ _ v (λ h. absurd (no_directive f (c ∷ bs) k n h)) (λ h. h) h5) h4) h3) h2) h1) e
 
 -- no token begins with a line feed
-pub no_feed : (f : Bool) (a : ℕ) (r : List ℕ) (k : TokenKind) (n : ℕ) → piece_at f (a ∷ r) ≡ piece.Token k n → eqb a 10 ≡ false
-unfolding piece_at
+pub no_feed : (f : Bool) (a : ℕ) (r : List ℕ) (k : TokenKind) (n : ℕ) → front_at f (a ∷ r) ≡ lexed.Token k n → eqb a 10 ≡ false
+unfolding front_at
 no_feed f a r k n e = by (eqb a 10) refl
   where
     by : (t : Bool) → eqb a 10 ≡ t → t ≡ false
-    by true is = absurd (let z : piece_at f (10 ∷ r) ≡ piece.Token k n = subst (λ (x : ℕ). piece_at f (x ∷ r) ≡ piece.Token k n) (eqb-true a 10 is) e in cc)
+    by true is = absurd (let z : front_at f (10 ∷ r) ≡ lexed.Token k n = subst (λ (x : ℕ). front_at f (x ∷ r) ≡ lexed.Token k n) (eqb-true a 10 is) e in cc)
     by false is = refl

@@ -3,14 +3,14 @@ use Rattle.std.proofs.Common.{◌≡◌, ◌≢◌, ℕ, zero, suc, ◌+◌, ◌
 use Rattle.std.proofs.lemmas.List.{append-nil, append_assoc}
 use Rattle.cw_syntax.specs.declared.program.Op.TheVariants as op
 use Rattle.cw_syntax.specs.Trees.{Tree, Statement, Stated, Form, Block, Evaluates, Empties, Chooses, Fors, nothing}
-use Rattle.cw_grammar.specs.declared.words.Word.TheVariants as w
-use Rattle.cw_grammar.specs.declared.words.Lexeme.{Lexeme}
+use Rattle.cw_grammar.specs.declared.terminals.Terminal.TheVariants as w
+use Rattle.cw_grammar.specs.declared.terminals.Lexeme.{Lexeme}
 use Rattle.cw_grammar.specs.declared.rules.Rule.TheVariants.{Expression, Level}
 use Rattle.cw_grammar.specs.Lexemes.{Is, name_of, from_of, to_of, statements}
 use Rattle.cw_grammar.specs.Expressions.{loosest, Derives, node, IsLevel, IsDerived, IsExpression}
 use Rattle.cw_grammar.specs.Statements.{Place, InBlock, BeforeElse, Elsewhere, IsStatement}
 use Rattle.cw_grammar.proofs.Deeper.{expression_deeper}
-use Rattle.cw_forms.specs.Pieces.{opened, closed}
+use Rattle.cw_forms.specs.Stretches.{opening, closed}
 
 up : (P : Derives) (l : ℕ) (ts : List Lexeme) (e : Tree) → IsLevel P 0 ts e → IsLevel P l ts e
 up P zero ts e h = h
@@ -52,70 +52,70 @@ module _ (limit : ℕ) (enough : 2 ≤ limit) where
   -- at these two places, with these tokens between that are the call
   module _ (p q : ℕ) (us : List Lexeme) (first : Statement) (first_is : IsStatement limit 2 InBlock us first) where
     abbrev b1 : Lexeme
-    b1 = record { word = w.OpenBrace; from = p; to = p + 1 }
+    b1 = record { terminal = w.OpenBrace; from = p; to = p + 1 }
 
     abbrev i : Lexeme
-    i = record { word = w.If; from = p + 1; to = p + 1 + 2 }
+    i = record { terminal = w.If; from = p + 1; to = p + 1 + 2 }
 
     abbrev o1 : Lexeme
-    o1 = record { word = w.Open; from = p + 1 + 2; to = p + 1 + 2 + 1 }
+    o1 = record { terminal = w.Open; from = p + 1 + 2; to = p + 1 + 2 + 1 }
 
     abbrev x : Lexeme
-    x = record { word = w.Exclamation; from = p + 1 + 2 + 1; to = p + 1 + 2 + 1 + 1 }
+    x = record { terminal = w.Exclamation; from = p + 1 + 2 + 1; to = p + 1 + 2 + 1 + 1 }
 
     abbrev f : Lexeme
-    f = record { word = w.Name; from = p + 1 + 2 + 1 + 1; to = p + 1 + 2 + 1 + 1 + 4 }
+    f = record { terminal = w.Name; from = p + 1 + 2 + 1 + 1; to = p + 1 + 2 + 1 + 1 + 4 }
 
     abbrev o2 : Lexeme
-    o2 = record { word = w.Open; from = p + 1 + 2 + 1 + 1 + 4; to = p + 1 + 2 + 1 + 1 + 4 + 1 }
+    o2 = record { terminal = w.Open; from = p + 1 + 2 + 1 + 1 + 4; to = p + 1 + 2 + 1 + 1 + 4 + 1 }
 
     abbrev c2 : Lexeme
-    c2 = record { word = w.Close; from = p + 1 + 2 + 1 + 1 + 4 + 1; to = p + 1 + 2 + 1 + 1 + 4 + 1 + 1 }
+    c2 = record { terminal = w.Close; from = p + 1 + 2 + 1 + 1 + 4 + 1; to = p + 1 + 2 + 1 + 1 + 4 + 1 + 1 }
 
     abbrev c1 : Lexeme
-    c1 = record { word = w.Close; from = p + 1 + 2 + 1 + 1 + 4 + 1 + 1; to = p + 1 + 2 + 1 + 1 + 4 + 1 + 1 + 1 }
+    c1 = record { terminal = w.Close; from = p + 1 + 2 + 1 + 1 + 4 + 1 + 1; to = p + 1 + 2 + 1 + 1 + 4 + 1 + 1 + 1 }
 
     abbrev b2 : Lexeme
-    b2 = record { word = w.OpenBrace; from = p + 1 + 2 + 1 + 1 + 4 + 1 + 1 + 1; to = p + 1 + 2 + 1 + 1 + 4 + 1 + 1 + 1 + 1 }
+    b2 = record { terminal = w.OpenBrace; from = p + 1 + 2 + 1 + 1 + 4 + 1 + 1 + 1; to = p + 1 + 2 + 1 + 1 + 4 + 1 + 1 + 1 + 1 }
 
     abbrev g : Lexeme
-    g = record { word = w.Name; from = q; to = q + 5 }
+    g = record { terminal = w.Name; from = q; to = q + 5 }
 
     abbrev p1 : Lexeme
-    p1 = record { word = w.Open; from = q + 5; to = q + 5 + 1 }
+    p1 = record { terminal = w.Open; from = q + 5; to = q + 5 + 1 }
 
     abbrev z : Lexeme
-    z = record { word = w.Number 0; from = q + 5 + 1; to = q + 5 + 1 + 1 }
+    z = record { terminal = w.Number 0; from = q + 5 + 1; to = q + 5 + 1 + 1 }
 
     abbrev q1 : Lexeme
-    q1 = record { word = w.Close; from = q + 5 + 1 + 1; to = q + 5 + 1 + 1 + 1 }
+    q1 = record { terminal = w.Close; from = q + 5 + 1 + 1; to = q + 5 + 1 + 1 + 1 }
 
     abbrev s1 : Lexeme
-    s1 = record { word = w.Semicolon; from = q + 5 + 1 + 1 + 1; to = q + 5 + 1 + 1 + 1 + 1 }
+    s1 = record { terminal = w.Semicolon; from = q + 5 + 1 + 1 + 1; to = q + 5 + 1 + 1 + 1 + 1 }
 
     abbrev l : Lexeme
-    l = record { word = w.For; from = q + 5 + 1 + 1 + 1 + 1; to = q + 5 + 1 + 1 + 1 + 1 + 3 }
+    l = record { terminal = w.For; from = q + 5 + 1 + 1 + 1 + 1; to = q + 5 + 1 + 1 + 1 + 1 + 3 }
 
     abbrev p2 : Lexeme
-    p2 = record { word = w.Open; from = q + 5 + 1 + 1 + 1 + 1 + 3; to = q + 5 + 1 + 1 + 1 + 1 + 3 + 1 }
+    p2 = record { terminal = w.Open; from = q + 5 + 1 + 1 + 1 + 1 + 3; to = q + 5 + 1 + 1 + 1 + 1 + 3 + 1 }
 
     abbrev s2 : Lexeme
-    s2 = record { word = w.Semicolon; from = q + 5 + 1 + 1 + 1 + 1 + 3 + 1; to = q + 5 + 1 + 1 + 1 + 1 + 3 + 1 + 1 }
+    s2 = record { terminal = w.Semicolon; from = q + 5 + 1 + 1 + 1 + 1 + 3 + 1; to = q + 5 + 1 + 1 + 1 + 1 + 3 + 1 + 1 }
 
     abbrev s3 : Lexeme
-    s3 = record { word = w.Semicolon; from = q + 5 + 1 + 1 + 1 + 1 + 3 + 1 + 1; to = q + 5 + 1 + 1 + 1 + 1 + 3 + 1 + 1 + 1 }
+    s3 = record { terminal = w.Semicolon; from = q + 5 + 1 + 1 + 1 + 1 + 3 + 1 + 1; to = q + 5 + 1 + 1 + 1 + 1 + 3 + 1 + 1 + 1 }
 
     abbrev q2 : Lexeme
-    q2 = record { word = w.Close; from = q + 5 + 1 + 1 + 1 + 1 + 3 + 1 + 1 + 1; to = q + 5 + 1 + 1 + 1 + 1 + 3 + 1 + 1 + 1 + 1 }
+    q2 = record { terminal = w.Close; from = q + 5 + 1 + 1 + 1 + 1 + 3 + 1 + 1 + 1; to = q + 5 + 1 + 1 + 1 + 1 + 3 + 1 + 1 + 1 + 1 }
 
     abbrev s4 : Lexeme
-    s4 = record { word = w.Semicolon; from = q + 5 + 1 + 1 + 1 + 1 + 3 + 1 + 1 + 1 + 1; to = q + 5 + 1 + 1 + 1 + 1 + 3 + 1 + 1 + 1 + 1 + 1 }
+    s4 = record { terminal = w.Semicolon; from = q + 5 + 1 + 1 + 1 + 1 + 3 + 1 + 1 + 1 + 1; to = q + 5 + 1 + 1 + 1 + 1 + 3 + 1 + 1 + 1 + 1 + 1 }
 
     abbrev d1 : Lexeme
-    d1 = record { word = w.CloseBrace; from = q + 5 + 1 + 1 + 1 + 1 + 3 + 1 + 1 + 1 + 1 + 1; to = q + 5 + 1 + 1 + 1 + 1 + 3 + 1 + 1 + 1 + 1 + 1 + 1 }
+    d1 = record { terminal = w.CloseBrace; from = q + 5 + 1 + 1 + 1 + 1 + 3 + 1 + 1 + 1 + 1 + 1; to = q + 5 + 1 + 1 + 1 + 1 + 3 + 1 + 1 + 1 + 1 + 1 + 1 }
 
     abbrev d2 : Lexeme
-    d2 = record { word = w.CloseBrace; from = q + 5 + 1 + 1 + 1 + 1 + 3 + 1 + 1 + 1 + 1 + 1 + 1; to = q + 5 + 1 + 1 + 1 + 1 + 3 + 1 + 1 + 1 + 1 + 1 + 1 + 1 }
+    d2 = record { terminal = w.CloseBrace; from = q + 5 + 1 + 1 + 1 + 1 + 3 + 1 + 1 + 1 + 1 + 1 + 1; to = q + 5 + 1 + 1 + 1 + 1 + 3 + 1 + 1 + 1 + 1 + 1 + 1 + 1 }
 
     abbrev exit_tokens : List Lexeme
     exit_tokens = g ∷ p1 ∷ z ∷ q1 ∷ s1 ∷ []
@@ -201,10 +201,10 @@ module _ (limit : ℕ) (enough : 2 ≤ limit) where
     whole_is place =
         (refl, refl, (choice ∷ [], refl, (b1, choice_tokens, d2, refl, refl, refl, (choice_tokens, [], sym (append-nil choice_tokens), choice_is, refl))))
 
-    tokens_are : all_tokens ≡ opened p ++ (us ++ (closed q ++ []))
+    tokens_are : all_tokens ≡ opening p ++ (us ++ (closed q ++ []))
     tokens_are =
         let e = exit_tokens ++ loop_tokens in
         ap (λ (k : List Lexeme). b1 ∷ i ∷ o1 ∷ x ∷ f ∷ o2 ∷ c2 ∷ c1 ∷ b2 ∷ k) (append_assoc (us ++ e) (d1 ∷ []) (d2 ∷ []) ∙ append_assoc us e (d1 ∷ d2 ∷ []))
 
-    pub brought_is : (place : Place) → IsStatement limit 5 place (opened p ++ (us ++ (closed q ++ []))) whole
+    pub brought_is : (place : Place) → IsStatement limit 5 place (opening p ++ (us ++ (closed q ++ []))) whole
     brought_is place = subst (λ (k : List Lexeme). IsStatement limit 5 place k whole) tokens_are (whole_is place)

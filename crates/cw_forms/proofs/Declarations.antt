@@ -4,14 +4,14 @@ use Rattle.cw_syntax.specs.declared.program.Name.{Name}
 use Rattle.cw_syntax.specs.declared.program.CType.{CType}
 use Rattle.cw_syntax.specs.declared.program.Param.{Param}
 use Rattle.cw_syntax.specs.Trees.{Tree, Trees, none, more, Declared, Declaration, Prototype}
-use Rattle.cw_grammar.specs.declared.words.Word.TheVariants as w
-use Rattle.cw_grammar.specs.declared.words.Lexeme.{Lexeme}
+use Rattle.cw_grammar.specs.declared.terminals.Terminal.TheVariants as w
+use Rattle.cw_grammar.specs.declared.terminals.Lexeme.{Lexeme}
 use Rattle.cw_grammar.specs.Lexemes.{Is, name_of, from_of, to_of, IsOptional, AreSeparated, IsBetween, trees}
 use Rattle.cw_grammar.specs.Declarations.{Expressions, IsName, IsStorage, Specifiers, AreSpecifiers, IsArray, AreElements, IsInitialiser, IsItem, IsDeclaration, IsBrackets, IsParam, AreParams}
 use Rattle.cw_grammar.specs.Declarations.{IsHeader, IsPrototype}
 use Rattle.cw_forms.specs.Moved.{moved, Pairs, AreKept, SameName, Alike, AllAlike}
 use Rattle.cw_forms.specs.Declared.{Both, MovedName, SameParam, SameItem, SameDeclaration, SamePrototype}
-use Rattle.cw_forms.proofs.Kept.{words_moved, empty_moved, parts_moved, three_moved, flag_moved, type_moved, stars_moved, type_name_moved, kept_as, kept_parts, Moves, separated_moves}
+use Rattle.cw_forms.proofs.Kept.{terminals_moved, empty_moved, parts_moved, three_moved, flag_moved, type_moved, stars_moved, type_name_moved, kept_as, kept_parts, Moves, separated_moves}
 use Rattle.cw_forms.proofs.Kept.{between_moves, ended_moves, trees_alike}
 
 pub pairs_length : {X Y : Type 0} (R : X → Y → Type 0) (xs : List X) (ys : List Y) → Pairs R xs ys → length ys ≡ length xs
@@ -22,8 +22,8 @@ pairs_length R (x ∷ xs) (y ∷ ys) h = let rest = pairs_length R xs ys h.1 in 
 
 storage_moved : (d : ℕ) (ts : List Lexeme) (external fixed : Bool) → IsStorage ts external fixed → IsStorage (map (moved d) ts) external fixed
 storage_moved d ts false false h = empty_moved d ts h
-storage_moved d ts true false h = words_moved d ts ∙ h
-storage_moved d ts false true h = words_moved d ts ∙ h
+storage_moved d ts true false h = terminals_moved d ts ∙ h
+storage_moved d ts false true h = terminals_moved d ts ∙ h
 storage_moved d ts true true h = absurd h
 
 specifiers_moved : (d : ℕ) (ts : List Lexeme) (specs : Specifiers) → AreSpecifiers ts specs → AreSpecifiers (map (moved d) ts) specs
@@ -41,7 +41,7 @@ four_moved : (d : ℕ) (ts a b c e : List Lexeme) → ts ≡ a ++ (b ++ (c ++ e)
 four_moved d ts a b c e whole = parts_moved d ts a (b ++ (c ++ e)) whole ∙ ap (λ (z : List Lexeme). map (moved d) a ++ z) (three_moved d (b ++ (c ++ e)) b c e refl)
 
 brackets_moved : (d : ℕ) (ts : List Lexeme) (b : Bool) → IsBrackets ts b → IsBrackets (map (moved d) ts) b
-brackets_moved d ts true h = words_moved d ts ∙ h
+brackets_moved d ts true h = terminals_moved d ts ∙ h
 brackets_moved d ts false h = empty_moved d ts h
 
 module _ (source form : List ℕ) (d : ℕ) where
@@ -155,10 +155,10 @@ module _ (source form : List ℕ) (d : ℕ) where
       (q, (m a, m b, m c, three_moved d ts a b c whole, type_name_moved d a p.kind kind, n.1, brackets_moved d c p.array brackets), n.2)
 
   params_moves : Moves source form d AreParams (Pairs (SameParam source form))
-  params_moves ts ps k (inl (only, none_there)) = ([], inl (words_moved d ts ∙ only, refl), subst (λ (z : List Param). Pairs (SameParam source form) z []) (sym none_there) tt)
+  params_moves ts ps k (inl (only, none_there)) = ([], inl (terminals_moved d ts ∙ only, refl), subst (λ (z : List Param). Pairs (SameParam source form) z []) (sym none_there) tt)
   params_moves ts ps k (inr (other, are)) =
       let q = separated_moves source form d IsParam (SameParam source form) param_moves ps ts k are in
-      (q.0, inr ((λ e. other (sym (words_moved d ts) ∙ e)), q.1), q.2)
+      (q.0, inr ((λ e. other (sym (terminals_moved d ts) ∙ e)), q.1), q.2)
 
   pub header_moves : (ts : List Lexeme) (name : Name) (result : CType) (params : List Param) → K ts → IsHeader ts name result params
       → (n : Name) × (ps : List Param) × IsHeader (m ts) n result ps × MovedName source form d name n × Pairs (SameParam source form) params ps

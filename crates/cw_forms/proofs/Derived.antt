@@ -4,23 +4,23 @@ use Rattle.std.specs.List.{filter_map, list_all}
 use Rattle.cw_syntax.specs.Names.{slice}
 use Rattle.cw_syntax.specs.Trees.{Statement, Stated, Block, Declares, Evaluates, Empties, Labels, Chooses, Whiles, Does, Fors, Breaks, Continues, Returns, File}
 use Rattle.cw_lex.specs.declared.tokens.Token.{Token}
-use Rattle.cw_lex.specs.Marks.{HasNoMarker}
+use Rattle.cw_lex.specs.Punctuators.{HasNoMarker}
 use Rattle.cw_lex.specs.Listed.{AreInOrder}
 use Rattle.cw_lex.proofs.Ordered.{tokens_in_order}
 use Rattle.cw_lex.specs.Tokens.{Stand, tokens_of, AreTokens}
-use Rattle.cw_grammar.specs.declared.words.Lexeme.{Lexeme}
+use Rattle.cw_grammar.specs.declared.terminals.Lexeme.{Lexeme}
 use Rattle.cw_grammar.specs.Lexemes.{AreAll}
 use Rattle.cw_grammar.specs.Spelling.{lexemes_of}
 use Rattle.cw_grammar.specs.Expressions.{nesting_limit}
 use Rattle.cw_grammar.specs.Files.{Part as FilePart, IsPart, IsProgram, file_of}
-use Rattle.cw_scope.specs.Walks.{Placed, every_statement}
+use Rattle.cw_scope.specs.Walks.{Nested, every_statement}
 use Rattle.cw_source.specs.Read.{ReadsAs}
 use Rattle.cw_source.proofs.Lying.{lie_of}
 use Rattle.cw_core.specs.declared.quantity.Quantity.TheVariants.{Nesting}
 use Rattle.cw_core.specs.Quantities.{limit_of}
 use Rattle.cw_detach.specs.Form.{before, behind, calls_one, span_of, form_from, form_of, nesting_all}
 use Rattle.cw_detach.specs.Faults.{is_shallow}
-use Rattle.cw_forms.specs.Pieces.{lefts}
+use Rattle.cw_forms.specs.Stretches.{lefts}
 use Rattle.cw_forms.specs.Spans.{spans_of, with_texts}
 use Rattle.cw_forms.specs.Statements.{pairs_in}
 use Rattle.cw_forms.specs.Derived.{FormDerives}
@@ -29,8 +29,8 @@ use Rattle.cw_forms.proofs.Lexing.{lexing}
 use Rattle.cw_forms.proofs.FilesFormed.{parts_formed, shallow_each}
 
 -- the form, by its spans as pairs
-module _ (source : List ℕ) (names : List (List ℕ)) (ps : List Placed) (looped : Bool) where
-  abbrev Linked : List Placed → ℕ → Type 0
+module _ (source : List ℕ) (names : List (List ℕ)) (ps : List Nested) (looped : Bool) where
+  abbrev Linked : List Nested → ℕ → Type 0
   Linked qs at = form_from source at (filter_map (λ p. span_of source names p.statement) qs) ≡ with_texts source at (pairs_in source names qs)
 
   one_linked : (st : Statement) (at : ℕ) → ((b : ℕ) → Linked ps b) → Linked (record { statement = st; looped = looped } ∷ ps) at
@@ -52,7 +52,7 @@ module _ (source : List ℕ) (names : List (List ℕ)) (ps : List Placed) (loope
   one_linked (Stated Continues a b) at rest = rest at
   one_linked (Stated (Returns value) a b) at rest = rest at
 
-linked : (source : List ℕ) (names : List (List ℕ)) (ps : List Placed) (at : ℕ) → Linked source names ps true ps at
+linked : (source : List ℕ) (names : List (List ℕ)) (ps : List Nested) (at : ℕ) → Linked source names ps true ps at
 unfolding form_from with_texts
 linked source names [] at = refl
 linked source names (p ∷ ps) at = one_linked source names ps p.looped p.statement at (λ b. linked source names ps b)
@@ -83,24 +83,24 @@ module _ (source : List ℕ) (names : List (List ℕ)) (parts : List FilePart) (
       let part = parts_formed source form names nesting_limit enough parts (lexemes_of source tokens) 0 (length source) all
       (lie_of source 0 (length source) tokens order) (shallow_each source form names nesting_limit enough file.functions
       (subst (λ (z : ℕ). list_all (λ f. nat_le (nesting_all source names f.body) z) file.functions ≡ true) (sym same_limit) low)) in
-      let P = part.pieces in
+      let P = part.stretches in
       let whole : form ≡ with_texts source 0 (spans_of P) = form_is source names file ∙ ap (with_texts source 0) (sym part.spans) in
-      let words : lexemes_of source (tokens_of 0 lexed.1.0) ≡ lefts P = ap (lexemes_of source) (sym lexed.1.3) ∙ sym part.left in
-      let r = lexing source form P [] 0 0 true lexed.1.1 lexed.1.0 lexed.1.2 words part.ended whole in
+      let terminals : lexemes_of source (tokens_of 0 lexed.1.0) ≡ lefts P = ap (lexemes_of source) (sym lexed.1.3) ∙ sym part.left in
+      let r = lexing source form P [] 0 0 true lexed.1.1 lexed.1.0 lexed.1.2 terminals part.ended whole in
       let l = r.2 in
       let made = part.right 0 r.4 in
-      let us = tokens_of 0 l.pieces in
-      let stand : Stand true form l.pieces r.1 [] = subst (λ (z : List ℕ). Stand true z l.pieces r.1 []) (sym whole) l.stand in
+      let us = tokens_of 0 l.fronts in
+      let stand : Stand true form l.fronts r.1 [] = subst (λ (z : List ℕ). Stand true z l.fronts r.1 []) (sym whole) l.stand in
       let clear = subst (λ (z : List ℕ). HasNoMarker z) (sym whole) (no_marker source (spans_of P) lexed.0) in
       record {
-        pieces = P;
+        stretches = P;
         of_source = part.left;
         at_spans = part.spans;
         tokens = us;
-        lexed = (clear, (l.pieces, r.1, stand, refl));
-        of_form = l.words;
+        lexed = (clear, (l.fronts, r.1, stand, refl));
+        of_form = l.terminals;
         made = file_of made.0;
-        derived = (made.0, subst (λ (z : List Lexeme). AreAll (IsPart nesting_limit) z made.0) (sym l.words) made.1, refl);
+        derived = (made.0, subst (λ (z : List Lexeme). AreAll (IsPart nesting_limit) z made.0) (sym l.terminals) made.1, refl);
         same = made.2;
       }
 

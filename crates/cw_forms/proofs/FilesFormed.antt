@@ -7,13 +7,13 @@ use Rattle.std.proofs.lemmas.List.{append-nil}
 use Rattle.cw_syntax.specs.declared.program.Name.{Name}
 use Rattle.cw_syntax.specs.declared.program.Param.{Param}
 use Rattle.cw_syntax.specs.Trees.{Statements, Statement, Declared, Declaration, Definition}
-use Rattle.cw_grammar.specs.declared.words.Lexeme.{Lexeme}
+use Rattle.cw_grammar.specs.declared.terminals.Lexeme.{Lexeme}
 use Rattle.cw_grammar.specs.Lexemes.{AreAll, AreSeparated, statements}
 use Rattle.cw_grammar.specs.Declarations.{Expressions, IsName, Specifiers, IsItem}
 use Rattle.cw_grammar.specs.Expressions.{IsExpression}
 use Rattle.cw_grammar.specs.Statements.{InBlock, IsStatement}
 use Rattle.cw_grammar.specs.Files.{AreNamed, IsFunction, Part as FilePart, Declares, Holds, Defines, IsPart, file_of}
-use Rattle.cw_scope.specs.Walks.{Placed, placed_all, body_of}
+use Rattle.cw_scope.specs.Walks.{Nested, nested_all, body_of}
 use Rattle.cw_scope.specs.Descriptors.{is_before}
 use Rattle.cw_detach.specs.Form.{nesting_all}
 use Rattle.cw_source.proofs.Lying.{Lie, lie_le, split, lie_at}
@@ -108,15 +108,15 @@ globals_from limit (Defines f ∷ parts) ts lo hi (a, b, whole, first, rest) lie
     globals_less lo p.0 _ (lie_le lo p.0 a p.1) (globals_from limit parts b p.0 hi rest p.2)
 
 module _ (source form : List ℕ) (names : List (List ℕ)) (limit : ℕ) (enough : 2 ≤ limit) where
-  abbrev P : List Lexeme → List Placed → (ℕ → List Lexeme → Type 0) → Type 0
+  abbrev P : List Lexeme → List Nested → (ℕ → List Lexeme → Type 0) → Type 0
   P ts ps R = Part source form names ts ps R
 
   abbrev K : List Lexeme → ℕ → List Lexeme → Type 0
   K ts d us = KeptAs source form names ts d us
 
-  abbrev MadeAll : List Placed → (v : ℕ) → ℕ → List Lexeme → Type 0
+  abbrev MadeAll : List Nested → (v : ℕ) → ℕ → List Lexeme → Type 0
   MadeAll ps v d us =
-      (ss : List Statement) × AreAll (IsStatement limit limit InBlock) us ss × StandFor source form ps (placed_all false (statements ss)) × (nesting_all form [] (statements ss) ≡ v)
+      (ss : List Statement) × AreAll (IsStatement limit limit InBlock) us ss × StandFor source form ps (nested_all false (statements ss)) × (nesting_all form [] (statements ss) ≡ v)
 
   -- one function nests as deep in the form as the other was reckoned to
   abbrev pub NestsAs : Definition → Definition → Type 0
@@ -127,11 +127,11 @@ module _ (source form : List ℕ) (names : List (List ℕ)) (limit : ℕ) (enoug
 
   function_formed : (ts : List Lexeme) (f : Definition) → IsFunction limit ts f → nesting_all source names f.body ≤ limit → P ts (body_of f) (MadeFunction f)
   function_formed ts f (header, o, x, c, body, whole, header_is, named, opens, brace, all, body_is, closes) deep =
-      let ps = placed_all false (statements body) in
+      let ps = nested_all false (statements body) in
       let low : nesting_all source names (statements body) ≤ limit = subst (λ (z : Statements). nesting_all source names z ≤ limit) body_is deep in
       let w = nesting_all source names (statements body) in
       let spans : pairs_in source names (body_of f) ≡ pairs_in source names (ps ++ []) =
-      ap (λ (z : Statements). pairs_in source names (placed_all false z)) body_is ∙ ap (pairs_in source names) (sym (append-nil ps)) in
+      ap (λ (z : Statements). pairs_in source names (nested_all false z)) body_is ∙ ap (pairs_in source names) (sym (append-nil ps)) in
       part_as source form names (header ++ (o ∷ (x ++ c ∷ []))) ts (ps ++ []) (body_of f)
       (Then source form names (K header) (Then source form names (K (o ∷ [])) (Then source form names (MadeAll ps w) (K (c ∷ []))))) (MadeFunction f) whole spans
       (λ d us t. (
@@ -143,7 +143,7 @@ module _ (source form : List ℕ) (names : List (List ℕ)) (limit : ℕ) (enoug
       ∙ ap (λ (z : List Lexeme). map (moved d) header ++ z)
       (u.3 ∙ ap (λ (z : List Lexeme). z ++ u.1) u.4.0 ∙ ap (λ (z : List Lexeme). moved t.2 o ∷ z) (v.3 ∙ ap (λ (z : List Lexeme). v.0 ++ z) v.5.0)) in
       let g : Definition = record { name = r.0; result = f.result; params = r.1; brace = (moved t.2 o).to; body = statements v.4.0 } in
-      let stand : StandFor source form (body_of f) (body_of g) = subst (λ (z : Statements). StandFor source form (placed_all false z) (body_of g)) (sym body_is) v.4.2 in (
+      let stand : StandFor source form (body_of f) (body_of g) = subst (λ (z : Statements). StandFor source form (nested_all false z) (body_of g)) (sym body_is) v.4.2 in (
         g,
         (map (moved d) header, moved t.2 o, v.0, moved v.2 c, v.4.0, us_is, r.2, params_named source form f.params r.1 r.4 named, opens, refl, v.4.1, refl, closes),
         (d, r.3, r.4, stand),
@@ -212,7 +212,7 @@ module _ (source form : List ℕ) (names : List (List ℕ)) (limit : ℕ) (enoug
   AreShallow [] = Unit {0}
   AreShallow (f ∷ fs) = (nesting_all source names f.body ≤ limit) × AreShallow fs
 
-  abbrev bodies : List FilePart → List Placed
+  abbrev bodies : List FilePart → List Nested
   bodies parts = flat_map body_of (file_of parts).functions
 
   pub parts_formed : (parts : List FilePart) (ts : List Lexeme) (lo hi : ℕ) → AreAll (IsPart limit) ts parts → Lie lo hi ts → AreShallow (file_of parts).functions

@@ -8,22 +8,22 @@ use Rattle.cw_syntax.specs.declared.program.Name.{Name}
 use Rattle.cw_syntax.specs.declared.program.Op.TheVariants as op
 use Rattle.cw_syntax.specs.Trees.{Tree, Statement, Stated, Form, Block, Declares, Evaluates, Empties, Labels, Chooses, Whiles, Does, Fors, Breaks, Continues, Returns, Perhaps, nothing, just}
 use Rattle.cw_syntax.specs.Trees.{Statements}
-use Rattle.cw_grammar.specs.declared.words.Word.TheVariants as w
-use Rattle.cw_grammar.specs.declared.words.Lexeme.{Lexeme}
+use Rattle.cw_grammar.specs.declared.terminals.Terminal.TheVariants as w
+use Rattle.cw_grammar.specs.declared.terminals.Lexeme.{Lexeme}
 use Rattle.cw_grammar.specs.declared.rules.Rule.TheVariants.{Expression}
 use Rattle.cw_grammar.specs.Lexemes.{name_of, from_of, to_of, IsOptional, AreAll, IsBetween, IsEnded, statements}
 use Rattle.cw_grammar.specs.Expressions.{loosest, Derives, IsPrimary, IsPostfix, IsUnary, IsOperand, IsLevel, IsRule, IsDerived, IsExpression}
 use Rattle.cw_grammar.specs.Declarations.{Expressions}
 use Rattle.cw_grammar.specs.Statements.{Place, InBlock, BeforeElse, Elsewhere, last, IsInit, IsForm, IsStatement}
 use Rattle.cw_grammar.proofs.Deeper.{statement_deeper}
-use Rattle.cw_scope.specs.Walks.{Placed, placed, placed_within, placed_all, init_trees, inner}
+use Rattle.cw_scope.specs.Walks.{Nested, nested, nested_within, nested_all, init_trees, inner}
 use Rattle.cw_scope.specs.Names.{init_names}
 use Rattle.cw_detach.specs.Form.{calls_one, nesting, nesting_in, nesting_all}
 use Rattle.cw_forms.specs.Moved.{moved, Pairs, AreKept, SameName, Alike}
 use Rattle.cw_forms.specs.Declared.{Both}
-use Rattle.cw_forms.specs.Pieces.{Calls, call_tokens, rights, IsBrought}
+use Rattle.cw_forms.specs.Stretches.{Calls, call_tokens, rights, IsBrought}
 use Rattle.cw_forms.specs.Statements.{pair_at, pairs_in, SamePlaced, StandFor}
-use Rattle.cw_forms.proofs.Kept.{words_moved, parts_moved, three_moved, kept_as, kept_parts, between_moves, ended_moves}
+use Rattle.cw_forms.proofs.Kept.{terminals_moved, parts_moved, three_moved, kept_as, kept_parts, between_moves, ended_moves}
 use Rattle.cw_forms.proofs.Expressions.{expression_moves}
 use Rattle.cw_forms.proofs.Declarations.{declaration_moves, optional_moves}
 use Rattle.cw_forms.proofs.Parts.{Part, KeptAs, Then, kept_part, part_then, part_as, stand_for_both}
@@ -99,21 +99,21 @@ module _ (source form : List ℕ) (names : List (List ℕ)) (limit : ℕ) (enoug
   abbrev m : ℕ → List Lexeme → List Lexeme
   m d ts = map (moved d) ts
 
-  abbrev Made : ℕ → Place → Bool → List Placed → (v : ℕ) → ℕ → List Lexeme → Type 0
-  Made n place looped ps v d us = (st : Statement) × IsStatement limit n place us st × StandFor source form ps (placed looped st) × (nesting form [] st ≡ v)
+  abbrev Made : ℕ → Place → Bool → List Nested → (v : ℕ) → ℕ → List Lexeme → Type 0
+  Made n place looped ps v d us = (st : Statement) × IsStatement limit n place us st × StandFor source form ps (nested looped st) × (nesting form [] st ≡ v)
 
-  abbrev MadeAll : ℕ → Bool → List Placed → (v : ℕ) → ℕ → List Lexeme → Type 0
+  abbrev MadeAll : ℕ → Bool → List Nested → (v : ℕ) → ℕ → List Lexeme → Type 0
   MadeAll n looped ps v d us =
-      (ss : List Statement) × AreAll (IsStatement limit n InBlock) us ss × StandFor source form ps (placed_all looped (statements ss)) × (nesting_all form [] (statements ss) ≡ v)
+      (ss : List Statement) × AreAll (IsStatement limit n InBlock) us ss × StandFor source form ps (nested_all looped (statements ss)) × (nesting_all form [] (statements ss) ≡ v)
 
-  abbrev P : List Lexeme → List Placed → (ℕ → List Lexeme → Type 0) → Type 0
+  abbrev P : List Lexeme → List Nested → (ℕ → List Lexeme → Type 0) → Type 0
   P ts ps R = Part source form names ts ps R
 
   abbrev K : List Lexeme → ℕ → List Lexeme → Type 0
   K ts d us = KeptAs source form names ts d us
 
   -- tokens that are all kept
-  kept_with : (ts : List Lexeme) (ps : List Placed) (S : ℕ → List Lexeme → Type 0) → pairs_in source names ps ≡ [] → ((d : ℕ) → AreKept source form d ts → S d (m d ts)) → P ts ps S
+  kept_with : (ts : List Lexeme) (ps : List Nested) (S : ℕ → List Lexeme → Type 0) → pairs_in source names ps ≡ [] → ((d : ℕ) → AreKept source form d ts → S d (m d ts)) → P ts ps S
   kept_with ts ps S none g = part_as source form names ts ts [] ps (K ts) S refl none (λ d us k. subst (λ (z : List Lexeme). S d z) (sym k.0) (g d k.1)) (kept_part source form names ts)
 
   tests : (d : ℕ) (ts : List Lexeme) (e : Tree) → AreKept source form d ts → IsBetween w.Open w.Close E ts e → (f : Tree) × IsBetween w.Open w.Close E (m d ts) f × Alike source form e f
@@ -129,7 +129,7 @@ module _ (source form : List ℕ) (names : List (List ℕ)) (limit : ℕ) (enoug
   SameInit a b = Pairs (Alike source form) (init_trees a) (init_trees b) × Pairs (SameName source form) (init_names a) (init_names b)
 
   inits : (d : ℕ) (ts : List Lexeme) (a : Perhaps) → AreKept source form d ts → IsInit E ts a → (b : Perhaps) × IsInit E (m d ts) b × SameInit a b
-  inits d ts nothing k h = (nothing, words_moved d ts ∙ h, (tt, tt))
+  inits d ts nothing k h = (nothing, terminals_moved d ts ∙ h, (tt, tt))
   inits d ts (just (Stated (Evaluates e) from to)) k (p, q, h) =
       let r = ended_moves source form d E (Alike source form) (expression_moves source form d limit) w.Semicolon ts e k h in
       (just (Stated (Evaluates r.0) (from_of (m d ts)) (to_of (m d ts))), (refl, refl, r.1), ((r.2, tt), tt))
@@ -148,14 +148,14 @@ module _ (source form : List ℕ) (names : List (List ℕ)) (limit : ℕ) (enoug
   inits d ts (just (Stated (Returns value) from to)) k h = absurd h
 
   -- a statement without statements in it
-  alone : (n : ℕ) (place : Place) (ts : List Lexeme) (fm : Form) (looped : Bool) → placed_within looped fm ≡ [] → pair_at source names fm (from_of ts) (to_of ts) ≡ None
-      → ((d : ℕ) → AreKept source form d ts → (made : Form) × IsForm E (IsStatement limit n) place (m d ts) made × (placed_within looped made ≡ [])
+  alone : (n : ℕ) (place : Place) (ts : List Lexeme) (fm : Form) (looped : Bool) → nested_within looped fm ≡ [] → pair_at source names fm (from_of ts) (to_of ts) ≡ None
+      → ((d : ℕ) → AreKept source form d ts → (made : Form) × IsForm E (IsStatement limit n) place (m d ts) made × (nested_within looped made ≡ [])
       × SamePlaced source form (record { statement = stated fm ts; looped = looped }) (record { statement = stated made (m d ts); looped = looped })
       × (nesting_in form [] made ≡ nesting_in source names fm))
-      → P ts (placed looped (stated fm ts)) (Made (suc n) place looped (placed looped (stated fm ts)) (nesting_in source names fm))
+      → P ts (nested looped (stated fm ts)) (Made (suc n) place looped (nested looped (stated fm ts)) (nesting_in source names fm))
   alone n place ts fm looped leaf other g =
-      kept_with ts (placed looped (stated fm ts)) (Made (suc n) place looped (placed looped (stated fm ts)) (nesting_in source names fm)) (rw (other, leaf) refl)
-      (λ d k. (let r = g d k in (stated r.0 (m d ts), (refl, refl, r.1), one_more source form _ _ (placed_within looped fm) (placed_within looped r.0) r.3 (rw leaf r.2), r.4)))
+      kept_with ts (nested looped (stated fm ts)) (Made (suc n) place looped (nested looped (stated fm ts)) (nesting_in source names fm)) (rw (other, leaf) refl)
+      (λ d k. (let r = g d k in (stated r.0 (m d ts), (refl, refl, r.1), one_more source form _ _ (nested_within looped fm) (nested_within looped r.0) r.3 (rw leaf r.2), r.4)))
 
   whole_nests : (p q : ℕ) (us : List Lexeme) (again : Tree) (is : IsStatement limit 2 InBlock us (stated (Evaluates again) us))
       → nesting form [] (whole_statement limit enough p q us (stated (Evaluates again) us) is) ≡ 5
@@ -163,7 +163,7 @@ module _ (source form : List ℕ) (names : List (List ℕ)) (limit : ℕ) (enoug
 
   -- the call of a statement that gets the two texts
   called : (n : ℕ) (place : Place) (ts : List Lexeme) (e : Tree) (looped : Bool) → calls_one source names e ≡ true → 5 ≤ n → IsEnded w.Semicolon E ts e
-      → P ts (placed looped (stated (Evaluates e) ts)) (Made n place looped (placed looped (stated (Evaluates e) ts)) (nesting_in source names (Evaluates e)))
+      → P ts (nested looped (stated (Evaluates e) ts)) (Made n place looped (nested looped (stated (Evaluates e) ts)) (nesting_in source names (Evaluates e)))
   called n place ts e looped calls deep (inner_tokens, c, whole_ts, closes, is) =
       let some = derived_some limit inner_tokens e is in
       let t = some.0 in
@@ -171,7 +171,7 @@ module _ (source form : List ℕ) (names : List (List ℕ)) (limit : ℕ) (enoug
       let all : call_tokens t ys c ≡ ts = ap (λ (z : List Lexeme). z ++ c ∷ []) (sym some.2) ∙ sym whole_ts in
       let split : t ∷ ys ≡ inner_tokens = sym some.2 in
       record {
-        pieces = Calls t ys c ∷ [];
+        stretches = Calls t ys c ∷ [];
         left = append-nil (call_tokens t ys c) ∙ all;
         spans = span_is t ys c all;
         ended = (closes, tt);
@@ -181,11 +181,11 @@ module _ (source form : List ℕ) (names : List (List ℕ)) (limit : ℕ) (enoug
       IsEnded-as : (t : Lexeme) (ys : List Lexeme) (c : Lexeme) → call_tokens t ys c ≡ ts → t ∷ ys ≡ inner_tokens → IsEnded w.Semicolon E (call_tokens t ys c) e
       IsEnded-as t ys x same split = subst (λ (z : List Lexeme). IsEnded w.Semicolon E z e) (sym same) (inner_tokens, c, whole_ts, closes, is)
 
-      span_is : (t : Lexeme) (ys : List Lexeme) (c : Lexeme) → call_tokens t ys c ≡ ts → (t.from, c.to) ∷ [] ≡ pairs_in source names (placed looped (stated (Evaluates e) ts))
+      span_is : (t : Lexeme) (ys : List Lexeme) (c : Lexeme) → call_tokens t ys c ≡ ts → (t.from, c.to) ∷ [] ≡ pairs_in source names (nested looped (stated (Evaluates e) ts))
       span_is t ys c same = rw calls (ap₂ (λ (a b : ℕ). (a, b) ∷ []) (ap from_of same) (sym (last_to t ys c) ∙ ap to_of same))
 
       made : (t : Lexeme) (ys : List Lexeme) (c : Lexeme) (d : ℕ) → IsEnded w.Semicolon E (call_tokens t ys c) e → AreKept source form (d + 13) (call_tokens t ys c)
-          → IsBrought form (t.from + d) (c.to + (d + 13)) → Made n place looped (placed looped (stated (Evaluates e) ts)) (nesting_in source names (Evaluates e)) d (rights d (Calls t ys c ∷ []))
+          → IsBrought form (t.from + d) (c.to + (d + 13)) → Made n place looped (nested looped (stated (Evaluates e) ts)) (nesting_in source names (Evaluates e)) d (rights d (Calls t ys c ∷ []))
       made t ys c d ended kept brought =
           let r = ended_moves source form (d + 13) E (Alike source form) (expression_moves source form (d + 13) limit) w.Semicolon (call_tokens t ys c) e kept ended in
           let us = m (d + 13) (call_tokens t ys c) in
@@ -198,77 +198,77 @@ module _ (source form : List ℕ) (names : List (List ℕ)) (limit : ℕ) (enoug
           (_, _, _, _, _, refl, brought.0) (_, _, _, _, _, refl, brought.1) in (
             whole_statement limit enough p q us first (refl, refl, r.1),
             statement_deeper limit limit 5 n (omega arith) deep place _ _ five,
-            (placed looped (whole_statement limit enough p q us first (refl, refl, r.1)), [], sym (append-nil _), inr stands, refl),
+            (nested looped (whole_statement limit enough p q us first (refl, refl, r.1)), [], sym (append-nil _), inr stands, refl),
             rw calls (whole_nests p q us r.0 (refl, refl, r.1)),
           )
 
   abbrev Forms : ℕ → ℕ → Type 0
   Forms n k =
       (place : Place) (ts : List Lexeme) (st : Statement) (looped : Bool) → IsStatement limit n place ts st → nesting source names st ≤ k
-      → P ts (placed looped st) (Made k place looped (placed looped st) (nesting source names st))
+      → P ts (nested looped st) (Made k place looped (nested looped st) (nesting source names st))
 
   -- a rule, where the statements in it are formed
   module _ (n k : ℕ) (h : Forms n k) where
     pub all_formed : (ts : List Lexeme) (ss : List Statement) (looped : Bool) → AreAll (IsStatement limit n InBlock) ts ss → nesting_all source names (statements ss) ≤ k
-        → P ts (placed_all looped (statements ss)) (MadeAll k looped (placed_all looped (statements ss)) (nesting_all source names (statements ss)))
+        → P ts (nested_all looped (statements ss)) (MadeAll k looped (nested_all looped (statements ss)) (nesting_all source names (statements ss)))
     all_formed ts [] looped none deep = kept_with ts [] (MadeAll k looped [] 0) refl (λ d l. ([], ap (m d) none, refl, refl))
     all_formed ts (st ∷ ss) looped (x, y, whole, first, rest) deep =
         let one = le-max_left (nesting source names st) (nesting_all source names (statements ss)) in
         let other = le-max_right (nesting source names st) (nesting_all source names (statements ss)) in
-        let ps = placed looped st in
-        let qs = placed_all looped (statements ss) in
+        let ps = nested looped st in
+        let qs = nested_all looped (statements ss) in
         let vs = nesting source names st in
         let ws = nesting_all source names (statements ss) in
         part_as source form names (x ++ y) ts (ps ++ qs) (ps ++ qs) (Then source form names (Made k InBlock looped ps vs) (MadeAll k looped qs ws)) (MadeAll k looped (ps ++ qs)
         (max vs ws)) whole refl
-        (λ d us t. (t.4.0 ∷ t.5.0, (t.0, t.1, t.3, t.4.1, t.5.1), stand_for_both source form ps qs (placed looped t.4.0) (placed_all looped (statements t.5.0)) t.4.2 t.5.2, ap₂ max t.4.3 t.5.3))
+        (λ d us t. (t.4.0 ∷ t.5.0, (t.0, t.1, t.3, t.4.1, t.5.1), stand_for_both source form ps qs (nested looped t.4.0) (nested_all looped (statements t.5.0)) t.4.2 t.5.2, ap₂ max t.4.3 t.5.3))
         (part_then source form names x y ps qs (Made k InBlock looped ps vs) (MadeAll k looped qs ws) (h InBlock x st looped first (omega (arith, one, deep))) (all_formed y ss looped rest (omega
         (arith, other, deep))))
 
     -- kept tokens, then a statement
-    abbrev Front : List Lexeme → Place → Bool → List Placed → (v : ℕ) → ℕ → List Lexeme → Type 0
+    abbrev Front : List Lexeme → Place → Bool → List Nested → (v : ℕ) → ℕ → List Lexeme → Type 0
     Front a place looped ps v d us = Then source form names (K a) (Made k place looped ps v) d us
 
     front : (a ts : List Lexeme) (place : Place) (st : Statement) (looped : Bool) → IsStatement limit n place ts st → nesting source names st ≤ k
-        → P (a ++ ts) (placed looped st) (Front a place looped (placed looped st) (nesting source names st))
-    front a ts place st looped is deep = part_then source form names a ts [] (placed looped st) (K a) (Made k place looped (placed looped st) (nesting source names st))
+        → P (a ++ ts) (nested looped st) (Front a place looped (nested looped st) (nesting source names st))
+    front a ts place st looped is deep = part_then source form names a ts [] (nested looped st) (K a) (Made k place looped (nested looped st) (nesting source names st))
         (kept_part source form names a)
         (h place ts st looped is deep)
 
-    front_is : (a : List Lexeme) (place : Place) (looped : Bool) (ps : List Placed) (v d : ℕ) (us : List Lexeme) (t : Front a place looped ps v d us) → us ≡ m d a ++ t.1
+    front_is : (a : List Lexeme) (place : Place) (looped : Bool) (ps : List Nested) (v d : ℕ) (us : List Lexeme) (t : Front a place looped ps v d us) → us ≡ m d a ++ t.1
     front_is a place looped ps v d us t = t.3 ∙ ap (λ (z : List Lexeme). z ++ t.1) t.4.0
 
     -- a form with one statement at its end
     with_one : (place : Place) (ts a b : List Lexeme) (fm : Form) (body : Statement) (at : Place) (looped turned : Bool) → ts ≡ a ++ b → IsStatement limit n at b body → nesting source names body ≤ k
-        → placed_within looped fm ≡ placed turned body → pair_at source names fm (from_of ts) (to_of ts) ≡ None → nesting_in source names fm ≡ nesting source names body + 1
+        → nested_within looped fm ≡ nested turned body → pair_at source names fm (from_of ts) (to_of ts) ≡ None → nesting_in source names fm ≡ nesting source names body + 1
         → ((d : ℕ) (us y : List Lexeme) (st : Statement) → us ≡ m d a ++ y → AreKept source form d a → IsStatement limit k at y st → (made : Form) × IsForm E (IsStatement limit k) place us made
-        × (placed_within looped made ≡ placed turned st) × SamePlaced source form (record { statement = stated fm ts; looped = looped }) (record { statement = stated made us; looped = looped })
+        × (nested_within looped made ≡ nested turned st) × SamePlaced source form (record { statement = stated fm ts; looped = looped }) (record { statement = stated made us; looped = looped })
         × (nesting_in form [] made ≡ nesting form [] st + 1))
-        → P ts (placed looped (stated fm ts)) (Made (suc k) place looped (placed looped (stated fm ts)) (nesting_in source names fm))
+        → P ts (nested looped (stated fm ts)) (Made (suc k) place looped (nested looped (stated fm ts)) (nesting_in source names fm))
     with_one place ts a b fm body at looped turned whole is deep own other nests g =
-        part_as source form names (a ++ b) ts (placed turned body) (placed looped (stated fm ts)) (Front a at turned (placed turned body) (nesting source names body)) (Made
-        (suc k) place looped (placed looped
+        part_as source form names (a ++ b) ts (nested turned body) (nested looped (stated fm ts)) (Front a at turned (nested turned body) (nesting source names body)) (Made
+        (suc k) place looped (nested looped
         (stated fm ts)) (nesting_in source names fm)) whole
         (rw (other, own) refl)
         (λ d us t. (
-        let r = g d us t.1 t.5.0 (front_is a at turned (placed turned body) (nesting source names body) d us t) t.4.1 t.5.1 in (
+        let r = g d us t.1 t.5.0 (front_is a at turned (nested turned body) (nesting source names body) d us t) t.4.1 t.5.1 in (
           stated r.0 us,
           (refl, refl, r.1),
-          one_more source form (record { statement = stated fm ts; looped = looped }) (record { statement = stated r.0 us; looped = looped }) (placed_within looped fm)
-              (placed_within looped r.0) r.3 (rw (own, r.2) t.5.2),
+          one_more source form (record { statement = stated fm ts; looped = looped }) (record { statement = stated r.0 us; looped = looped }) (nested_within looped fm)
+              (nested_within looped r.0) r.3 (rw (own, r.2) t.5.2),
           r.4 ∙ ap (λ (j : ℕ). j + 1) t.5.3 ∙ sym nests,
         )))
         (front a b at body turned is deep)
 
     block : (place : Place) (ts : List Lexeme) (inner : List Statement) (looped : Bool) → IsBetween w.OpenBrace w.CloseBrace (AreAll (IsStatement limit n InBlock)) ts inner
         → nesting_all source names (statements inner) ≤ k
-        → P ts (placed looped (stated (Block (statements inner)) ts)) (Made (suc k) place looped (placed looped (stated (Block (statements inner)) ts)) (nesting_all source names
+        → P ts (nested looped (stated (Block (statements inner)) ts)) (Made (suc k) place looped (nested looped (stated (Block (statements inner)) ts)) (nesting_all source names
         (statements inner) + 1))
     block place ts inner looped (o, x, c, whole, opens, closes, all) deep =
-        let ps = placed_all looped (statements inner) in
-        part_as source form names (o ∷ (x ++ c ∷ [])) ts (ps ++ []) (placed looped (stated (Block (statements inner)) ts))
+        let ps = nested_all looped (statements inner) in
+        part_as source form names (o ∷ (x ++ c ∷ [])) ts (ps ++ []) (nested looped (stated (Block (statements inner)) ts))
         (Then source form names (K (o ∷ [])) (Then source form names (MadeAll k looped ps (nesting_all source names (statements inner))) (K (c ∷ [])))) (Made (suc k) place looped
-        (placed looped (stated (Block (statements inner)) ts)) (nesting_all source names (statements inner) + 1)) whole
+        (nested looped (stated (Block (statements inner)) ts)) (nesting_all source names (statements inner) + 1)) whole
         (ap (pairs_in source names) (sym (append-nil ps)))
         (λ d us t. (
         let u = t.5 in
@@ -276,7 +276,7 @@ module _ (source form : List ℕ) (names : List (List ℕ)) (limit : ℕ) (enoug
         t.3 ∙ ap (λ (z : List Lexeme). z ++ t.1) t.4.0 ∙ ap (λ (z : List Lexeme). moved d o ∷ z) (u.3 ∙ ap (λ (z : List Lexeme). u.0 ++ z) u.5.0) in (
           stated (Block (statements u.4.0)) us,
           (refl, refl, (u.4.0, refl, (moved d o, u.0, moved u.2 c, us_is, opens, closes, u.4.1))),
-          one_more source form _ _ ps (placed_all looped (statements u.4.0)) (record { looped = refl; wholes = tt; labels = tt; locals = tt; jump = refl }) u.4.2,
+          one_more source form _ _ ps (nested_all looped (statements u.4.0)) (record { looped = refl; wholes = tt; labels = tt; locals = tt; jump = refl }) u.4.2,
           ap (λ (j : ℕ). j + 1) u.4.3,
         )))
         (part_then source form names (o ∷ []) (x ++ c ∷ []) [] (ps ++ []) (K (o ∷ [])) (Then source form names (MadeAll k looped ps (nesting_all source names (statements inner))) (K
@@ -286,15 +286,15 @@ module _ (source form : List ℕ) (names : List (List ℕ)) (limit : ℕ) (enoug
 
     arms : (place : Place) (ts : List Lexeme) (test : Tree) (body other : Statement) (looped : Bool) → IsForm E (IsStatement limit n) place ts (Chooses test body (just other))
         → nesting source names body ≤ k → nesting source names other ≤ k
-        → P ts (placed looped (stated (Chooses test body (just other)) ts)) (Made (suc k) place looped (placed looped (stated (Chooses test body (just other)) ts)) (max
+        → P ts (nested looped (stated (Chooses test body (just other)) ts)) (Made (suc k) place looped (nested looped (stated (Chooses test body (just other)) ts)) (max
         (nesting source names body) (nesting source names other) + 1))
     arms place ts test body other looped (i, x, y, e, z, whole, i_is, test_is, is, e_is, other_is) deep too =
-        let ps = placed looped body in
-        let qs = placed looped other in
+        let ps = nested looped body in
+        let qs = nested looped other in
         let a = i ∷ x in
-        part_as source form names (a ++ (y ++ e ∷ z)) ts (ps ++ qs) (placed looped (stated (Chooses test body (just other)) ts))
+        part_as source form names (a ++ (y ++ e ∷ z)) ts (ps ++ qs) (nested looped (stated (Chooses test body (just other)) ts))
         (Then source form names (K a) (Then source form names (Made k BeforeElse looped ps (nesting source names body)) (Front (e ∷ []) (last place) looped qs (nesting source names other))))
-        (Made (suc k) place looped (placed looped (stated (Chooses test body (just other)) ts)) (max (nesting source names body) (nesting source names other) + 1)) whole refl
+        (Made (suc k) place looped (nested looped (stated (Chooses test body (just other)) ts)) (max (nesting source names body) (nesting source names other) + 1)) whole refl
         (λ d us t. (
         let u = t.5 in
         let v = u.5 in
@@ -304,8 +304,8 @@ module _ (source form : List ℕ) (names : List (List ℕ)) (limit : ℕ) (enoug
         let r = tests d x test t.4.1.1 test_is in (
           stated (Chooses r.0 u.4.0 (just v.5.0)) us,
           (refl, refl, (moved d i, m d x, u.0, moved u.2 e, v.1, us_is, i_is, r.1, u.4.1, e_is, v.5.1)),
-          one_more source form _ _ (ps ++ qs) (placed looped u.4.0 ++ placed looped v.5.0) (record { looped = refl; wholes = ((r.2, refl), tt); labels = tt; locals = tt; jump = refl })
-              (stand_for_both source form ps qs (placed looped u.4.0) (placed looped v.5.0) u.4.2 v.5.2),
+          one_more source form _ _ (ps ++ qs) (nested looped u.4.0 ++ nested looped v.5.0) (record { looped = refl; wholes = ((r.2, refl), tt); labels = tt; locals = tt; jump = refl })
+              (stand_for_both source form ps qs (nested looped u.4.0) (nested looped v.5.0) u.4.2 v.5.2),
           ap₂ (λ (i j : ℕ). max i j + 1) u.4.3 v.5.3,
         )))
         (part_then source form names a (y ++ e ∷ z) [] (ps ++ qs) (K a) (Then source form names (Made k BeforeElse looped ps (nesting source names body)) (Front (e ∷ [])
@@ -315,12 +315,12 @@ module _ (source form : List ℕ) (names : List (List ℕ)) (limit : ℕ) (enoug
         (last place) other looped other_is too)))
 
     does : (place : Place) (ts : List Lexeme) (body : Statement) (test : Tree) (looped : Bool) → IsForm E (IsStatement limit n) place ts (Does body test) → nesting source names body ≤ k
-        → P ts (placed looped (stated (Does body test) ts)) (Made (suc k) place looped (placed looped (stated (Does body test) ts)) (nesting source names body + 1))
+        → P ts (nested looped (stated (Does body test) ts)) (Made (suc k) place looped (nested looped (stated (Does body test) ts)) (nesting source names body + 1))
     does place ts body test looped (o, x, i, y, c, whole, o_is, is, i_is, test_is, c_is) deep =
-        let ps = placed true body in
+        let ps = nested true body in
         let b = i ∷ (y ++ c ∷ []) in
-        part_as source form names (o ∷ (x ++ b)) ts (ps ++ []) (placed looped (stated (Does body test) ts))
-        (Then source form names (Front (o ∷ []) Elsewhere true ps (nesting source names body)) (K b)) (Made (suc k) place looped (placed looped (stated (Does body test) ts))
+        part_as source form names (o ∷ (x ++ b)) ts (ps ++ []) (nested looped (stated (Does body test) ts))
+        (Then source form names (Front (o ∷ []) Elsewhere true ps (nesting source names body)) (K b)) (Made (suc k) place looped (nested looped (stated (Does body test) ts))
         (nesting source names body + 1)) whole
         (ap (pairs_in source names) (sym (append-nil ps)))
         (λ d us t. (
@@ -331,7 +331,7 @@ module _ (source form : List ℕ) (names : List (List ℕ)) (limit : ℕ) (enoug
         let r = tests t.2 y test (kept_parts source form t.2 (y ++ c ∷ []) y (c ∷ []) refl t.5.1.1).0 test_is in (
           stated (Does u.5.0 r.0) us,
           (refl, refl, (moved d o, u.1, moved t.2 i, m t.2 y, moved t.2 c, us_is, o_is, u.5.1, i_is, r.1, c_is)),
-          one_more source form _ _ ps (placed true u.5.0) (record { looped = refl; wholes = ((r.2, refl), tt); labels = tt; locals = tt; jump = refl }) u.5.2,
+          one_more source form _ _ ps (nested true u.5.0) (record { looped = refl; wholes = ((r.2, refl), tt); labels = tt; locals = tt; jump = refl }) u.5.2,
           ap (λ (j : ℕ). j + 1) u.5.3,
         )))
         (part_then source form names (o ∷ x) b ps [] (Front (o ∷ []) Elsewhere true ps (nesting source names body)) (K b) (front (o ∷ []) x Elsewhere body true is deep)
@@ -343,10 +343,10 @@ module _ (source form : List ℕ) (names : List (List ℕ)) (limit : ℕ) (enoug
         (ap (λ (l : List Lexeme). l ++ y) (three_moved d (a ++ (b ++ c)) a b c refl) ∙ append_assoc (m d a) (m d b ++ m d c) y ∙ ap (λ (l : List Lexeme). m d a ++ l) (append_assoc (m d b) (m d c) y))
 
     form_formed : (place : Place) (ts : List Lexeme) (fm : Form) (looped : Bool) → IsForm E (IsStatement limit n) place ts fm → nesting_in source names fm ≤ suc k
-        → P ts (placed looped (stated fm ts)) (Made (suc k) place looped (placed looped (stated fm ts)) (nesting_in source names fm))
+        → P ts (nested looped (stated fm ts)) (Made (suc k) place looped (nested looped (stated fm ts)) (nesting_in source names fm))
     form_formed place ts (Block kids) looped (inner, kids_are, between) deep =
         let same : nesting_all source names kids ≡ nesting_all source names (statements inner) = ap (nesting_all source names) kids_are in
-        subst (λ (z : Statements). P ts (placed looped (stated (Block z) ts)) (Made (suc k) place looped (placed looped (stated (Block z) ts)) (nesting_all source names z + 1))) (sym kids_are)
+        subst (λ (z : Statements). P ts (nested looped (stated (Block z) ts)) (Made (suc k) place looped (nested looped (stated (Block z) ts)) (nesting_all source names z + 1))) (sym kids_are)
         (block place ts inner looped between (omega (arith, same, deep)))
     form_formed place ts (Declares x) looped (block_place, is) deep = alone k place ts (Declares x) looped refl refl (λ d l. (
         let r = declaration_moves source form d E (expression_moves source form d limit) ts x l is in (
@@ -365,13 +365,13 @@ module _ (source form : List ℕ) (names : List (List ℕ)) (limit : ℕ) (enoug
     form_formed place ts (Evaluates e) looped is deep = by (calls_one source names e) refl deep
       where
         by : (b : Bool) → calls_one source names e ≡ b → cond b 5 1 ≤ suc k
-            → P ts (placed looped (stated (Evaluates e) ts)) (Made (suc k) place looped (placed looped (stated (Evaluates e) ts)) (nesting_in source names (Evaluates e)))
+            → P ts (nested looped (stated (Evaluates e) ts)) (Made (suc k) place looped (nested looped (stated (Evaluates e) ts)) (nesting_in source names (Evaluates e)))
         by true calls low = called (suc k) place ts e looped calls low is
         by false calls low = alone k place ts (Evaluates e) looped refl (rw calls refl) (λ d l. (
             let r = ended_moves source form d E (Alike source form) (expression_moves source form d limit) w.Semicolon ts e l is in
             (Evaluates r.0, r.1, refl, record { looped = refl; wholes = ((r.2, refl), tt); labels = tt; locals = tt; jump = refl }, rw (calls, calls_none form r.0) refl)))
     form_formed place ts Empties looped is deep = alone k place ts Empties looped refl refl
-        (λ d l. (Empties, words_moved d ts ∙ is, refl, record { looped = refl; wholes = tt; labels = tt; locals = tt; jump = refl }, refl))
+        (λ d l. (Empties, terminals_moved d ts ∙ is, refl, record { looped = refl; wholes = tt; labels = tt; locals = tt; jump = refl }, refl))
     form_formed place ts (Labels name mark body) looped (t, c, x, whole, t_is, c_is, name_is, mark_is, is) deep =
         with_one place ts (t ∷ c ∷ []) x (Labels name mark body) body (last place) looped looped whole is (omega arith) refl refl refl (λ d us y st us_is l st_is. (
           Labels (name_of (moved d t)) (moved d c).to st,
@@ -382,12 +382,12 @@ module _ (source form : List ℕ) (names : List (List ℕ)) (limit : ℕ) (enoug
         ))
     form_formed place ts (Chooses test body nothing) looped (i, x, y, whole, ne, i_is, test_is, is) deep =
         let low = le-max_left (nesting source names body) 0 in
-        with_one place ts (i ∷ x) y (Chooses test body nothing) body Elsewhere looped looped whole is (omega (arith, low, deep)) (append-nil (placed looped body)) refl (no_arm
+        with_one place ts (i ∷ x) y (Chooses test body nothing) body Elsewhere looped looped whole is (omega (arith, low, deep)) (append-nil (nested looped body)) refl (no_arm
         (nesting source names body)) (λ d us z st us_is l st_is. (
         let r = tests d x test l.1 test_is in (
           Chooses r.0 st nothing,
           (moved d i, m d x, z, us_is, ne, i_is, r.1, st_is),
-          append-nil (placed looped st),
+          append-nil (nested looped st),
           record { looped = refl; wholes = ((r.2, refl), tt); labels = tt; locals = tt; jump = refl },
           no_arm (nesting form [] st),
         )))
@@ -424,9 +424,9 @@ module _ (source form : List ℕ) (names : List (List ℕ)) (limit : ℕ) (enoug
           refl,
         )))
     form_formed place ts Breaks looped is deep = alone k place ts Breaks looped refl refl
-        (λ d l. (Breaks, words_moved d ts ∙ is, refl, record { looped = refl; wholes = tt; labels = tt; locals = tt; jump = refl }, refl))
+        (λ d l. (Breaks, terminals_moved d ts ∙ is, refl, record { looped = refl; wholes = tt; labels = tt; locals = tt; jump = refl }, refl))
     form_formed place ts Continues looped is deep = alone k place ts Continues looped refl refl
-        (λ d l. (Continues, words_moved d ts ∙ is, refl, record { looped = refl; wholes = tt; labels = tt; locals = tt; jump = refl }, refl))
+        (λ d l. (Continues, terminals_moved d ts ∙ is, refl, record { looped = refl; wholes = tt; labels = tt; locals = tt; jump = refl }, refl))
     form_formed place ts (Returns value) looped (t, b, whole, t_is, ended) deep = alone k place ts (Returns value) looped refl refl (λ d l. (
         let own = kept_as source form d ts (t ∷ b) whole l in
         let r = maybe d w.Semicolon b value own.1 ended in (
@@ -459,6 +459,6 @@ module _ (source form : List ℕ) (names : List (List ℕ)) (limit : ℕ) (enoug
   statement_formed zero k place ts st looped is deep = absurd is
   statement_formed (suc n) zero place ts (Stated fm from to) looped is deep = absurd (let some = nests_some fm in omega (arith, some, deep))
   statement_formed (suc n) (suc k) place ts (Stated fm from to) looped (from_is, to_is, is) deep =
-      subst (λ (z : ℕ). P ts (placed looped (Stated fm z to)) (Made (suc k) place looped (placed looped (Stated fm z to)) (nesting_in source names fm))) (sym from_is)
-      (subst (λ (z : ℕ). P ts (placed looped (Stated fm (from_of ts) z)) (Made (suc k) place looped (placed looped (Stated fm (from_of ts) z)) (nesting_in source names fm))) (sym to_is)
+      subst (λ (z : ℕ). P ts (nested looped (Stated fm z to)) (Made (suc k) place looped (nested looped (Stated fm z to)) (nesting_in source names fm))) (sym from_is)
+      (subst (λ (z : ℕ). P ts (nested looped (Stated fm (from_of ts) z)) (Made (suc k) place looped (nested looped (Stated fm (from_of ts) z)) (nesting_in source names fm))) (sym to_is)
       (form_formed n k (statement_formed n k) place ts fm looped is deep))

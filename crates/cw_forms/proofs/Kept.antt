@@ -4,16 +4,16 @@ use Rattle.std.proofs.lemmas.List.{map-append}
 use Rattle.cw_syntax.specs.declared.program.CType.{CType}
 use Rattle.cw_syntax.specs.declared.program.Base.{Base}
 use Rattle.cw_syntax.specs.Trees.{Tree}
-use Rattle.cw_grammar.specs.declared.words.Word.{Word}
-use Rattle.cw_grammar.specs.declared.words.Word.TheVariants as w
-use Rattle.cw_grammar.specs.declared.words.Lexeme.{Lexeme}
-use Rattle.cw_grammar.specs.Lexemes.{Is, words, IsFlag, AreSeparated, IsBetween, IsEnded, trees}
-use Rattle.cw_grammar.specs.Types.{IsType, AreStars, IsTypeName, IsAmong, type_words}
+use Rattle.cw_grammar.specs.declared.terminals.Terminal.{Terminal}
+use Rattle.cw_grammar.specs.declared.terminals.Terminal.TheVariants as w
+use Rattle.cw_grammar.specs.declared.terminals.Lexeme.{Lexeme}
+use Rattle.cw_grammar.specs.Lexemes.{Is, terminals, IsFlag, AreSeparated, IsBetween, IsEnded, trees}
+use Rattle.cw_grammar.specs.Types.{IsType, AreStars, IsTypeName, IsAmong, type_terminals}
 use Rattle.cw_forms.specs.Moved.{moved, Pairs, AreKept, Alike, AllAlike}
 
-pub words_moved : (d : ℕ) (ts : List Lexeme) → words (map (moved d) ts) ≡ words ts
-words_moved d [] = refl
-words_moved d (t ∷ ts) = ap (λ (z : List Word). t.word ∷ z) (words_moved d ts)
+pub terminals_moved : (d : ℕ) (ts : List Lexeme) → terminals (map (moved d) ts) ≡ terminals ts
+terminals_moved d [] = refl
+terminals_moved d (t ∷ ts) = ap (λ (z : List Terminal). t.terminal ∷ z) (terminals_moved d ts)
 
 pub empty_moved : (d : ℕ) (ts : List Lexeme) → ts ≡ [] → map (moved d) ts ≡ []
 empty_moved d ts e = ap (map (moved d)) e
@@ -24,15 +24,15 @@ parts_moved d ts a b e = ap (map (moved d)) e ∙ map-append (moved d) a b
 pub between_moved : (d : ℕ) (ts a : List Lexeme) (o c : Lexeme) → ts ≡ o ∷ a ++ c ∷ [] → map (moved d) ts ≡ moved d o ∷ map (moved d) a ++ moved d c ∷ []
 between_moved d ts a o c e = ap (map (moved d)) e ∙ ap (λ (z : List Lexeme). moved d o ∷ z) (map-append (moved d) a (c ∷ []))
 
-pub flag_moved : (d : ℕ) (w : Word) (ts : List Lexeme) (b : Bool) → IsFlag w ts b → IsFlag w (map (moved d) ts) b
-flag_moved d w ts true is = words_moved d ts ∙ is
+pub flag_moved : (d : ℕ) (w : Terminal) (ts : List Lexeme) (b : Bool) → IsFlag w ts b → IsFlag w (map (moved d) ts) b
+flag_moved d w ts true is = terminals_moved d ts ∙ is
 flag_moved d w ts false is = empty_moved d ts is
 
 pub type_moved : (d : ℕ) (ts : List Lexeme) (base : Base) (unsigned : Bool) → IsType ts base unsigned → IsType (map (moved d) ts) base unsigned
-type_moved d ts base unsigned is = subst (λ (z : List Word). IsAmong (z, (base, unsigned)) type_words) (sym (words_moved d ts)) is
+type_moved d ts base unsigned is = subst (λ (z : List Terminal). IsAmong (z, (base, unsigned)) type_terminals) (sym (terminals_moved d ts)) is
 
 pub stars_moved : (d : ℕ) (ts : List Lexeme) (n : ℕ) → AreStars ts n → AreStars (map (moved d) ts) n
-stars_moved d ts n (few, are) = (few, words_moved d ts ∙ are)
+stars_moved d ts n (few, are) = (few, terminals_moved d ts ∙ are)
 
 pub three_moved : (d : ℕ) (ts a b c : List Lexeme) → ts ≡ a ++ (b ++ c) → map (moved d) ts ≡ map (moved d) a ++ (map (moved d) b ++ map (moved d) c)
 three_moved d ts a b c e = parts_moved d ts a (b ++ c) e ∙ ap (λ (z : List Lexeme). map (moved d) a ++ z) (map-append (moved d) b c)
@@ -87,12 +87,12 @@ module _ (source form : List ℕ) (d : ℕ) where
         let q = separated_moves (y ∷ ys) b own.1.1 rest in
         separated_more (map (moved d) ts) (map (moved d) a) (moved d c) (map (moved d) b) x y p.0 ys q.0 (parts_moved d ts a (c ∷ b) whole) comma p.1 p.2 q.1 q.2
 
-    pub between_moves : (left right : Word) (ts : List Lexeme) (x : X) → K ts → IsBetween left right P ts x → (y : X) × IsBetween left right P (map (moved d) ts) y × A x y
+    pub between_moves : (left right : Terminal) (ts : List Lexeme) (x : X) → K ts → IsBetween left right P ts x → (y : X) × IsBetween left right P (map (moved d) ts) y × A x y
     between_moves left right ts x k (o, inner, c, whole, p, q, is) =
         let h = f inner x (kept_between ts inner o c whole k) is in
         (h.0, (moved d o, map (moved d) inner, moved d c, between_moved d ts inner o c whole, p, q, h.1), h.2)
 
-    pub ended_moves : (right : Word) (ts : List Lexeme) (x : X) → K ts → IsEnded right P ts x → (y : X) × IsEnded right P (map (moved d) ts) y × A x y
+    pub ended_moves : (right : Terminal) (ts : List Lexeme) (x : X) → K ts → IsEnded right P ts x → (y : X) × IsEnded right P (map (moved d) ts) y × A x y
     ended_moves right ts x k (inner, c, whole, q, is) =
         let h = f inner x (kept_parts ts inner (c ∷ []) whole k).0 is in
         (h.0, (map (moved d) inner, moved d c, parts_moved d ts inner (c ∷ []) whole, q, h.1), h.2)

@@ -7,7 +7,7 @@ use Rattle.cw_syntax.specs.declared.program.Name.{Name}
 use Rattle.cw_syntax.specs.declared.program.Param.{Param}
 use Rattle.cw_syntax.specs.Names.{text}
 use Rattle.cw_syntax.specs.Trees.{Tree, Statement, Stated, Definition, File}
-use Rattle.cw_scope.specs.Walks.{nodes, Placed, Whole, inner, wholes_of, declaration_trees, body_of, every_statement, every_whole, every_node}
+use Rattle.cw_scope.specs.Walks.{nodes, Nested, Whole, inner, wholes_of, declaration_trees, body_of, every_statement, every_whole, every_node}
 use Rattle.cw_scope.specs.Names.{label_of, labels_of, every_label, local_names, declared_names, param_names, globals, locals}
 use Rattle.cw_scope.specs.Rules.{is_jump, loose_jump}
 use Rattle.cw_forms.specs.Moved.{Pairs, SameName, Alike}
@@ -67,27 +67,27 @@ module _ (source form : List ℕ) where
   abbrev SN : Name → Name → Type 0
   SN n m = SameName source form n m
 
-  stand_fold : (C : List Placed → List Placed → Type 0) → C [] [] → ((p q : Placed) (ps qs : List Placed) → SamePlaced source form p q → C ps qs → C (p ∷ ps) (q ∷ qs))
-      → ((p : Placed) (own ps qs : List Placed) → IsCalled source form p own → C ps qs → C (p ∷ ps) (own ++ qs)) → (ps qs : List Placed) → StandFor source form ps qs → C ps qs
-  stand_fold C none one many [] qs h = subst (λ (z : List Placed). C [] z) (sym h) none
+  stand_fold : (C : List Nested → List Nested → Type 0) → C [] [] → ((p q : Nested) (ps qs : List Nested) → SamePlaced source form p q → C ps qs → C (p ∷ ps) (q ∷ qs))
+      → ((p : Nested) (own ps qs : List Nested) → IsCalled source form p own → C ps qs → C (p ∷ ps) (own ++ qs)) → (ps qs : List Nested) → StandFor source form ps qs → C ps qs
+  stand_fold C none one many [] qs h = subst (λ (z : List Nested). C [] z) (sym h) none
   stand_fold C none one many (p ∷ ps) qs (own, rest, whole, inl (q, own_is, same), h) =
-      subst (λ (z : List Placed). C (p ∷ ps) z) (sym (whole ∙ ap (λ (z : List Placed). z ++ rest) own_is)) (one p q ps rest same (stand_fold C none one many ps rest h))
+      subst (λ (z : List Nested). C (p ∷ ps) z) (sym (whole ∙ ap (λ (z : List Nested). z ++ rest) own_is)) (one p q ps rest same (stand_fold C none one many ps rest h))
   stand_fold C none one many (p ∷ ps) qs (own, rest, whole, inr called, h) =
-      subst (λ (z : List Placed). C (p ∷ ps) z) (sym whole) (many p own ps rest called (stand_fold C none one many ps rest h))
+      subst (λ (z : List Nested). C (p ∷ ps) z) (sym whole) (many p own ps rest called (stand_fold C none one many ps rest h))
 
-  pub labels_stand : (ps qs : List Placed) → StandFor source form ps qs → Pairs SN (labels_of ps) (labels_of qs)
+  pub labels_stand : (ps qs : List Nested) → StandFor source form ps qs → Pairs SN (labels_of ps) (labels_of qs)
   labels_stand ps qs h = stand_fold (λ xs ys. Pairs SN (labels_of xs) (labels_of ys)) tt
       (λ p q xs ys same rest. pairs_both SN (label_of p.statement) (label_of q.statement) (labels_of xs) (labels_of ys) same.labels rest)
       (λ p own xs ys called rest. (rw (called.no_label, flat_map-append (λ r. label_of r.statement) own ys, called.no_labels) rest)) ps qs h
 
-  pub locals_stand : (ps qs : List Placed) → StandFor source form ps qs → Pairs SN (flat_map (λ p. local_names p.statement) ps) (flat_map (λ p. local_names p.statement) qs)
+  pub locals_stand : (ps qs : List Nested) → StandFor source form ps qs → Pairs SN (flat_map (λ p. local_names p.statement) ps) (flat_map (λ p. local_names p.statement) qs)
   locals_stand ps qs h = stand_fold (λ xs ys. Pairs SN (flat_map (λ p. local_names p.statement) xs) (flat_map (λ p. local_names p.statement) ys)) tt
       (λ p q xs ys same rest. pairs_both SN (local_names p.statement) (local_names q.statement) (flat_map (λ r. local_names r.statement) xs) (flat_map
       (λ r. local_names r.statement) ys) same.locals rest)
       (λ p own xs ys called rest. (rw (called.no_local, flat_map-append (λ r. local_names r.statement) own ys, called.no_locals) rest)) ps qs h
 
   -- jumps
-  abbrev pub loose : Placed → Option ℕ
+  abbrev pub loose : Nested → Option ℕ
   loose p = loose_jump p.looped p.statement
 
   loose_is : (l : Bool) (st : Statement) → loose_jump l st ≡ None → (jumps st && not l) ≡ false
@@ -96,7 +96,7 @@ module _ (source form : List ℕ) where
   is_loose : (l : Bool) (st : Statement) → (jumps st && not l) ≡ false → loose_jump l st ≡ None
   is_loose l (Stated form a b) e = place_none (is_jump form && not l) a e
 
-  none_jumps : (own : List Placed) → list_any (λ q. jumps q.statement) own ≡ false → NoneAll loose own
+  none_jumps : (own : List Nested) → list_any (λ q. jumps q.statement) own ≡ false → NoneAll loose own
   none_jumps [] e = tt
   none_jumps (q ∷ own) e = by (jumps q.statement) refl e (none_jumps own)
     where
@@ -104,7 +104,7 @@ module _ (source form : List ℕ) where
       by true is f rest = absurd cc
       by false is f rest = (is_loose q.looped q.statement (rw is refl), rest f)
 
-  pub jumps_stand : (ps qs : List Placed) → StandFor source form ps qs → NoneAll loose ps → NoneAll loose qs
+  pub jumps_stand : (ps qs : List Nested) → StandFor source form ps qs → NoneAll loose ps → NoneAll loose qs
   jumps_stand ps qs h = stand_fold (λ xs ys. NoneAll loose xs → NoneAll loose ys) (λ k. tt)
       (λ p q xs ys same rest k. (is_loose q.looped q.statement (rw (same.jump, same.looped) (loose_is p.looped p.statement k.0)), rest k.1))
       (λ p own xs ys called rest k. none_join loose own ys (none_jumps own called.no_jump) (rest k.1)) ps qs h
@@ -112,10 +112,10 @@ module _ (source form : List ℕ) where
   -- whole expressions
   module _ (G H : Whole → Type 0) (same : (w v : Whole) → SameWhole source form w v → G w → H v) (test : (t : Tree) → IsFork source form t → H (inner t)) (exit : (t : Tree)
       → IsExit source form t → H (standing t)) where
-    abbrev whole_list : List Placed → List Whole
+    abbrev whole_list : List Nested → List Whole
     whole_list ps = flat_map (λ p. wholes_of p.statement) ps
 
-    wholes_stand : (ps qs : List Placed) → StandFor source form ps qs → AllOf G (whole_list ps) → AllOf H (whole_list qs)
+    wholes_stand : (ps qs : List Nested) → StandFor source form ps qs → AllOf G (whole_list ps) → AllOf H (whole_list qs)
     wholes_stand ps qs h = stand_fold (λ xs ys. AllOf G (whole_list xs) → AllOf H (whole_list ys)) (λ k. tt)
         (λ p q xs ys alike rest k. (
         let both = all_split G (wholes_of p.statement) (whole_list xs) k in

@@ -6,7 +6,7 @@ use Rattle.std.proofs.lemmas.Bool.{and_parts, and_from, both_ways}
 use Rattle.cw_lemmas.proofs.Truths.{still_false}
 use Rattle.cw_lemmas.proofs.Texts.{starts_whole}
 use Rattle.cw_syntax.specs.Names.{slice}
-use Rattle.cw_lex.specs.Marks.{is_marker, HasNoMarker}
+use Rattle.cw_lex.specs.Punctuators.{is_marker, HasNoMarker}
 use Rattle.cw_detach.specs.Form.{before, behind}
 use Rattle.cw_forms.specs.Spans.{with_texts}
 
@@ -46,7 +46,7 @@ clear_take (b ∷ l) (suc n) h = (
   clear_take l n h.1,
 )
 
--- no end of a mark begins the bytes
+-- no end of a marker begins the bytes
 abbrev NoFront : List ℕ → List ℕ → Type 0
 NoFront r [] = Unit {0}
 NoFront r (x ∷ m) = (starts_with nat_eq r (x ∷ m) ≡ false) × NoFront r m

@@ -8,11 +8,11 @@ use Rattle.std.proofs.lemmas.Bool.Decides.{nat_tests}
 use Rattle.std.proofs.Math.Nat.{le-max_left, le-max_right}
 use Rattle.cw_syntax.specs.Trees.{Definition, File}
 use Rattle.cw_lex.specs.declared.tokens.Token.{Token}
-use Rattle.cw_lex.specs.Marks.{HasNoMarker}
+use Rattle.cw_lex.specs.Punctuators.{HasNoMarker}
 use Rattle.cw_lex.specs.Listed.{AreInOrder}
 use Rattle.cw_lex.specs.Tokens.{Stand, tokens_of, AreTokens}
 use Rattle.cw_lex.proofs.Ordered.{tokens_in_order}
-use Rattle.cw_grammar.specs.declared.words.Lexeme.{Lexeme}
+use Rattle.cw_grammar.specs.declared.terminals.Lexeme.{Lexeme}
 use Rattle.cw_grammar.specs.Lexemes.{AreAll}
 use Rattle.cw_grammar.specs.Spelling.{lexemes_of}
 use Rattle.cw_grammar.specs.Expressions.{IsExpression, nesting_limit}
@@ -27,7 +27,7 @@ use Rattle.cw_parse.specs.declared.fault.ParseFault.TheVariants as parse
 use Rattle.cw_detach.specs.Form.{form_of, nesting_all}
 use Rattle.cw_detach.specs.Faults.{is_shallow}
 use Rattle.cw_forms.specs.Moved.{Pairs}
-use Rattle.cw_forms.specs.Pieces.{lefts}
+use Rattle.cw_forms.specs.Stretches.{lefts}
 use Rattle.cw_forms.specs.Spans.{spans_of, with_texts}
 use Rattle.cw_forms.specs.Laws.{DeepFormsAreDeep}
 use Rattle.cw_forms.proofs.Derived.{form_is, same_limit, enough}
@@ -100,19 +100,19 @@ module _ (source : List ℕ) (names : List (List ℕ)) where
         let wider = all_weaker (IsPart nesting_limit) (IsPart N) (part_deeper nesting_limit N (omega arith)) parts (lexemes_of source tokens) all in
         let part = parts_formed source form names N wide parts (lexemes_of source tokens) 0 (length source) wider (lie_of source 0 (length source) tokens order)
         (below form N wide file.functions (omega arith)) in
-        let pieces = part.pieces in
-        let whole : form ≡ with_texts source 0 (spans_of pieces) = form_is source names file ∙ ap (with_texts source 0) (sym part.spans) in
-        let words : lexemes_of source (tokens_of 0 lexed.1.0) ≡ lefts pieces = ap (lexemes_of source) (sym lexed.1.3) ∙ sym part.left in
-        let r = lexing source form pieces [] 0 0 true lexed.1.1 lexed.1.0 lexed.1.2 words part.ended whole in
+        let stretches = part.stretches in
+        let whole : form ≡ with_texts source 0 (spans_of stretches) = form_is source names file ∙ ap (with_texts source 0) (sym part.spans) in
+        let terminals : lexemes_of source (tokens_of 0 lexed.1.0) ≡ lefts stretches = ap (lexemes_of source) (sym lexed.1.3) ∙ sym part.left in
+        let r = lexing source form stretches [] 0 0 true lexed.1.1 lexed.1.0 lexed.1.2 terminals part.ended whole in
         let l = r.2 in
         let made = part.right 0 r.4 in
-        let us = tokens_of 0 l.pieces in
+        let us = tokens_of 0 l.fronts in
         let ts = lexemes_of form us in
-        let stand : Stand true form l.pieces r.1 [] = subst (λ (z : List ℕ). Stand true z l.pieces r.1 []) (sym whole) l.stand in
-        let clear = subst (λ (z : List ℕ). HasNoMarker z) (sym whole) (no_marker source (spans_of pieces) lexed.0) in
-        let deep_file : IsFile N ts (file_of made.0) = (made.0, subst (λ (z : List Lexeme). AreAll (IsPart N) z made.0) (sym l.words) made.1, refl) in (
+        let stand : Stand true form l.fronts r.1 [] = subst (λ (z : List ℕ). Stand true z l.fronts r.1 []) (sym whole) l.stand in
+        let clear = subst (λ (z : List ℕ). HasNoMarker z) (sym whole) (no_marker source (spans_of stretches) lexed.0) in
+        let deep_file : IsFile N ts (file_of made.0) = (made.0, subst (λ (z : List Lexeme). AreAll (IsPart N) z made.0) (sym l.terminals) made.1, refl) in (
           us,
-          (clear, (l.pieces, r.1, stand, refl)),
+          (clear, (l.fronts, r.1, stand, refl)),
           (
             (file_of made.0, (N, deep_file)),
             (λ other p. (

@@ -3,7 +3,7 @@ use Rattle.std.proofs.Common.{ℕ, Bool, List, [], ◌∷◌, ◌++◌, map, Opt
 use Rattle.std.specs.List.{flat_map}
 use Rattle.cw_syntax.specs.Trees.{Tree, Trees, none, more, Declared, Declaration, Stated, Block, Evaluates, Empties, Chooses, Fors}
 use Rattle.cw_syntax.specs.Trees.{nothing, nil, cons}
-use Rattle.cw_scope.specs.Walks.{Placed, placed, given, listed, size_of, item_trees, declaration_trees, inner}
+use Rattle.cw_scope.specs.Walks.{Nested, nested, given, listed, size_of, item_trees, declaration_trees, inner}
 use Rattle.cw_scope.specs.Names.{declared_names}
 use Rattle.cw_forms.specs.Moved.{Pairs, SameName, Alike, AllAlike}
 use Rattle.cw_forms.specs.Declared.{Both, SameItem, SameDeclaration}
@@ -65,12 +65,12 @@ module _ (source form : List ℕ) where
   pub inner_pairs : (ts us : List Tree) → Pairs L ts us → Pairs (SameWhole source form) (map inner ts) (map inner us)
   inner_pairs ts us h = pairs_map L (SameWhole source form) inner inner (λ a b k. (k, refl)) ts us h
 
-  pub one_more : (p q : Placed) (ps qs : List Placed) → SamePlaced source form p q → StandFor source form ps qs → StandFor source form (p ∷ ps) (q ∷ qs)
+  pub one_more : (p q : Nested) (ps qs : List Nested) → SamePlaced source form p q → StandFor source form ps qs → StandFor source form (p ∷ ps) (q ∷ qs)
   one_more p q ps qs same h = (q ∷ [], qs, refl, inl (q, refl, same), h)
 
   pub called_is : (e again exit test : Tree) (looped : Bool) (from to a b c d g h i j k l m n o p : ℕ) → Alike source form e again → IsFork source form test → IsExit source form exit
       → IsCalled source form (record { statement = Stated (Evaluates e) from to; looped = looped })
-      (placed looped (Stated (Block (cons (Stated (Chooses test (Stated (Block (cons (Stated (Evaluates again) a b) (cons (Stated (Evaluates exit) c d)
+      (nested looped (Stated (Block (cons (Stated (Chooses test (Stated (Block (cons (Stated (Evaluates again) a b) (cons (Stated (Evaluates exit) c d)
       (cons (Stated (Fors nothing None None (Stated Empties g h)) i j) nil)))) k l) nothing) m n) nil)) o p))
   called_is e again exit test looped from to a b c d g h i j k l m n o p alike is_test is_exit = record {
     call = e;

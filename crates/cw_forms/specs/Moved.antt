@@ -5,11 +5,11 @@ use Rattle.cw_syntax.specs.declared.program.Op.{Op}
 use Rattle.cw_syntax.specs.declared.program.Op.TheVariants as op
 use Rattle.cw_syntax.specs.Names.{slice, text}
 use Rattle.cw_syntax.specs.Trees.{Tree, Node, Trees, none, more}
-use Rattle.cw_grammar.specs.declared.words.Lexeme.{Lexeme}
+use Rattle.cw_grammar.specs.declared.terminals.Lexeme.{Lexeme}
 
 -- the token, so many bytes further back
 abbrev pub moved : ℕ → Lexeme → Lexeme
-moved d t = record { word = t.word; from = t.from + d; to = t.to + d }
+moved d t = record { terminal = t.terminal; from = t.from + d; to = t.to + d }
 
 -- both lists have as many items, and those at one place are in a relation
 abbrev pub Pairs : {X Y : Type 0} → (X → Y → Type 0) → List X → List Y → Type 0

@@ -2,10 +2,10 @@
 use Rattle.std.specs.Prelude.{ℕ, List, [], ◌∷◌, ◌++◌, drop}
 use Rattle.cw_syntax.specs.Names.{slice}
 use Rattle.cw_detach.specs.Form.{before, behind}
-use Rattle.cw_forms.specs.Pieces.{Piece, Keeps, Calls}
+use Rattle.cw_forms.specs.Stretches.{Stretch, Keeps, Calls}
 
 -- from where to where each lies
-abbrev pub spans_of : List Piece → List (ℕ × ℕ)
+abbrev pub spans_of : List Stretch → List (ℕ × ℕ)
 spans_of [] = []
 spans_of (Keeps t ∷ ps) = spans_of ps
 spans_of (Calls t ys c ∷ ps) = (t.from, c.to) ∷ spans_of ps

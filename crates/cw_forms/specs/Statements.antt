@@ -6,7 +6,7 @@ use Rattle.cw_syntax.specs.declared.program.Name.{Name}
 use Rattle.cw_syntax.specs.declared.program.Op.TheVariants as op
 use Rattle.cw_syntax.specs.Names.{text}
 use Rattle.cw_syntax.specs.Trees.{Tree, Node, none, more, Statement, Stated, Form, Evaluates, Declared, Declaration, Definition, File}
-use Rattle.cw_scope.specs.Walks.{Placed, Whole, wholes_of, inner, body_of}
+use Rattle.cw_scope.specs.Walks.{Nested, Whole, wholes_of, inner, body_of}
 use Rattle.cw_scope.specs.Names.{label_of, local_names}
 use Rattle.cw_scope.specs.Rules.{is_jump}
 use Rattle.cw_scope.specs.Descriptors.{is_before}
@@ -22,7 +22,7 @@ pair_at source names _ from to = None
 abbrev pub pair_of : List ℕ → List (List ℕ) → Statement → Option (ℕ × ℕ)
 pair_of source names (Stated form from to) = pair_at source names form from to
 
-abbrev pub pairs_in : List ℕ → List (List ℕ) → List Placed → List (ℕ × ℕ)
+abbrev pub pairs_in : List ℕ → List (List ℕ) → List Nested → List (ℕ × ℕ)
 pairs_in source names ps = filter_map (λ p. pair_of source names p.statement) ps
 
 abbrev pub jumps : Statement → Bool
@@ -37,7 +37,7 @@ module _ (source form : List ℕ) where
   SameWhole w v = Alike source form w.tree v.tree × (v.stands ≡ w.stands)
 
   -- a statement, but for those in it, that is another's but for places
-  pub record SamePlaced (p q : Placed) : Type 0 where
+  pub record SamePlaced (p q : Nested) : Type 0 where
     pub looped : q.looped ≡ p.looped
     pub wholes : Pairs SameWhole (wholes_of p.statement) (wholes_of q.statement)
     pub labels : Pairs (SameName source form) (label_of p.statement) (label_of q.statement)
@@ -52,7 +52,7 @@ module _ (source form : List ℕ) where
   IsExit t = (f : Name) × (a : ℕ) × (b : ℕ) × (c : ℕ) × (d : ℕ) × (t ≡ Node (op.Call f) (more (Node (op.Number 0) none a b) none) c d) × (text form f ≡ codes "_exit")
 
   -- the statements that stand for a call, with those in them
-  pub record IsCalled (p : Placed) (qs : List Placed) : Type 0 where
+  pub record IsCalled (p : Nested) (qs : List Nested) : Type 0 where
     pub call : Tree
     pub again : Tree
     pub test : Tree
@@ -68,13 +68,13 @@ module _ (source form : List ℕ) where
     pub no_locals : flat_map (λ q. local_names q.statement) qs ≡ []
     pub no_jump : list_any (λ q. jumps q.statement) qs ≡ false
 
-  abbrev pub StandsFor : Placed → List Placed → Type 0
-  StandsFor p qs = ((q : Placed) × (qs ≡ q ∷ []) × SamePlaced p q) ⊎ IsCalled p qs
+  abbrev pub StandsFor : Nested → List Nested → Type 0
+  StandsFor p qs = ((q : Nested) × (qs ≡ q ∷ []) × SamePlaced p q) ⊎ IsCalled p qs
 
   -- each statement of the source, and what stands for it
-  abbrev pub StandFor : List Placed → List Placed → Type 0
+  abbrev pub StandFor : List Nested → List Nested → Type 0
   StandFor [] qs = qs ≡ []
-  StandFor (p ∷ ps) qs = (own : List Placed) × (rest : List Placed) × (qs ≡ own ++ rest) × StandsFor p own × StandFor ps rest
+  StandFor (p ∷ ps) qs = (own : List Nested) × (rest : List Nested) × (qs ≡ own ++ rest) × StandsFor p own × StandFor ps rest
 
   abbrev pub SameFunction : Definition → Definition → Type 0
   SameFunction f g = (d : ℕ) × MovedName source form d f.name g.name × Pairs (SameParam source form) f.params g.params × StandFor (body_of f) (body_of g)

@@ -11,7 +11,7 @@ use Rattle.cw_rights.specs.Policies.{PlainPolicy, primitives}
 use Rattle.cw_certs.specs.declared.moves.Move.{Move}
 use Rattle.cw_certs.specs.Tables.{Table}
 use Rattle.cw_syntax.specs.Plans.{Callee, Stm, Plain, Break, Continue, Return, Open, Close, Call, Group, Label, If, While, Do, For, Plan}
-use Rattle.cw_syntax.specs.Frames.{Item, Entry, Todo, Test, After, Mark, End, Frame, after_if, settle, ended, Way, On, Left, Right, Opened, Failed, after, pass, settled}
+use Rattle.cw_syntax.specs.Frames.{Item, Entry, Todo, Test, After, LoopEnd, End, Frame, after_if, settle, ended, Way, On, Left, Right, Opened, Failed, after, pass, settled}
 use Rattle.cw_model.specs.Boards.{seam_in, primitives_in, letters_in, kept_after, caps_after}
 use Rattle.cw_model.specs.Runs.{step_memories}
 use Rattle.cw_game.specs.declared.spots.Spot.{Spot}
@@ -202,5 +202,5 @@ module _ (g : List Spot) (pol : PlainPolicy) (x : ℕ) where
       let w = h.2.1 in
       is_step is (quiet (After at) is refl)
       (by_ways (λ way. after (After at) way is) (on_only is) refl refl refl refl refl) w.1 (h.0, Some w.0, w.2)
-  front_of (Mark ∷ is) p h t = cc
+  front_of (LoopEnd ∷ is) p h t = cc
   front_of (End f ∷ is) p h t = is_end (subst (λ n. slice_get g n ≡ Some (Exit f)) (sym h.2.2) h.2.3) h.2.2

@@ -6,7 +6,7 @@ use Rattle.cw_rights.specs.declared.capabilities.Primitive.TheVariants.{Split}
 use Rattle.cw_rights.specs.Words.{Word}
 use Rattle.cw_rights.specs.Policies.{PlainPolicy, primitives}
 use Rattle.cw_syntax.specs.Plans.{Plain, Break, Continue, Return, Open, Close, Call, Group, Label, If, While, Do, For, Routine, Plan}
-use Rattle.cw_syntax.specs.Frames.{Entry, Todo, Test, After, Mark, End, Frame, new_frame, settle, settled}
+use Rattle.cw_syntax.specs.Frames.{Entry, Todo, Test, After, LoopEnd, End, Frame, new_frame, settle, settled}
 use Rattle.cw_syntax.proofs.Settling.{settle_settled}
 use Rattle.cw_model.specs.Boards.{Board, primitives_in, onward, may_grant, may_refuse, can_stop, given_back, granted, mode_of}
 use Rattle.cw_game.specs.Games.{AreStates, Game, Ret, past_asked, returned, may_refuse_in, can_stop_in}
@@ -71,7 +71,7 @@ module _ (Means : Meaning) (g : List Spot) (pol : PlainPolicy) (x : ℕ) where
   begins_at (Todo (For at init decided stepped s) ∷ is) caps word p q a h t = (a, h, t)
   begins_at (Test at decided stepped s ∷ is) caps word p q a h t = (a, h, t)
   begins_at (After at ∷ is) caps word p q a h t = (a, h, t)
-  begins_at (Mark ∷ is) caps word p q a h t = (a, h, t)
+  begins_at (LoopEnd ∷ is) caps word p q a h t = (a, h, t)
   begins_at (End f ∷ is) caps word p q a h t = (a, h, t)
 
   -- what a step leaves, rewritten, begins where it stands

@@ -12,7 +12,7 @@ use Rattle.cw_game.specs.declared.spots.Spot.{Spot}
 use Rattle.cw_game.specs.declared.spots.Spot.TheVariants.{Step, Label as LabelSpot}
 use Rattle.cw_game.specs.Games.{AreStates, Game, Ret, Config, leads_to}
 use Rattle.cw_game.specs.Reached.{Reached}
-use Rattle.cw_game.specs.Places.{Visits, CallsAt, Placed, AtIn, At, IsLaidOut, HasRoutines}
+use Rattle.cw_game.specs.Places.{Visits, CallsAt, Situated, AtIn, At, IsLaidOut, HasRoutines}
 
 -- what a state stands for: `Means q word caps` says that state q stands for this word and these capabilities
 abbrev pub Meaning : Type 1
@@ -22,7 +22,7 @@ Meaning = ℕ → Word → Caps → Type 0
 abbrev pub FreeIn : List Spot → PlainPolicy → ℕ → Option ℕ → Option ℕ → Frame → ℕ → Type 0
 FreeIn g pol x b c (Entry f j ∷ is) z = (m : ℕ) × (slice_get g z ≡ Some (Step m)) × AtIn g pol x b c is m
 FreeIn g pol x b c (Todo (Label at mark j l s) ∷ is) z =
-    (k : ℕ) × ((m : ℕ) × (slice_get g z ≡ Some (LabelSpot j l m)) × Placed g pol x b c s m k) × AtIn g pol x b c is k
+    (k : ℕ) × ((m : ℕ) × (slice_get g z ≡ Some (LabelSpot j l m)) × Situated g pol x b c s m k) × AtIn g pol x b c is k
 FreeIn g pol x b c (Todo (Call at j callee) ∷ is) z = (k : ℕ) × CallsAt g j callee z k × AtIn g pol x b c is k
 FreeIn g pol x b c frame z = AtIn g pol x b c frame z
 

@@ -3,17 +3,17 @@ use Rattle.std.proofs.Common.{ℕ, false, List, [], ◌∷◌, ◌++◌, refl, a
 use Rattle.cw_syntax.specs.declared.program.Base.TheVariants as base
 use Rattle.cw_syntax.specs.declared.program.Op.TheVariants as op
 use Rattle.cw_syntax.specs.Trees.{Tree, Node, none, Statement, Stated, Chooses, Empties, nothing, just, nil, cons, Definition}
-use Rattle.cw_grammar.specs.declared.words.Word.{Word}
-use Rattle.cw_grammar.specs.declared.words.Word.TheVariants as w
-use Rattle.cw_grammar.specs.declared.words.Lexeme.{Lexeme}
+use Rattle.cw_grammar.specs.declared.terminals.Terminal.{Terminal}
+use Rattle.cw_grammar.specs.declared.terminals.Terminal.TheVariants as w
+use Rattle.cw_grammar.specs.declared.terminals.Lexeme.{Lexeme}
 use Rattle.cw_grammar.specs.Lexemes.{Is}
 use Rattle.cw_grammar.specs.Expressions.{IsExpression, loosest}
 use Rattle.cw_grammar.specs.Statements.{InBlock, Elsewhere, IsStatement}
 use Rattle.cw_grammar.specs.Declarations.{Specifiers, IsHeader}
 use Rattle.cw_grammar.specs.Files.{Defines, IsFunction, IsFile}
 
-abbrev at : Word → ℕ → ℕ → Lexeme
-at word from to = record { word = word; from = from; to = to }
+abbrev at : Terminal → ℕ → ℕ → Lexeme
+at terminal from to = record { terminal = terminal; from = from; to = to }
 
 name_tree : Lexeme → Tree
 name_tree n = Node op.Name none n.from n.to

@@ -1,4 +1,4 @@
-pub mod SameWord
+pub mod SameTerminal
 pub mod TreeRows
 mod Placed
 mod Examples

@@ -5,8 +5,8 @@ use Rattle.cw_lex.specs.declared.tokens.TokenKind.TheVariants as kind
 use Rattle.cw_lex.specs.declared.tokens.TokenKind.{TokenKind}
 use Rattle.cw_lex.specs.declared.tokens.Token.{Token}
 use Rattle.cw_syntax.specs.Names.{slice}
-use Rattle.cw_lex.specs.declared.piece.Front.TheVariants as piece
-use Rattle.cw_lex.specs.Pieces.{piece_at}
+use Rattle.cw_lex.specs.declared.front.Front.TheVariants as front
+use Rattle.cw_lex.specs.Fronts.{front_at}
 use Rattle.cw_lex.specs.Numbers.{number_of}
 use Rattle.cw_lex.specs.Tokens.{AreTokens}
 use Rattle.cw_lex.specs.Listed.{AreInOrder, AreOfTheirKind}
@@ -23,14 +23,14 @@ pub record IsPlaced (source : List ℕ) (t : Token) : Type 0 where
 slice_length : (source : List ℕ) (from to : ℕ) → from ≤ to → to ≤ length source → length (slice source from to) ≡ to - from
 slice_length source from to p q = omega (arith, length-take (to - from) (drop from source), length-drop from source)
 
-small_at : (text : List ℕ) (n : ℕ) → length text ≡ n → piece_at true text ≡ piece.Token kind.Number n → number_of text < 2 ^ 64
-small_at text n len is = number_is_small text (numbers text (is ∙ ap (λ (z : ℕ). piece.Token kind.Number z) (sym len)))
+small_at : (text : List ℕ) (n : ℕ) → length text ≡ n → front_at true text ≡ front.Token kind.Number n → number_of text < 2 ^ 64
+small_at text n len is = number_is_small text (numbers text (is ∙ ap (λ (z : ℕ). front.Token kind.Number z) (sym len)))
 
-token_placed : (source : List ℕ) (t : Token) → t.from ≤ t.to → t.to ≤ length source → piece_at true (slice source t.from t.to) ≡ piece.Token t.kind (t.to - t.from) → IsPlaced source t
+token_placed : (source : List ℕ) (t : Token) → t.from ≤ t.to → t.to ≤ length source → front_at true (slice source t.from t.to) ≡ front.Token t.kind (t.to - t.from) → IsPlaced source t
 token_placed source t p q is = record {
   order = p;
   within = q;
-  small = λ k. small_at (slice source t.from t.to) (t.to - t.from) (slice_length source t.from t.to p q) (is ∙ ap (λ (z : TokenKind). piece.Token z (t.to - t.from)) k);
+  small = λ k. small_at (slice source t.from t.to) (t.to - t.from) (slice_length source t.from t.to p q) (is ∙ ap (λ (z : TokenKind). front.Token z (t.to - t.from)) k);
 }
 
 all_placed : (source : List ℕ) (from : ℕ) (ts : List Token) → AreInOrder from (length source) ts → AreOfTheirKind source ts → (i : ℕ) (d : Token) → i < length ts

@@ -6,9 +6,9 @@ use Rattle.cw_syntax.specs.declared.program.CType.{CType}
 use Rattle.cw_syntax.specs.declared.program.Base.{Base}
 use Rattle.cw_syntax.specs.declared.program.Param.{Param}
 use Rattle.cw_syntax.specs.Trees.{Tree, Trees, none, more, Declared, Declaration, Prototype}
-use Rattle.cw_grammar.specs.declared.words.Word.TheVariants as w
-use Rattle.cw_grammar.specs.declared.words.Lexeme.{Lexeme}
-use Rattle.cw_grammar.specs.Lexemes.{Is, words, name_of, from_of, to_of, IsFlag, IsOptional, AreSeparated, IsBetween, IsEnded, trees}
+use Rattle.cw_grammar.specs.declared.terminals.Terminal.TheVariants as w
+use Rattle.cw_grammar.specs.declared.terminals.Lexeme.{Lexeme}
+use Rattle.cw_grammar.specs.Lexemes.{Is, terminals, name_of, from_of, to_of, IsFlag, IsOptional, AreSeparated, IsBetween, IsEnded, trees}
 use Rattle.cw_grammar.specs.Types.{IsType, AreStars, IsTypeName}
 
 abbrev pub Expressions : Type 1
@@ -22,8 +22,8 @@ IsName ts name = (n : Lexeme) × (ts ≡ n ∷ []) × Is w.Name n × (name ≡ n
 -- `[ "extern" | "static" ]`
 abbrev pub IsStorage : List Lexeme → (external fixed : Bool) → Type 0
 IsStorage ts false false = ts ≡ []
-IsStorage ts true false = words ts ≡ w.Extern ∷ []
-IsStorage ts false true = words ts ≡ w.Static ∷ []
+IsStorage ts true false = terminals ts ≡ w.Extern ∷ []
+IsStorage ts false true = terminals ts ≡ w.Static ∷ []
 IsStorage ts true true = ⊥
 
 -- what stands before the stars of each name that is declared
@@ -84,7 +84,7 @@ IsDeclaration E ts d =
 
 -- `[ "[" "]" ]`
 abbrev pub IsBrackets : List Lexeme → Bool → Type 0
-IsBrackets ts true = words ts ≡ w.OpenBracket ∷ w.CloseBracket ∷ []
+IsBrackets ts true = terminals ts ≡ w.OpenBracket ∷ w.CloseBracket ∷ []
 IsBrackets ts false = ts ≡ []
 
 -- `[ "const" ] type stars [ name ] [ "[" "]" ]`
@@ -97,8 +97,8 @@ IsParam ts p =
 -- `(void)` is the list without parameters, and is read in no other way
 abbrev pub AreParams : List Lexeme → List Param → Type 0
 AreParams ts ps =
-    ((words ts ≡ w.Void ∷ []) × (ps ≡ []))
-    ⊎ ((words ts ≢ w.Void ∷ []) × AreSeparated IsParam ts ps)
+    ((terminals ts ≡ w.Void ∷ []) × (ps ≡ []))
+    ⊎ ((terminals ts ≢ w.Void ∷ []) × AreSeparated IsParam ts ps)
 
 -- `specs stars name "(" params ")"`
 abbrev pub IsHeader : List Lexeme → Name → CType → List Param → Type 0

@@ -5,8 +5,8 @@ use Rattle.cw_syntax.specs.declared.program.CType.{CType}
 use Rattle.cw_syntax.specs.declared.program.Op.{Op}
 use Rattle.cw_syntax.specs.declared.program.Op.TheVariants as op
 use Rattle.cw_syntax.specs.Trees.{Tree, Node}
-use Rattle.cw_grammar.specs.declared.words.Word.TheVariants as w
-use Rattle.cw_grammar.specs.declared.words.Lexeme.{Lexeme}
+use Rattle.cw_grammar.specs.declared.terminals.Terminal.TheVariants as w
+use Rattle.cw_grammar.specs.declared.terminals.Lexeme.{Lexeme}
 use Rattle.cw_grammar.specs.declared.rules.Rule.{Rule}
 use Rattle.cw_grammar.specs.declared.rules.Rule.TheVariants.{Expression, Level, Unary, Postfix}
 use Rattle.cw_grammar.specs.Operators as operators
@@ -71,7 +71,7 @@ IsIndex P ts e =
 abbrev pub IsSuffix : Derives → List Lexeme → Tree → Type 0
 IsSuffix P ts e =
     (a : List Lexeme) × (t : Lexeme) × (number : ℕ) × (x : Tree)
-    × (ts ≡ a ++ t ∷ []) × (operators.suffix t.word ≡ Some number) × P Postfix a x
+    × (ts ≡ a ++ t ∷ []) × (operators.suffix t.terminal ≡ Some number) × P Postfix a x
     × (e ≡ node (op.Suffix number) (x ∷ []) ts)
 
 abbrev pub IsPostfix : Derives → List Lexeme → Tree → Type 0
@@ -83,14 +83,14 @@ IsPostfix P ts e = IsPrimary P ts e ⊎ IsIndex P ts e ⊎ IsSuffix P ts e
 abbrev pub IsSigned : Derives → List Lexeme → Tree → Type 0
 IsSigned P ts e =
     (t : Lexeme) × (b : List Lexeme) × (number : ℕ) × (x : Tree)
-    × (ts ≡ t ∷ b) × (operators.sign t.word ≡ Some number) × P (Level 0) b x
+    × (ts ≡ t ∷ b) × (operators.sign t.terminal ≡ Some number) × P (Level 0) b x
     × (e ≡ node (op.Prefix number) (x ∷ []) ts)
 
 -- `++` or `--` before a unary
 abbrev pub IsStepped : Derives → List Lexeme → Tree → Type 0
 IsStepped P ts e =
     (t : Lexeme) × (b : List Lexeme) × (number : ℕ) × (x : Tree)
-    × (ts ≡ t ∷ b) × (operators.step t.word ≡ Some number) × P Unary b x
+    × (ts ≡ t ∷ b) × (operators.step t.terminal ≡ Some number) × P Unary b x
     × (e ≡ node (op.Prefix number) (x ∷ []) ts)
 
 -- `sizeof` before a unary
@@ -126,7 +126,7 @@ IsOperand P ts e = IsCast P ts e ⊎ IsUnary P ts e
 abbrev pub IsBinary : Derives → (below : ℕ) → List Lexeme → Tree → Type 0
 IsBinary P below ts e =
     (a : List Lexeme) × (t : Lexeme) × (b : List Lexeme) × (number : ℕ) × (x : Tree) × (y : Tree)
-    × (ts ≡ a ++ t ∷ b) × (operators.binary t.word ≡ Some (number, suc below)) × P (Level (suc below)) a x × P (Level below) b y
+    × (ts ≡ a ++ t ∷ b) × (operators.binary t.terminal ≡ Some (number, suc below)) × P (Level (suc below)) a x × P (Level below) b y
     × (e ≡ node (op.Binary number) (x ∷ y ∷ []) ts)
 
 abbrev pub IsLevel : Derives → ℕ → List Lexeme → Tree → Type 0
@@ -138,7 +138,7 @@ IsLevel P (suc below) ts e = IsLevel P below ts e ⊎ IsBinary P below ts e
 abbrev pub IsAssignment : Derives → List Lexeme → Tree → Type 0
 IsAssignment P ts e =
     (a : List Lexeme) × (t : Lexeme) × (b : List Lexeme) × (number : ℕ) × (x : Tree) × (y : Tree)
-    × (ts ≡ a ++ t ∷ b) × (operators.assign t.word ≡ Some number) × P Unary a x × P Expression b y
+    × (ts ≡ a ++ t ∷ b) × (operators.assign t.terminal ≡ Some number) × P Unary a x × P Expression b y
     × (e ≡ node (op.Assign number) (x ∷ y ∷ []) ts)
 
 abbrev pub IsRule : Derives → Rule → List Lexeme → Tree → Type 0

@@ -1,16 +1,16 @@
--- Tokens one after the other, and what they are in pieces.
+-- Tokens one after the other, and what they are in fronts.
 use Rattle.std.specs.Prelude.{◌≡◌, ℕ, Bool, true, false, Option, Some, None, List, [], ◌∷◌, ◌++◌, map}
 use Rattle.cw_syntax.specs.declared.program.Name.{Name}
 use Rattle.cw_syntax.specs.Trees.{Tree, Trees, none, more, Statement, Statements, nil, cons}
-use Rattle.cw_grammar.specs.declared.words.Word.{Word}
-use Rattle.cw_grammar.specs.declared.words.Word.TheVariants as w
-use Rattle.cw_grammar.specs.declared.words.Lexeme.{Lexeme}
+use Rattle.cw_grammar.specs.declared.terminals.Terminal.{Terminal}
+use Rattle.cw_grammar.specs.declared.terminals.Terminal.TheVariants as w
+use Rattle.cw_grammar.specs.declared.terminals.Lexeme.{Lexeme}
 
-abbrev pub Is : Word → Lexeme → Type 0
-Is word t = t.word ≡ word
+abbrev pub Is : Terminal → Lexeme → Type 0
+Is terminal t = t.terminal ≡ terminal
 
-abbrev pub words : List Lexeme → List Word
-words ts = map (λ t. t.word) ts
+abbrev pub terminals : List Lexeme → List Terminal
+terminals ts = map (λ t. t.terminal) ts
 
 abbrev pub name_of : Lexeme → Name
 name_of t = record { from = t.from; to = t.to }
@@ -25,10 +25,10 @@ to_of [] = 0
 to_of (t ∷ []) = t.to
 to_of (t ∷ u ∷ ts) = to_of (u ∷ ts)
 
--- `[ word ]`: whether it stands there
-abbrev pub IsFlag : Word → List Lexeme → Bool → Type 0
-IsFlag word ts true = words ts ≡ word ∷ []
-IsFlag word ts false = ts ≡ []
+-- `[ terminal ]`: whether it stands there
+abbrev pub IsFlag : Terminal → List Lexeme → Bool → Type 0
+IsFlag terminal ts true = terminals ts ≡ terminal ∷ []
+IsFlag terminal ts false = ts ≡ []
 
 -- `[ X ]`, where P says what an X is
 abbrev pub IsOptional : {X : Type 0} → (List Lexeme → X → Type 0) → List Lexeme → Option X → Type 0
@@ -46,12 +46,12 @@ AreSeparated P ts [] = ts ≡ []
 AreSeparated P ts (x ∷ []) = P ts x
 AreSeparated P ts (x ∷ y ∷ ys) = (a : List Lexeme) × (c : Lexeme) × (b : List Lexeme) × (ts ≡ a ++ c ∷ b) × Is w.Comma c × P a x × AreSeparated P b (y ∷ ys)
 
--- an X between two marks
-abbrev pub IsBetween : {X : Type 0} → (opens closes : Word) → (List Lexeme → X → Type 0) → List Lexeme → X → Type 0
+-- an X between two punctuators
+abbrev pub IsBetween : {X : Type 0} → (opens closes : Terminal) → (List Lexeme → X → Type 0) → List Lexeme → X → Type 0
 IsBetween opens closes P ts x = (o : Lexeme) × (inner : List Lexeme) × (c : Lexeme) × (ts ≡ o ∷ inner ++ c ∷ []) × Is opens o × Is closes c × P inner x
 
--- an X before a mark
-abbrev pub IsEnded : {X : Type 0} → (closes : Word) → (List Lexeme → X → Type 0) → List Lexeme → X → Type 0
+-- an X before a punctuator
+abbrev pub IsEnded : {X : Type 0} → (closes : Terminal) → (List Lexeme → X → Type 0) → List Lexeme → X → Type 0
 IsEnded closes P ts x = (inner : List Lexeme) × (c : Lexeme) × (ts ≡ inner ++ c ∷ []) × Is closes c × P inner x
 
 -- lists as parts of trees

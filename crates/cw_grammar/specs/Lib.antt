@@ -1,4 +1,4 @@
-pub mod Words
+pub mod Terminals
 pub mod Operators
 pub mod Lexemes
 pub mod Types

@@ -1,11 +1,11 @@
 -- The operators by their numbers: the place of each, from 0, in the list of its kind.
 -- Public source: ISO/IEC 9899:2011, 6.5.2.4 (suffixes), 6.5.3 (prefixes), 6.5.5 to 6.5.14 (levels of binary operators), 6.5.16 (assignment).
 use Rattle.std.specs.Prelude.{ℕ, Option, Some, None}
-use Rattle.cw_grammar.specs.declared.words.Word.{Word}
-use Rattle.cw_grammar.specs.declared.words.Word.TheVariants as w
+use Rattle.cw_grammar.specs.declared.terminals.Terminal.{Terminal}
+use Rattle.cw_grammar.specs.declared.terminals.Terminal.TheVariants as w
 
 -- those of `+ - ! ~ * & ++ --` that stand before an operand
-abbrev pub sign : Word → Option ℕ
+abbrev pub sign : Terminal → Option ℕ
 sign w.Plus = Some 0
 sign w.Minus = Some 1
 sign w.Exclamation = Some 2
@@ -15,18 +15,18 @@ sign w.Ampersand = Some 5
 sign _ = None
 
 -- the two others, which stand before a unary
-abbrev pub step : Word → Option ℕ
+abbrev pub step : Terminal → Option ℕ
 step w.PlusPlus = Some 6
 step w.MinusMinus = Some 7
 step _ = None
 
-abbrev pub suffix : Word → Option ℕ
+abbrev pub suffix : Terminal → Option ℕ
 suffix w.PlusPlus = Some 0
 suffix w.MinusMinus = Some 1
 suffix _ = None
 
 -- a binary operator's number, and its level: those of level 1 bind tightest
-abbrev pub binary : Word → Option (ℕ × ℕ)
+abbrev pub binary : Terminal → Option (ℕ × ℕ)
 binary w.BarBar = Some (0, 10)
 binary w.AmpersandAmpersand = Some (1, 9)
 binary w.Bar = Some (2, 8)
@@ -47,7 +47,7 @@ binary w.Slash = Some (16, 1)
 binary w.Percent = Some (17, 1)
 binary _ = None
 
-abbrev pub assign : Word → Option ℕ
+abbrev pub assign : Terminal → Option ℕ
 assign w.Assign = Some 0
 assign w.AddAssign = Some 1
 assign w.SubtractAssign = Some 2

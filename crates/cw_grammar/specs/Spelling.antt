@@ -1,4 +1,4 @@
--- The words of a source's tokens. Public source: ISO/IEC 9899:2011, 6.4.1 (keywords), 6.4.4 (constants), 6.4.6 (punctuators).
+-- The terminals of a source's tokens. Public source: ISO/IEC 9899:2011, 6.4.1 (keywords), 6.4.4 (constants), 6.4.6 (punctuators).
 use Rattle.std.specs.Prelude.{ℕ, Option, Some, None, List, [], ◌∷◌, map, codes, if◌then◌else◌}
 use Rattle.std.specs.Option.{unwrap_or}
 use Rattle.std.specs.Str.{bytes_eq}
@@ -8,13 +8,13 @@ use Rattle.cw_lex.specs.declared.tokens.Token.{Token}
 use Rattle.cw_syntax.specs.Names.{slice}
 use Rattle.cw_lex.specs.Numbers.{number_of}
 use Rattle.cw_lex.specs.Characters.{character_of}
-use Rattle.cw_grammar.specs.declared.words.Word.{Word}
-use Rattle.cw_grammar.specs.declared.words.Word.TheVariants as w
-use Rattle.cw_grammar.specs.declared.words.Lexeme.{Lexeme}
+use Rattle.cw_grammar.specs.declared.terminals.Terminal.{Terminal}
+use Rattle.cw_grammar.specs.declared.terminals.Terminal.TheVariants as w
+use Rattle.cw_grammar.specs.declared.terminals.Lexeme.{Lexeme}
 
--- words by their texts
+-- terminals by their texts
 abbrev pub Spellings : Type 0
-Spellings = List (List ℕ × Word)
+Spellings = List (List ℕ × Terminal)
 
 -- the keywords of the grammar
 abbrev pub keywords : Spellings
@@ -46,26 +46,26 @@ short_punctuators =
     ∷ (codes "!", w.Exclamation) ∷ (codes "<", w.Less) ∷ (codes ">", w.Greater)
     ∷ []
 
--- the word of this text
-abbrev pub spelled : Spellings → List ℕ → Option Word
+-- the terminal of this text
+abbrev pub spelled : Spellings → List ℕ → Option Terminal
 spelled [] text = None
 spelled (s ∷ ss) text = if bytes_eq text s.0 then Some s.1 else spelled ss text
 
-abbrev pub punctuator : List ℕ → Option Word
-punctuator text = elim (spelled long_punctuators text) [ Some word ↦ Some word | None ↦ spelled short_punctuators text ]
+abbrev pub punctuator : List ℕ → Option Terminal
+punctuator text = elim (spelled long_punctuators text) [ Some terminal ↦ Some terminal | None ↦ spelled short_punctuators text ]
 
 -- What no rule uses is `OtherKeyword`.
-unfoldable pub word_of : TokenKind → List ℕ → Word
-word_of kind.Name text = w.Name
-word_of kind.Keyword text = unwrap_or (spelled keywords text) w.OtherKeyword
-word_of kind.Number text = w.Number (number_of text)
-word_of kind.Character text = w.Character (character_of text)
-word_of kind.Text text = w.Text
-word_of kind.Punctuation text = unwrap_or (punctuator text) w.OtherKeyword
+unfoldable pub terminal_of : TokenKind → List ℕ → Terminal
+terminal_of kind.Name text = w.Name
+terminal_of kind.Keyword text = unwrap_or (spelled keywords text) w.OtherKeyword
+terminal_of kind.Number text = w.Number (number_of text)
+terminal_of kind.Character text = w.Character (character_of text)
+terminal_of kind.Text text = w.Text
+terminal_of kind.Punctuation text = unwrap_or (punctuator text) w.OtherKeyword
 
--- a token of a source, by its word
+-- a token of a source, by its terminal
 abbrev pub lexeme_of : List ℕ → Token → Lexeme
-lexeme_of source t = record { word = word_of t.kind (slice source t.from t.to); from = t.from; to = t.to }
+lexeme_of source t = record { terminal = terminal_of t.kind (slice source t.from t.to); from = t.from; to = t.to }
 
 abbrev pub lexemes_of : List ℕ → List Token → List Lexeme
 lexemes_of source ts = map (lexeme_of source) ts

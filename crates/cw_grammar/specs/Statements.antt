@@ -2,9 +2,9 @@
 -- Public source: ISO/IEC 9899:2011, 6.8 (statements; an `else` belongs to the nearest `if` that allows it).
 use Rattle.std.specs.Prelude.{◌≡◌, ◌≢◌, ℕ, zero, suc, List, [], ◌∷◌, ◌++◌}
 use Rattle.cw_syntax.specs.Trees.{Tree, Statement, Stated, Form, Block, Declares, Evaluates, Empties, Labels, Chooses, Whiles, Does, Fors, Breaks, Continues, Returns, Perhaps, nothing, just}
-use Rattle.cw_grammar.specs.declared.words.Word.TheVariants as w
-use Rattle.cw_grammar.specs.declared.words.Lexeme.{Lexeme}
-use Rattle.cw_grammar.specs.Lexemes.{Is, words, name_of, from_of, to_of, IsOptional, AreAll, IsBetween, IsEnded, statements}
+use Rattle.cw_grammar.specs.declared.terminals.Terminal.TheVariants as w
+use Rattle.cw_grammar.specs.declared.terminals.Lexeme.{Lexeme}
+use Rattle.cw_grammar.specs.Lexemes.{Is, terminals, name_of, from_of, to_of, IsOptional, AreAll, IsBetween, IsEnded, statements}
 use Rattle.cw_grammar.specs.Expressions.{IsExpression}
 use Rattle.cw_grammar.specs.Declarations.{Expressions, IsDeclaration}
 
@@ -27,7 +27,7 @@ IsTest E ts e = IsBetween w.Open w.Close E ts e
 
 -- the first part of the head of a `for`: `decl | [ expr ] ";"`
 abbrev pub IsInit : Expressions → List Lexeme → Perhaps → Type 0
-IsInit E ts nothing = words ts ≡ w.Semicolon ∷ []
+IsInit E ts nothing = terminals ts ≡ w.Semicolon ∷ []
 IsInit E ts (just (Stated (Evaluates e) from to)) = (from ≡ from_of ts) × (to ≡ to_of ts) × IsEnded w.Semicolon E ts e
 IsInit E ts (just (Stated (Declares d) from to)) = (from ≡ from_of ts) × (to ≡ to_of ts) × IsDeclaration E ts d
 IsInit E ts (just _) = ⊥
@@ -37,32 +37,32 @@ abbrev pub IsForm : Expressions → (Place → List Lexeme → Statement → Typ
 IsForm E P place ts (Block kids) = (inner : List Statement) × (kids ≡ statements inner) × IsBetween w.OpenBrace w.CloseBrace (AreAll (P InBlock)) ts inner
 IsForm E P place ts (Declares d) = (place ≡ InBlock) × IsDeclaration E ts d
 IsForm E P place ts (Evaluates e) = IsEnded w.Semicolon E ts e
-IsForm E P place ts Empties = words ts ≡ w.Semicolon ∷ []
+IsForm E P place ts Empties = terminals ts ≡ w.Semicolon ∷ []
 IsForm E P place ts (Labels name mark body) =
     (label : Lexeme) × (colon : Lexeme) × (rest : List Lexeme) × (ts ≡ label ∷ colon ∷ rest)
     × Is w.Name label × Is w.Colon colon × (name ≡ name_of label) × (mark ≡ colon.to) × P (last place) rest body
 IsForm E P place ts (Chooses test body nothing) =
-    (if_word : Lexeme) × (condition : List Lexeme) × (arm : List Lexeme) × (ts ≡ if_word ∷ condition ++ arm)
-    × (place ≢ BeforeElse) × Is w.If if_word × IsTest E condition test × P Elsewhere arm body
+    (if_keyword : Lexeme) × (condition : List Lexeme) × (arm : List Lexeme) × (ts ≡ if_keyword ∷ condition ++ arm)
+    × (place ≢ BeforeElse) × Is w.If if_keyword × IsTest E condition test × P Elsewhere arm body
 IsForm E P place ts (Chooses test body (just other)) =
-    (if_word : Lexeme) × (condition : List Lexeme) × (arm : List Lexeme) × (else_word : Lexeme) × (second_arm : List Lexeme)
-    × (ts ≡ if_word ∷ condition ++ (arm ++ else_word ∷ second_arm))
-    × Is w.If if_word × IsTest E condition test × P BeforeElse arm body × Is w.Else else_word × P (last place) second_arm other
+    (if_keyword : Lexeme) × (condition : List Lexeme) × (arm : List Lexeme) × (else_keyword : Lexeme) × (second_arm : List Lexeme)
+    × (ts ≡ if_keyword ∷ condition ++ (arm ++ else_keyword ∷ second_arm))
+    × Is w.If if_keyword × IsTest E condition test × P BeforeElse arm body × Is w.Else else_keyword × P (last place) second_arm other
 IsForm E P place ts (Whiles test body) =
-    (while_word : Lexeme) × (condition : List Lexeme) × (inner : List Lexeme) × (ts ≡ while_word ∷ condition ++ inner)
-    × Is w.While while_word × IsTest E condition test × P (last place) inner body
+    (while_keyword : Lexeme) × (condition : List Lexeme) × (inner : List Lexeme) × (ts ≡ while_keyword ∷ condition ++ inner)
+    × Is w.While while_keyword × IsTest E condition test × P (last place) inner body
 IsForm E P place ts (Does body test) =
-    (do_word : Lexeme) × (inner : List Lexeme) × (while_word : Lexeme) × (condition : List Lexeme) × (semicolon : Lexeme)
-    × (ts ≡ do_word ∷ inner ++ (while_word ∷ condition ++ semicolon ∷ []))
-    × Is w.Do do_word × P Elsewhere inner body × Is w.While while_word × IsTest E condition test × Is w.Semicolon semicolon
+    (do_keyword : Lexeme) × (inner : List Lexeme) × (while_keyword : Lexeme) × (condition : List Lexeme) × (semicolon : Lexeme)
+    × (ts ≡ do_keyword ∷ inner ++ (while_keyword ∷ condition ++ semicolon ∷ []))
+    × Is w.Do do_keyword × P Elsewhere inner body × Is w.While while_keyword × IsTest E condition test × Is w.Semicolon semicolon
 IsForm E P place ts (Fors init test step body) =
-    (for_word : Lexeme) × (opens : Lexeme) × (start : List Lexeme) × (condition : List Lexeme) × (turn : List Lexeme) × (inner : List Lexeme)
-    × (ts ≡ for_word ∷ opens ∷ start ++ (condition ++ (turn ++ inner))) × Is w.For for_word × Is w.Open opens × IsInit E start init
+    (for_keyword : Lexeme) × (opens : Lexeme) × (start : List Lexeme) × (condition : List Lexeme) × (turn : List Lexeme) × (inner : List Lexeme)
+    × (ts ≡ for_keyword ∷ opens ∷ start ++ (condition ++ (turn ++ inner))) × Is w.For for_keyword × Is w.Open opens × IsInit E start init
     × IsEnded w.Semicolon (IsOptional E) condition test × IsEnded w.Close (IsOptional E) turn step × P (last place) inner body
-IsForm E P place ts Breaks = words ts ≡ w.Break ∷ w.Semicolon ∷ []
-IsForm E P place ts Continues = words ts ≡ w.Continue ∷ w.Semicolon ∷ []
+IsForm E P place ts Breaks = terminals ts ≡ w.Break ∷ w.Semicolon ∷ []
+IsForm E P place ts Continues = terminals ts ≡ w.Continue ∷ w.Semicolon ∷ []
 IsForm E P place ts (Returns value) =
-    (return_word : Lexeme) × (rest : List Lexeme) × (ts ≡ return_word ∷ rest) × Is w.Return return_word × IsEnded w.Semicolon (IsOptional E) rest value
+    (return_keyword : Lexeme) × (rest : List Lexeme) × (ts ≡ return_keyword ∷ rest) × Is w.Return return_keyword × IsEnded w.Semicolon (IsOptional E) rest value
 
 -- The tokens derive the statement, with at most these nestings of expressions and of statements.
 abbrev pub IsStatement : (limit n : ℕ) → Place → List Lexeme → Statement → Type 0

@@ -3,14 +3,14 @@ use Rattle.std.specs.Prelude.{◌≡◌, ℕ, ◌≤◌, ◌⊎◌, Bool, true, 
 use Rattle.cw_syntax.specs.declared.program.CType.{CType}
 use Rattle.cw_syntax.specs.declared.program.Base.{Base}
 use Rattle.cw_syntax.specs.declared.program.Base.TheVariants as base
-use Rattle.cw_grammar.specs.declared.words.Word.{Word}
-use Rattle.cw_grammar.specs.declared.words.Word.TheVariants as w
-use Rattle.cw_grammar.specs.declared.words.Lexeme.{Lexeme}
-use Rattle.cw_grammar.specs.Lexemes.{words, IsFlag}
+use Rattle.cw_grammar.specs.declared.terminals.Terminal.{Terminal}
+use Rattle.cw_grammar.specs.declared.terminals.Terminal.TheVariants as w
+use Rattle.cw_grammar.specs.declared.terminals.Lexeme.{Lexeme}
+use Rattle.cw_grammar.specs.Lexemes.{terminals, IsFlag}
 
--- `type`: its words, its base, and whether it is unsigned
-abbrev pub type_words : List (List Word × (Base × Bool))
-type_words =
+-- `type`: its terminals, its base, and whether it is unsigned
+abbrev pub type_terminals : List (List Terminal × (Base × Bool))
+type_terminals =
     (w.Void ∷ [], (base.Void, false))
     ∷ (w.Char ∷ [], (base.Char, false))
     ∷ (w.Unsigned ∷ w.Char ∷ [], (base.Char, true))
@@ -29,11 +29,11 @@ IsAmong x [] = ⊥
 IsAmong x (y ∷ ys) = (x ≡ y) ⊎ IsAmong x ys
 
 abbrev pub IsType : List Lexeme → Base → Bool → Type 0
-IsType ts base unsigned = IsAmong (words ts, (base, unsigned)) type_words
+IsType ts base unsigned = IsAmong (terminals ts, (base, unsigned)) type_terminals
 
 -- `[ "*" [ "*" ] ]`: how many
 abbrev pub AreStars : List Lexeme → ℕ → Type 0
-AreStars ts stars = (stars ≤ 2) × (words ts ≡ replicate stars w.Star)
+AreStars ts stars = (stars ≤ 2) × (terminals ts ≡ replicate stars w.Star)
 
 -- `[ "const" ] type stars`
 abbrev pub IsTypeName : List Lexeme → CType → Type 0

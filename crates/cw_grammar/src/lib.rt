@@ -3,4 +3,4 @@
 
 pub mod rules;
 pub mod spelling;
-pub mod words;
+pub mod terminals;

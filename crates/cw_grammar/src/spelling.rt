@@ -1,45 +1,45 @@
-//! The words of a source's tokens.
+//! The terminals of a source's tokens.
 
 ghost use Rattle.std.specs.Prelude.{◌≡◌, ◌^◌, ◌<◌, ◌≤◌, ◌∷◌, [], length, IfOk};
 ghost use Rattle.cw_lex.specs.declared.tokens.TokenKind.TheVariants.{Number};
 ghost use Rattle.cw_syntax.specs.Names.{slice};
 ghost use Rattle.cw_lex.specs.Numbers.{number_of};
 ghost use Rattle.cw_lex.specs.Tokens.{AreTokens};
-ghost use Rattle.cw_grammar.specs.Spelling.{keywords, long_punctuators, short_punctuators, spelled, punctuator, word_of, lexeme_of, lexemes_of};
+ghost use Rattle.cw_grammar.specs.Spelling.{keywords, long_punctuators, short_punctuators, spelled, punctuator, terminal_of, lexeme_of, lexemes_of};
 
-use crate::words::{Lexeme, Word};
+use crate::terminals::{Lexeme, Terminal};
 use cw_core::NoMemory;
 use cw_lex::{Token, TokenKind, character_value, number_value};
 use std::alloc::Global;
 
 /// The keyword of the grammar that this text is.
-fn keyword(text: &[u8]) -> Option<Word>
+fn keyword(text: &[u8]) -> Option<Terminal>
     ensures { result ≡ spelled keywords text.now }
 {
     match text {
-        b"extern" => Some(Word::Extern),
-        b"static" => Some(Word::Static),
-        b"const" => Some(Word::Const),
-        b"void" => Some(Word::Void),
-        b"unsigned" => Some(Word::Unsigned),
-        b"char" => Some(Word::Char),
-        b"int" => Some(Word::Int),
-        b"long" => Some(Word::Long),
-        b"if" => Some(Word::If),
-        b"else" => Some(Word::Else),
-        b"while" => Some(Word::While),
-        b"do" => Some(Word::Do),
-        b"for" => Some(Word::For),
-        b"break" => Some(Word::Break),
-        b"continue" => Some(Word::Continue),
-        b"return" => Some(Word::Return),
-        b"sizeof" => Some(Word::SizeOf),
+        b"extern" => Some(Terminal::Extern),
+        b"static" => Some(Terminal::Static),
+        b"const" => Some(Terminal::Const),
+        b"void" => Some(Terminal::Void),
+        b"unsigned" => Some(Terminal::Unsigned),
+        b"char" => Some(Terminal::Char),
+        b"int" => Some(Terminal::Int),
+        b"long" => Some(Terminal::Long),
+        b"if" => Some(Terminal::If),
+        b"else" => Some(Terminal::Else),
+        b"while" => Some(Terminal::While),
+        b"do" => Some(Terminal::Do),
+        b"for" => Some(Terminal::For),
+        b"break" => Some(Terminal::Break),
+        b"continue" => Some(Terminal::Continue),
+        b"return" => Some(Terminal::Return),
+        b"sizeof" => Some(Terminal::SizeOf),
         _ => None,
     }
 }
 
 /// The punctuator of two or three bytes that this text is.
-fn long_punctuator(text: &[u8]) -> Option<Word>
+fn long_punctuator(text: &[u8]) -> Option<Terminal>
     ensures { result ≡ spelled long_punctuators text.now }
 {
     let [first, rest @ ..] = text else {
@@ -47,59 +47,59 @@ fn long_punctuator(text: &[u8]) -> Option<Word>
     };
     match *first {
         b'<' => match rest {
-            [b'<', b'='] => Some(Word::LeftShiftAssign),
-            [b'<'] => Some(Word::LeftShift),
-            [b'='] => Some(Word::LessEqual),
+            [b'<', b'='] => Some(Terminal::LeftShiftAssign),
+            [b'<'] => Some(Terminal::LeftShift),
+            [b'='] => Some(Terminal::LessEqual),
             _ => None,
         },
         b'>' => match rest {
-            [b'>', b'='] => Some(Word::RightShiftAssign),
-            [b'>'] => Some(Word::RightShift),
-            [b'='] => Some(Word::GreaterEqual),
+            [b'>', b'='] => Some(Terminal::RightShiftAssign),
+            [b'>'] => Some(Terminal::RightShift),
+            [b'='] => Some(Terminal::GreaterEqual),
             _ => None,
         },
         b'=' => match rest {
-            [b'='] => Some(Word::Equal),
+            [b'='] => Some(Terminal::Equal),
             _ => None,
         },
         b'!' => match rest {
-            [b'='] => Some(Word::NotEqual),
+            [b'='] => Some(Terminal::NotEqual),
             _ => None,
         },
         b'&' => match rest {
-            [b'&'] => Some(Word::AmpersandAmpersand),
-            [b'='] => Some(Word::AndAssign),
+            [b'&'] => Some(Terminal::AmpersandAmpersand),
+            [b'='] => Some(Terminal::AndAssign),
             _ => None,
         },
         b'|' => match rest {
-            [b'|'] => Some(Word::BarBar),
-            [b'='] => Some(Word::OrAssign),
+            [b'|'] => Some(Terminal::BarBar),
+            [b'='] => Some(Terminal::OrAssign),
             _ => None,
         },
         b'+' => match rest {
-            [b'+'] => Some(Word::PlusPlus),
-            [b'='] => Some(Word::AddAssign),
+            [b'+'] => Some(Terminal::PlusPlus),
+            [b'='] => Some(Terminal::AddAssign),
             _ => None,
         },
         b'-' => match rest {
-            [b'-'] => Some(Word::MinusMinus),
-            [b'='] => Some(Word::SubtractAssign),
+            [b'-'] => Some(Terminal::MinusMinus),
+            [b'='] => Some(Terminal::SubtractAssign),
             _ => None,
         },
         b'*' => match rest {
-            [b'='] => Some(Word::MultiplyAssign),
+            [b'='] => Some(Terminal::MultiplyAssign),
             _ => None,
         },
         b'/' => match rest {
-            [b'='] => Some(Word::DivideAssign),
+            [b'='] => Some(Terminal::DivideAssign),
             _ => None,
         },
         b'%' => match rest {
-            [b'='] => Some(Word::RemainderAssign),
+            [b'='] => Some(Terminal::RemainderAssign),
             _ => None,
         },
         b'^' => match rest {
-            [b'='] => Some(Word::XorAssign),
+            [b'='] => Some(Terminal::XorAssign),
             _ => None,
         },
         _ => None,
@@ -107,38 +107,38 @@ fn long_punctuator(text: &[u8]) -> Option<Word>
 }
 
 /// The punctuator of one byte that this is.
-fn short_punctuator(byte: u8) -> Option<Word>
+fn short_punctuator(byte: u8) -> Option<Terminal>
     ensures { result ≡ spelled short_punctuators (byte ∷ []) }
 {
     match byte {
-        b'(' => Some(Word::Open),
-        b')' => Some(Word::Close),
-        b'[' => Some(Word::OpenBracket),
-        b']' => Some(Word::CloseBracket),
-        b'{' => Some(Word::OpenBrace),
-        b'}' => Some(Word::CloseBrace),
-        b';' => Some(Word::Semicolon),
-        b',' => Some(Word::Comma),
-        b':' => Some(Word::Colon),
-        b'=' => Some(Word::Assign),
-        b'+' => Some(Word::Plus),
-        b'-' => Some(Word::Minus),
-        b'*' => Some(Word::Star),
-        b'/' => Some(Word::Slash),
-        b'%' => Some(Word::Percent),
-        b'&' => Some(Word::Ampersand),
-        b'|' => Some(Word::Bar),
-        b'^' => Some(Word::Caret),
-        b'~' => Some(Word::Tilde),
-        b'!' => Some(Word::Exclamation),
-        b'<' => Some(Word::Less),
-        b'>' => Some(Word::Greater),
+        b'(' => Some(Terminal::Open),
+        b')' => Some(Terminal::Close),
+        b'[' => Some(Terminal::OpenBracket),
+        b']' => Some(Terminal::CloseBracket),
+        b'{' => Some(Terminal::OpenBrace),
+        b'}' => Some(Terminal::CloseBrace),
+        b';' => Some(Terminal::Semicolon),
+        b',' => Some(Terminal::Comma),
+        b':' => Some(Terminal::Colon),
+        b'=' => Some(Terminal::Assign),
+        b'+' => Some(Terminal::Plus),
+        b'-' => Some(Terminal::Minus),
+        b'*' => Some(Terminal::Star),
+        b'/' => Some(Terminal::Slash),
+        b'%' => Some(Terminal::Percent),
+        b'&' => Some(Terminal::Ampersand),
+        b'|' => Some(Terminal::Bar),
+        b'^' => Some(Terminal::Caret),
+        b'~' => Some(Terminal::Tilde),
+        b'!' => Some(Terminal::Exclamation),
+        b'<' => Some(Terminal::Less),
+        b'>' => Some(Terminal::Greater),
         _ => None,
     }
 }
 
-/// The word of a punctuator, by its bytes (ISO C11, 6.4.6).
-fn punctuator_of(text: &[u8]) -> Option<Word>
+/// The terminal of a punctuator, by its bytes (ISO C11, 6.4.6).
+fn punctuator_of(text: &[u8]) -> Option<Terminal>
     ensures { result ≡ punctuator text.now }
 {
     match text {
@@ -147,23 +147,23 @@ fn punctuator_of(text: &[u8]) -> Option<Word>
     }
 }
 
-/// The word of a token of this kind with this text.
-#[tactic(auto, unfolding(crate::specs::Spelling::word_of))]
-fn word_at(kind: TokenKind, text: &[u8]) -> Word
+/// The terminal of a token of this kind with this text.
+#[tactic(auto, unfolding(crate::specs::Spelling::terminal_of))]
+fn terminal_at(kind: TokenKind, text: &[u8]) -> Terminal
     requires small { kind ≡ Number → number_of text.now < 2 ^ 64 }
-    ensures { result ≡ word_of kind text.now }
+    ensures { result ≡ terminal_of kind text.now }
 {
     match kind {
-        TokenKind::Name => Word::Name,
-        TokenKind::Keyword => keyword(text).unwrap_or(Word::OtherKeyword),
-        TokenKind::Number => Word::Number(number_value(text)),
-        TokenKind::Character => Word::Character(character_value(text)),
-        TokenKind::Text => Word::Text,
-        TokenKind::Punctuation => punctuator_of(text).unwrap_or(Word::OtherKeyword),
+        TokenKind::Name => Terminal::Name,
+        TokenKind::Keyword => keyword(text).unwrap_or(Terminal::OtherKeyword),
+        TokenKind::Number => Terminal::Number(number_value(text)),
+        TokenKind::Character => Terminal::Character(character_value(text)),
+        TokenKind::Text => Terminal::Text,
+        TokenKind::Punctuation => punctuator_of(text).unwrap_or(Terminal::OtherKeyword),
     }
 }
 
-/// A token with its word.
+/// A token with its terminal.
 fn lexeme_at(source: &[u8], token: Token) -> Lexeme
     requires order { token.from ≤ token.to }
     requires within { token.to ≤ length source.now }
@@ -172,16 +172,16 @@ fn lexeme_at(source: &[u8], token: Token) -> Lexeme
 {
     let text = &source[token.from as usize..token.to as usize];
     Lexeme {
-        word: word_at(token.kind, text),
+        terminal: terminal_at(token.kind, text),
         from: token.from,
         to: token.to,
     }
 }
 
-/// The tokens of a source by their words, in their order. Public source: ISO/IEC 9899:2011, 6.4.
+/// The tokens of a source by their terminals, in their order. Public source: ISO/IEC 9899:2011, 6.4.
 pub fn lexemes(alloc: Global, source: &[u8], tokens: &[Token]) -> Result<Vec<Lexeme>, NoMemory>
     requires tokens { AreTokens source.now tokens.now }
-    ensures words { IfOk result (λ list. list.items ≡ lexemes_of source.now tokens.now) }
+    ensures terminals { IfOk result (λ list. list.items ≡ lexemes_of source.now tokens.now) }
 {
     let mut list = Vec::with_capacity(alloc, tokens.len())?;
     'tokens: for token in tokens {

@@ -1,6 +1,6 @@
 pub mod Counts
 pub mod TwoPuts
-mod Places
+mod Indices
 mod Reading
 mod Writing
 mod Following

@@ -12,8 +12,8 @@ abbrev pub listed : List (Vec ℕ × Vec ℕ) → List (List ℕ × List ℕ)
 listed files = map (λ file. (file.0.items, file.1.items)) files
 
 -- where the first file of a name stands
-abbrev pub place_of : List (List ℕ × List ℕ) → List ℕ → Option ℕ
-place_of files name = position (λ file. bytes_eq file.0 name) files
+abbrev pub index_of : List (List ℕ × List ℕ) → List ℕ → Option ℕ
+index_of files name = position (λ file. bytes_eq file.0 name) files
 
 -- the bytes of the first file of a name
 abbrev pub content_of : List (List ℕ × List ℕ) → List ℕ → Option (List ℕ)
@@ -42,31 +42,31 @@ new_mem_shelf given numbers = record {
   unheld = 0;
 }
 
--- the count of a file by its place, or of the names that aren't held
+-- the count of a file by its index, or of the names that aren't held
 abbrev pub faults_at : MemShelfState → Option ℕ → ℕ
 faults_at shelf None = shelf.unheld
-faults_at shelf (Some place) = slice_index shelf.faults place
+faults_at shelf (Some index) = slice_index shelf.faults index
 
 -- the count of a name
 abbrev pub faults_of : MemShelfState → List ℕ → ℕ
-faults_of shelf name = faults_at shelf (place_of shelf.files name)
+faults_of shelf name = faults_at shelf (index_of shelf.files name)
 
--- the counts of the files after a read of the one at a place, by the answer
+-- the counts of the files after a read of the one at an index, by the answer
 abbrev pub file_faults_after : List ℕ → Option ℕ → Result (List ℕ) ReadFault → List ℕ
-file_faults_after counts (Some place) (Err Failed) = slice_set counts place (raised (slice_index counts place))
-file_faults_after counts place answer = counts
+file_faults_after counts (Some index) (Err Failed) = slice_set counts index (raised (slice_index counts index))
+file_faults_after counts index answer = counts
 
 -- the shared count after a read of a file or of none, by the answer
 abbrev pub unheld_after : ℕ → Option ℕ → Result (List ℕ) ReadFault → ℕ
 unheld_after count None (Err Failed) = raised count
-unheld_after count place answer = count
+unheld_after count index answer = count
 
 -- the shelf after a read of a name, by the answer: where it failed, the one count of that name has risen
 abbrev pub after_read : MemShelfState → List ℕ → Result (List ℕ) ReadFault → MemShelfState
 after_read shelf name answer = record shelf {
   calls = raised shelf.calls;
-  faults = file_faults_after shelf.faults (place_of shelf.files name) answer;
-  unheld = unheld_after shelf.unheld (place_of shelf.files name) answer;
+  faults = file_faults_after shelf.faults (index_of shelf.files name) answer;
+  unheld = unheld_after shelf.unheld (index_of shelf.files name) answer;
 }
 
 -- the answer that is due to a read of a name

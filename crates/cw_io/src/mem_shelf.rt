@@ -58,20 +58,20 @@ impl MemShelf {
     }
 }
 
-/// Raises the count at a place, of counts for so many files.
-fn raise_at(counts: &mut Vec<u64>, place: usize, files: usize) -> Result<(), AllocError>
-    requires held { place < files }
+/// Raises the count at an index, of counts for so many files.
+fn raise_at(counts: &mut Vec<u64>, index: usize, files: usize) -> Result<(), AllocError>
+    requires held { index < files }
     requires room { vec_len counts.old ≤ files }
     ensures room { vec_len counts.new ≤ files }
     ensures ok { OnOk result (padded files counts.new.items
-        ≡ slice_set (padded files counts.old.items) place
-        (raised (slice_index (padded files counts.old.items) place))) }
+        ≡ slice_set (padded files counts.old.items) index
+        (raised (slice_index (padded files counts.old.items) index))) }
     ensures later { OnOk result ((at : ℕ) → slice_index (padded files counts.old.items) at
         ≤ slice_index (padded files counts.new.items) at) }
     ensures err { OnErr result (counts.new.items ≡ counts.old.items) }
 {
     counts.resize(files, 0)?;
-    counts[place] = counts[place].saturating_add(1);
+    counts[index] = counts[index].saturating_add(1);
     Ok(())
 }
 
@@ -98,12 +98,12 @@ impl Shelf for MemShelf {
     {
         let due = is_due(&self.failing, self.calls);
         self.calls = self.calls.saturating_add(1);
-        let Some((place, bytes)) = file_of(&self.files, name.as_bytes()) else {
+        let Some((index, bytes)) = file_of(&self.files, name.as_bytes()) else {
             self.unheld = self.unheld.saturating_add(1);
             return Err(ReadFault::Failed);
         };
         if due {
-            raise_at(&mut self.faults, place, self.files.len())?;
+            raise_at(&mut self.faults, index, self.files.len())?;
             return Err(ReadFault::Failed);
         }
         copy_within(alloc, bytes, max)

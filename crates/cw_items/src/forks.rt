@@ -4,11 +4,11 @@ ghost use Rattle.std.specs.Prelude.{◌≡◌, ◌++◌, map, IfOk, option_to_li
 ghost use Rattle.std.specs.List.{flat_map};
 ghost use Rattle.cw_syntax.specs.declared.program.Expr.{out-Expr};
 ghost use Rattle.cw_syntax.specs.Trees.{tree_of, trees_of, statement_of, file_of};
-ghost use Rattle.cw_scope.specs.Held.{placed_of};
+ghost use Rattle.cw_scope.specs.Held.{nested_of};
 ghost use Rattle.cw_worlds.specs.Forks.{calls_fork, is_fork_operand, is_fork_test, fork_of, fork_places};
 
 use cw_resolve::text;
-use cw_scope::{Placed, every_statement};
+use cw_scope::{Nested, every_statement};
 use cw_syntax::checked::Checked;
 use cw_syntax::program::{Expr, Op, Stmt, What};
 use std::alloc::{AllocError, Global};
@@ -68,13 +68,13 @@ fn fork_of(checked: &Checked, statement: &Stmt) -> Option<u32>
 /// The places of some statements whose conditions are forks.
 fn put_forks(
     checked: &Checked,
-    statements: &[Placed],
+    statements: &[Nested],
     forks: &mut Vec<u32>,
 ) -> Result<(), AllocError>
-    ensures { IfOk result (λ _. forks.new.items ≡ forks.old.items ++ flat_map (λ p. fork_of checked.now.source.now p.statement) (map placed_of statements.now)) }
+    ensures { IfOk result (λ _. forks.new.items ≡ forks.old.items ++ flat_map (λ p. fork_of checked.now.source.now p.statement) (map nested_of statements.now)) }
 {
-    for placed in statements {
-        if let Some(place) = fork_of(checked, placed.statement) {
+    for nested in statements {
+        if let Some(place) = fork_of(checked, nested.statement) {
             forks.push(place)?;
         }
     }

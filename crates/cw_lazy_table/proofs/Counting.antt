@@ -20,12 +20,12 @@ use Rattle.cw_game.specs.Pairs.{Called, call_in}
 use Rattle.cw_fixpoint.specs.Members.{HaveMore, IsPair, pair_cmp}
 use Rattle.cw_solve.specs.Low.{HeightsAreLow}
 use Rattle.cw_lazy_table.specs.declared.key.Key.{Key}
-use Rattle.cw_lazy_table.specs.declared.place.Placed.{Placed}
+use Rattle.cw_lazy_table.specs.declared.seam_key.SeamKey.{SeamKey}
 use Rattle.cw_lazy_table.specs.Choices.{set_in, choices, start_of}
 use Rattle.cw_lazy_table.specs.Laws.{CanBegin}
 use Rattle.cw_lazy_table.specs.Lazy.{state_id, IsMemory, IsLazyTable, table_rows}
 use Rattle.cw_lazy_table.specs.Live.{IsLive}
-use Rattle.cw_lazy_table.specs.Places.{key_cmp, key_of, IsReturn}
+use Rattle.cw_lazy_table.specs.SeamKeys.{key_cmp, key_of, IsReturn}
 use Rattle.cw_lazy_table.specs.Rowing.{Memories, number, live_row, back_row}
 use Rattle.cw_lazy_table.proofs.Finding.{In, in_of, of_in}
 use Rattle.cw_lazy_table.proofs.Listing.{call_one}
@@ -95,32 +95,32 @@ module _ (g : Game) (functions : ℕ) (can : CanBegin g functions) (low : Height
       let m = same_memory a.pos a.state a.promise b.pos b.state b.promise la lb (ap (λ (r : PosId × MemId). r.1.0) e) in
       same_key a.pos a.state a.promise b.pos b.state b.promise (ap (λ (r : PosId × MemId). r.0.0) e) m.0 m.1
 
-  back_one : (x y : Placed × Key) → IsReturn g x → IsReturn g y → back_row g ms x ≡ back_row g ms y → (key_of x.0 ≡ key_of y.0) × (x.1 ≡ y.1)
+  back_one : (x y : SeamKey × Key) → IsReturn g x → IsReturn g y → back_row g ms x ≡ back_row g ms y → (key_of x.0 ≡ key_of y.0) × (x.1 ≡ y.1)
   back_one x y a b e = (
-    same_key x.0.pos x.0.state x.0.promise y.0.pos y.0.state y.0.promise place m.0 m.1,
+    same_key x.0.pos x.0.state x.0.promise y.0.pos y.0.state y.0.promise same_pos m.0 m.1,
     same_key x.1.pos x.1.state x.1.promise y.1.pos y.1.state y.1.promise
         (a.pos ∙ ap (λ (f : Called). g.exit f.function) call ∙ sym b.pos)
         (ap (λ (r : BackRow). r.exit.0) e)
-        (a.promise ∙ ap (λ (z : Key). set_in g z.pos z.state z.promise) (same_key x.0.pos x.0.state x.0.promise y.0.pos y.0.state y.0.promise place m.0 m.1) ∙ sym b.promise),
+        (a.promise ∙ ap (λ (z : Key). set_in g z.pos z.state z.promise) (same_key x.0.pos x.0.state x.0.promise y.0.pos y.0.state y.0.promise same_pos m.0 m.1) ∙ sym b.promise),
   )
     where
       same_part : (s t : Bool) (i j : ℕ) → i ≡ cond s 1 0 → j ≡ cond t 1 0 → nat_eq i 1 ≡ nat_eq j 1 → i ≡ j
       same_part s t i j p q n = p ∙ ap (λ (b : Bool). cond b 1 0) (sym (ap (λ (i : ℕ). nat_eq i 1) p ∙ split_is s) ∙ n ∙ (ap (λ (i : ℕ). nat_eq i 1) q ∙ split_is t)) ∙ sym q
 
       s : (c : Called) × (call_in (slice_get g.spots x.0.pos) ≡ Some c) × (c.seam ≡ x.0.seam) × (x.0.part ≡ cond c.split 1 0)
-      s = call_there (slice_get g.spots x.0.pos) x.0.seam x.0.part a.placed.at
+      s = call_there (slice_get g.spots x.0.pos) x.0.seam x.0.part a.seam_key.at
 
       t : (c : Called) × (call_in (slice_get g.spots y.0.pos) ≡ Some c) × (c.seam ≡ y.0.seam) × (y.0.part ≡ cond c.split 1 0)
-      t = call_there (slice_get g.spots y.0.pos) y.0.seam y.0.part b.placed.at
+      t = call_there (slice_get g.spots y.0.pos) y.0.seam y.0.part b.seam_key.at
 
-      place : x.0.pos ≡ y.0.pos
-      place = call_one g functions can x.0 y.0 a.placed b.placed (ap (λ (r : BackRow). r.seam.0) e) (same_part s.0.split t.0.split x.0.part y.0.part s.3 t.3 (ap (λ (r : BackRow). r.split) e))
+      same_pos : x.0.pos ≡ y.0.pos
+      same_pos = call_one g functions can x.0 y.0 a.seam_key b.seam_key (ap (λ (r : BackRow). r.seam.0) e) (same_part s.0.split t.0.split x.0.part y.0.part s.3 t.3 (ap (λ (r : BackRow). r.split) e))
 
       m : (x.0.state ≡ y.0.state) × (x.0.promise ≡ y.0.promise)
-      m = same_memory x.0.pos x.0.state x.0.promise y.0.pos y.0.state y.0.promise a.placed.live b.placed.live (ap (λ (r : BackRow). r.mem.0) e)
+      m = same_memory x.0.pos x.0.state x.0.promise y.0.pos y.0.state y.0.promise a.seam_key.live b.seam_key.live (ap (λ (r : BackRow). r.mem.0) e)
 
       call : a.call ≡ b.call
-      call = same_Some a.call b.call (sym a.is_call ∙ ap (λ (p : ℕ). call_in (slice_get g.spots p)) place ∙ b.is_call)
+      call = same_Some a.call b.call (sym a.is_call ∙ ap (λ (p : ℕ). call_in (slice_get g.spots p)) same_pos ∙ b.is_call)
 
 -- where members and pairs are too many each lazy table has too many rows
 pub many_members : (g : Game) (functions : ℕ) → CanBegin g functions → HeightsAreLow g → (n : ℕ) → HaveMore key_cmp (choices g) (start_of g) n → (t : Table) → IsLazyTable g t → n < table_rows t

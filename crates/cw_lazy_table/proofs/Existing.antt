@@ -26,17 +26,17 @@ use Rattle.cw_solve.proofs.Tabling.{there}
 use Rattle.cw_lazy_table.specs.declared.key.Key.{Key}
 use Rattle.cw_lazy_table.specs.Kinds.{SpotKind}
 use Rattle.cw_lazy_table.specs.Kinds as kind
-use Rattle.cw_lazy_table.specs.declared.place.Placed.{Placed}
+use Rattle.cw_lazy_table.specs.declared.seam_key.SeamKey.{SeamKey}
 use Rattle.cw_lazy_table.specs.Choices.{lost_in, set_in, choices, start_of}
 use Rattle.cw_lazy_table.specs.Closing.{key}
 use Rattle.cw_lazy_table.specs.Laws.{CanBegin}
 use Rattle.cw_lazy_table.specs.Lazy.{IsLazyTable}
 use Rattle.cw_lazy_table.specs.Live.{IsLive, begins}
-use Rattle.cw_lazy_table.specs.Places.{key_cmp, placed_cmp, placed_of, memory_of, return_cmp, return_of}
+use Rattle.cw_lazy_table.specs.SeamKeys.{key_cmp, seam_key_cmp, seam_key_of, memory_of, return_cmp, return_of}
 use Rattle.cw_lazy_table.specs.Rowing.{mem, live_row, try_row, at_row, open_row, into_row, back_row}
 use Rattle.cw_lazy_table.proofs.Choosing.{safe_at}
 use Rattle.cw_lazy_table.proofs.Counting.{key_total, pair_total}
-use Rattle.cw_lazy_table.proofs.Listing.{placed_exact, places_exactly, memories_exactly, tries_exactly, labels_exactly, opened_exactly, closed_exactly, into_exactly, back_exactly, live_exactly}
+use Rattle.cw_lazy_table.proofs.Listing.{seam_key_exact, seam_keys_exactly, memories_exactly, tries_exactly, labels_exactly, opened_exactly, closed_exactly, into_exactly, back_exactly, live_exactly}
 use Rattle.cw_lazy_table.proofs.Returning.{alive, listed, returns_exactly}
 use Rattle.cw_lazy_table.proofs.Rowing.{meant}
 
@@ -121,13 +121,13 @@ module _ (r : Rules Key (ℕ × ℕ)) where
 
 -- ---- orders
 
-placed_total : IsTotalOrder placed_cmp
-placed_total =
-    then_total (on_total (λ (x : Placed). x.seam) nat_cmp_total) (then_total (on_total (λ (x : Placed). x.part) nat_cmp_total)
-    (then_total (on_total (λ (x : Placed). x.state) nat_cmp_total) (then_total (on_total (λ (x : Placed). x.promise) nat_cmp_total) (on_total (λ (x : Placed). x.pos) nat_cmp_total))))
+seam_key_total : IsTotalOrder seam_key_cmp
+seam_key_total =
+    then_total (on_total (λ (x : SeamKey). x.seam) nat_cmp_total) (then_total (on_total (λ (x : SeamKey). x.part) nat_cmp_total)
+    (then_total (on_total (λ (x : SeamKey). x.state) nat_cmp_total) (then_total (on_total (λ (x : SeamKey). x.promise) nat_cmp_total) (on_total (λ (x : SeamKey). x.pos) nat_cmp_total))))
 
 return_total : IsTotalOrder return_cmp
-return_total = then_total (on_total (λ (x : Placed × Key). x.0) placed_total) (on_total (λ (x : Placed × Key). x.1) key_total)
+return_total = then_total (on_total (λ (x : SeamKey × Key). x.0) seam_key_total) (on_total (λ (x : SeamKey × Key). x.1) key_total)
 
 key_exact : IsAntisymmetric key_cmp
 key_exact x y e =
@@ -184,24 +184,24 @@ module _ (g : Game) (functions : ℕ) (can : CanBegin g functions) (low : Height
       let memories = in_order mem_cmp mem_total mem_exact (map memory_of keys.0) in
       let ms = memories.0 in
       let are = memories_exactly g functions can keys.0 ms lives memories.1 in
-      let placed = λ (k : SpotKind). in_order placed_cmp placed_total placed_exact (filter_map (placed_of g k) keys.0) in
-      let exactly = λ (k : SpotKind). places_exactly g functions can k keys.0 (placed k).0 lives (placed k).1 in
+      let seam_key = λ (k : SpotKind). in_order seam_key_cmp seam_key_total seam_key_exact (filter_map (seam_key_of g k) keys.0) in
+      let exactly = λ (k : SpotKind). seam_keys_exactly g functions can k keys.0 (seam_key k).0 lives (seam_key k).1 in
       let ab = in_order (pair_cmp key_cmp) pair_total (both_exact key_cmp key_cmp key_exact key_exact) (paired (choices g) keys.0) in
       let pairs : Exactly (pair_cmp key_cmp) (IsPair (choices g) (start_of g)) ab.0 = (ab.1.0, λ (x : Key × Key). ((λ c. (pairs_are (choices g) (start_of g) keys.0 keys.1.1 x).0 ((ab.1.1 x).0 c)), (λ p. (ab.1.1 x).1 ((pairs_are (choices g) (start_of g) keys.0 keys.1.1 x).1 p)))) in
-      let back = in_order return_cmp return_total (both_exact placed_cmp key_cmp placed_exact key_exact) (filter_map (return_of g) ab.0) in
+      let back = in_order return_cmp return_total (both_exact seam_key_cmp key_cmp seam_key_exact key_exact) (filter_map (return_of g) ab.0) in
       let backs = returns_exactly g functions can low ab.0 back.0 pairs back.1 in (
-        table_with g.states.count (mem ms g.states.start (all_states g)) ms (map (live_row ms) keys.0) (map (try_row g (lost_in g) ms) (placed kind.Asked).0) (map (at_row g ms) (placed kind.Label).0)
-            (map (open_row g ms) (placed kind.Open).0) (map (at_row g ms) (placed kind.Close).0) (map (into_row (set_in g) ms) (placed kind.Call).0) (map (back_row g ms) back.0),
+        table_with g.states.count (mem ms g.states.start (all_states g)) ms (map (live_row ms) keys.0) (map (try_row g (lost_in g) ms) (seam_key kind.Asked).0) (map (at_row g ms) (seam_key kind.Label).0)
+            (map (open_row g ms) (seam_key kind.Open).0) (map (at_row g ms) (seam_key kind.Close).0) (map (into_row (set_in g) ms) (seam_key kind.Call).0) (map (back_row g ms) back.0),
         record {
           states = refl;
           start = meant g functions can low ms are (g.entry g.main) g.states.start (all_states g) begins;
           mems = are;
           live = live_exactly g functions can ms are low keys.0 (keys.1.0, lives);
-          tries = tries_exactly g functions can ms are low (placed kind.Asked).0 (exactly kind.Asked);
-          ats = labels_exactly g functions can ms are low (placed kind.Label).0 (exactly kind.Label);
-          opened = opened_exactly g functions can ms are low (placed kind.Open).0 (exactly kind.Open);
-          closed = closed_exactly g functions can ms are low (placed kind.Close).0 (exactly kind.Close);
-          into = into_exactly g functions can ms are low (placed kind.Call).0 (exactly kind.Call);
+          tries = tries_exactly g functions can ms are low (seam_key kind.Asked).0 (exactly kind.Asked);
+          ats = labels_exactly g functions can ms are low (seam_key kind.Label).0 (exactly kind.Label);
+          opened = opened_exactly g functions can ms are low (seam_key kind.Open).0 (exactly kind.Open);
+          closed = closed_exactly g functions can ms are low (seam_key kind.Close).0 (exactly kind.Close);
+          into = into_exactly g functions can ms are low (seam_key kind.Call).0 (exactly kind.Call);
           back = back_exactly g functions can ms are low back.0 backs;
         },
       )

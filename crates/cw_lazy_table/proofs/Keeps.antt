@@ -25,17 +25,17 @@ use Rattle.cw_solve.specs.Solved.{Held}
 use Rattle.cw_lazy_table.specs.declared.key.Key.{Key}
 use Rattle.cw_lazy_table.specs.Kinds.{SpotKind}
 use Rattle.cw_lazy_table.specs.Kinds as kind
-use Rattle.cw_lazy_table.specs.declared.place.Placed.{Placed}
+use Rattle.cw_lazy_table.specs.declared.seam_key.SeamKey.{SeamKey}
 use Rattle.cw_lazy_table.specs.Choices.{set_in, IsReady}
 use Rattle.cw_lazy_table.specs.Lazy.{Means, IsLiveRow, IsTryRow, IsLabelRow, IsOpenRow, IsCloseRow, IsIntoRow, IsBackRow}
-use Rattle.cw_lazy_table.specs.Numbered.{whole, whole_placed, whole_memory, whole_pair, whole_return, lost_by, set_at, CanAsk, AreNumbered, ArePaired, AreKept}
-use Rattle.cw_lazy_table.specs.Places.{placed_cmp, placed_of, key_of, memory_of, AreOf, return_cmp, return_of}
+use Rattle.cw_lazy_table.specs.Numbered.{whole, whole_seam_key, whole_memory, whole_pair, whole_return, lost_by, set_at, CanAsk, AreNumbered, ArePaired, AreKept}
+use Rattle.cw_lazy_table.specs.SeamKeys.{seam_key_cmp, seam_key_of, key_of, memory_of, AreOf, return_cmp, return_of}
 use Rattle.cw_lazy_table.specs.Rowing.{Memories, number, mem, live_row, try_row, at_row, open_row, into_row, back_row}
 use Rattle.cw_lazy_table.proofs.Numbering.{set_of_call}
 use Rattle.cw_lazy_table.proofs.Placing.{call_there}
 use Rattle.cw_lazy_table.proofs.Putting.{listed_of}
 use Rattle.cw_lazy_table.proofs.Tabled as by_promise
-use Rattle.cw_lazy_table.proofs.Wholes.{placed_within, placed_whole, memory_within, memories_whole, return_within, returns_whole}
+use Rattle.cw_lazy_table.proofs.Wholes.{seam_key_within, seam_key_whole, memory_within, memories_whole, return_within, returns_whole}
 use Rattle.cw_lazy_table.proofs.Wholes.{number_whole, live_rows_whole, at_rows_whole, open_rows_whole, try_rows_whole, into_rows_whole, back_rows_whole}
 use Rattle.cw_fixpoint.proofs.Numbers.{stands, below}
 
@@ -50,24 +50,24 @@ module _ (h : HeldGame) (es : List ℕ) (keys : List Key) (live : AreNumbered h 
   position x c = by_promise.position h ws live.live (whole es x) (contains_map (whole es) keys x c)
 
   -- the keys at positions of a kind
-  module _ (k : SpotKind) (ys : List Placed) (are : Exactly placed_cmp (Contains (filter_map (placed_of g k) keys)) ys) where
-    abbrev vs : List Placed
-    vs = map (whole_placed es) ys
+  module _ (k : SpotKind) (ys : List SeamKey) (are : Exactly seam_key_cmp (Contains (filter_map (seam_key_of g k) keys)) ys) where
+    abbrev vs : List SeamKey
+    vs = map (whole_seam_key es) ys
 
-    all : Exactly placed_cmp (Contains (filter_map (placed_of g k) ws)) vs
-    all = placed_whole g es live.promises.order keys live.within k ys are
+    all : Exactly seam_key_cmp (Contains (filter_map (seam_key_of g k) ws)) vs
+    all = seam_key_whole g es live.promises.order keys live.within k ys are
 
-    within : (x : Placed) → Contains ys x → x.promise < length es
-    within x c = placed_within g es live.promises.order keys live.within k x ((are.1 x).0 c)
+    within : (x : SeamKey) → Contains ys x → x.promise < length es
+    within x c = seam_key_within g es live.promises.order keys live.within k x ((are.1 x).0 c)
 
-    pub place_range : (x : Placed) → Contains ys x → IsPosition g x.pos × IsState g x.state
-    place_range x c = by_promise.place_range h ws live.live k vs all (whole_placed es x) (contains_map (whole_placed es) ys x c)
+    pub seam_key_range : (x : SeamKey) → Contains ys x → IsPosition g x.pos × IsState g x.state
+    seam_key_range x c = by_promise.seam_key_range h ws live.live k vs all (whole_seam_key es x) (contains_map (whole_seam_key es) ys x c)
 
-    pub place_can : (s : Held) → IsReady h s → (x : Placed) → Contains ys x → CanAsk h s es (key_of x)
-    place_can s ready x c = record {
+    pub seam_key_can : (s : Held) → IsReady h s → (x : SeamKey) → Contains ys x → CanAsk h s es (key_of x)
+    seam_key_can s ready x c = record {
       promises = live.promises;
       within = within x c;
-      can = by_promise.place_can h ws live.live k vs all s ready (whole_placed es x) (contains_map (whole_placed es) ys x c);
+      can = by_promise.seam_key_can h ws live.live k vs all s ready (whole_seam_key es x) (contains_map (whole_seam_key es) ys x c);
     }
 
   -- the memories
@@ -94,39 +94,39 @@ module _ (h : HeldGame) (es : List ℕ) (keys : List Key) (live : AreNumbered h 
     pub live_are : (rows : List (PosId × MemId)) → rows ≡ map (live_row ms) keys → Exactly live_cmp (IsLiveRow g us) rows
     live_are rows e = by_promise.live_are h ws live.live us kept.all rows (e ∙ live_rows_whole g es live.promises.order ms kept.within keys live.within)
 
-    pub tries_are : (ys : List Placed) → Exactly placed_cmp (Contains (filter_map (placed_of g kind.Asked) keys)) ys → (rows : List TryRow) → rows ≡ map (try_row g (lost_by g es) ms) ys
+    pub tries_are : (ys : List SeamKey) → Exactly seam_key_cmp (Contains (filter_map (seam_key_of g kind.Asked) keys)) ys → (rows : List TryRow) → rows ≡ map (try_row g (lost_by g es) ms) ys
         → Exactly try_cmp (IsTryRow g us) rows
     tries_are ys are rows e =
         by_promise.tries_are h ws live.live us kept.all (vs kind.Asked ys are) (all kind.Asked ys are) rows
         (e ∙ try_rows_whole g es live.promises.order ms kept.within ys (within kind.Asked ys are))
 
-    pub labels_are : (ys : List Placed) → Exactly placed_cmp (Contains (filter_map (placed_of g kind.Label) keys)) ys → (rows : List AtRow) → rows ≡ map (at_row g ms) ys
+    pub labels_are : (ys : List SeamKey) → Exactly seam_key_cmp (Contains (filter_map (seam_key_of g kind.Label) keys)) ys → (rows : List AtRow) → rows ≡ map (at_row g ms) ys
         → Exactly at_cmp (IsLabelRow g us) rows
     labels_are ys are rows e =
         by_promise.labels_are h ws live.live us kept.all (vs kind.Label ys are) (all kind.Label ys are) rows
         (e ∙ at_rows_whole g es live.promises.order ms kept.within ys (within kind.Label ys are))
 
-    pub opens_are : (ys : List Placed) → Exactly placed_cmp (Contains (filter_map (placed_of g kind.Open) keys)) ys → (rows : List OpenRow) → rows ≡ map (open_row g ms) ys
+    pub opens_are : (ys : List SeamKey) → Exactly seam_key_cmp (Contains (filter_map (seam_key_of g kind.Open) keys)) ys → (rows : List OpenRow) → rows ≡ map (open_row g ms) ys
         → Exactly open_cmp (IsOpenRow g us) rows
     opens_are ys are rows e =
         by_promise.opens_are h ws live.live us kept.all (vs kind.Open ys are) (all kind.Open ys are) rows
         (e ∙ open_rows_whole g es live.promises.order ms kept.within ys (within kind.Open ys are))
 
-    pub closes_are : (ys : List Placed) → Exactly placed_cmp (Contains (filter_map (placed_of g kind.Close) keys)) ys → (rows : List AtRow) → rows ≡ map (at_row g ms) ys
+    pub closes_are : (ys : List SeamKey) → Exactly seam_key_cmp (Contains (filter_map (seam_key_of g kind.Close) keys)) ys → (rows : List AtRow) → rows ≡ map (at_row g ms) ys
         → Exactly at_cmp (IsCloseRow g us) rows
     closes_are ys are rows e =
         by_promise.closes_are h ws live.live us kept.all (vs kind.Close ys are) (all kind.Close ys are) rows
         (e ∙ at_rows_whole g es live.promises.order ms kept.within ys (within kind.Close ys are))
 
-    pub calls_are : (ys : List Placed) → Exactly placed_cmp (Contains (filter_map (placed_of g kind.Call) keys)) ys → (rows : List IntoRow) → rows ≡ map (into_row (set_at g es) ms) ys
+    pub calls_are : (ys : List SeamKey) → Exactly seam_key_cmp (Contains (filter_map (seam_key_of g kind.Call) keys)) ys → (rows : List IntoRow) → rows ≡ map (into_row (set_at g es) ms) ys
         → Exactly into_cmp (IsIntoRow g us) rows
     calls_are ys are rows e =
         by_promise.calls_are h ws live.live us kept.all (vs kind.Call ys are) (all kind.Call ys are) rows
         (e ∙ into_rows_whole g es live.promises.order ms kept.within ys (within kind.Call ys are) there)
       where
-        there : (x : Placed) → Contains ys x → Contains es (set_in g x.pos x.state (slice_index es x.promise))
+        there : (x : SeamKey) → Contains ys x → Contains es (set_in g x.pos x.state (slice_index es x.promise))
         there x c =
-            let p = ((by_promise.places_are h ws live.live kind.Call (vs kind.Call ys are) (all kind.Call ys are)).1 (whole_placed es x)).0 (contains_map (whole_placed es) ys x c) in
+            let p = ((by_promise.seam_keys_are h ws live.live kind.Call (vs kind.Call ys are) (all kind.Call ys are)).1 (whole_seam_key es x)).0 (contains_map (whole_seam_key es) ys x c) in
             let s = call_there (slice_get g.spots x.pos) x.seam x.part p.at in
             set_of_call g (length h.graph.parts.items) live.live.begins live.live.low es live.promises x.pos x.state (slice_index es x.promise) s.0 p.live s.1
 
@@ -148,11 +148,11 @@ module _ (h : HeldGame) (es : List ℕ) (pairs : List (Key × Key)) (returns : A
   pub pair_position : (ab : Key × Key) → Contains pairs ab → IsPosition (game_of h) ab.0.pos
   pair_position ab c = by_promise.pair_position h whole_pairs returns.returns (whole_pair es ab) (contains_map (whole_pair es) pairs ab c)
 
-  module _ (ys : List (Placed × Key)) (are : Exactly return_cmp (Contains (filter_map (return_of (game_of h)) pairs)) ys) where
+  module _ (ys : List (SeamKey × Key)) (are : Exactly return_cmp (Contains (filter_map (return_of (game_of h)) pairs)) ys) where
     all_returns : Exactly return_cmp (Contains (filter_map (return_of (game_of h)) (map (whole_pair es) pairs))) (map (whole_return es) ys)
     all_returns = returns_whole (game_of h) es returns.promises.order pairs returns.within ys are
 
-    pub return_states : (x : Placed × Key) → Contains ys x → IsState (game_of h) x.0.state × IsState (game_of h) x.1.state
+    pub return_states : (x : SeamKey × Key) → Contains ys x → IsState (game_of h) x.0.state × IsState (game_of h) x.1.state
     return_states x c = by_promise.return_states h whole_pairs returns.returns (map (whole_return es) ys) all_returns (whole_return es x) (contains_map (whole_return es) ys x c)
 
     pub backs_are : (ms : Memories) → AreKept (game_of h) es ms → (rows : List BackRow) → rows ≡ map (back_row (game_of h) ms) ys

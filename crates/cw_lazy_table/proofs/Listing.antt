@@ -18,13 +18,13 @@ use Rattle.cw_solve.specs.Low.{HeightsAreLow}
 use Rattle.cw_lazy_table.specs.declared.key.Key.{Key}
 use Rattle.cw_lazy_table.specs.Kinds.{SpotKind}
 use Rattle.cw_lazy_table.specs.Kinds as kind
-use Rattle.cw_lazy_table.specs.declared.place.Placed.{Placed}
+use Rattle.cw_lazy_table.specs.declared.seam_key.SeamKey.{SeamKey}
 use Rattle.cw_lazy_table.specs.Choices.{lost_in, set_in}
 use Rattle.cw_lazy_table.specs.Closing.{key}
 use Rattle.cw_lazy_table.specs.Laws.{CanBegin}
 use Rattle.cw_lazy_table.specs.Lazy.{state_id, IsMemory, IsLiveRow, IsTryRow, IsLabelRow, IsOpenRow, IsCloseRow, IsIntoRow, IsBackRow}
 use Rattle.cw_lazy_table.specs.Live.{IsLive}
-use Rattle.cw_lazy_table.specs.Places.{key_cmp, placed_cmp, part_at, placed, placed_of, memory_of, IsPlaced, IsReturn, return_cmp}
+use Rattle.cw_lazy_table.specs.SeamKeys.{key_cmp, seam_key_cmp, part_at, seam_key, seam_key_of, memory_of, IsSeamKey, IsReturn, return_cmp}
 use Rattle.cw_lazy_table.specs.Rowing.{Memories, number, live_row, try_row, at_row, open_row, into_row, back_row}
 use Rattle.cw_lemmas.proofs.Options.{option_map_some as mapped}
 use Rattle.cw_lazy_table.proofs.Finding.{In, in_of, of_in, all_in}
@@ -122,23 +122,23 @@ longer Greater p m e h = cc
 without : (s p m : Ordering) → p ≡ Equal → ordering_then s (ordering_then p m) ≡ Less → ordering_then s m ≡ Less
 without s p m e h = ap (λ o. ordering_then s o) (sym (then_equal p m e)) ∙ h
 
-same_placed : (a b c d e k l m n o : ℕ) → a ≡ k → b ≡ l → c ≡ m → d ≡ n → e ≡ o
-    → ◌≡◌ {A = Placed} (record { seam = a; part = b; state = c; promise = d; pos = e }) (record { seam = k; part = l; state = m; promise = n; pos = o })
-same_placed a b c d e k l m n o p q r s t = cc
+same_seam_key : (a b c d e k l m n o : ℕ) → a ≡ k → b ≡ l → c ≡ m → d ≡ n → e ≡ o
+    → ◌≡◌ {A = SeamKey} (record { seam = a; part = b; state = c; promise = d; pos = e }) (record { seam = k; part = l; state = m; promise = n; pos = o })
+same_seam_key a b c d e k l m n o p q r s t = cc
 
-pub placed_exact : (x y : Placed) → placed_cmp x y ≡ Equal → x ≡ y
-placed_exact x y e =
+pub seam_key_exact : (x y : SeamKey) → seam_key_cmp x y ≡ Equal → x ≡ y
+seam_key_exact x y e =
     let a = both_equal _ _ e in
     let b = both_equal _ _ a.1 in
     let c = both_equal _ _ b.1 in
     let d = both_equal _ _ c.1 in
-    same_placed x.seam x.part x.state x.promise x.pos y.seam y.part y.state y.promise y.pos (nat_cmp-IsAntisymmetric _ _ a.0)
+    same_seam_key x.seam x.part x.state x.promise x.pos y.seam y.part y.state y.promise y.pos (nat_cmp-IsAntisymmetric _ _ a.0)
     (nat_cmp-IsAntisymmetric _ _ b.0) (nat_cmp-IsAntisymmetric _ _ c.0) (nat_cmp-IsAntisymmetric _ _ d.0) (nat_cmp-IsAntisymmetric _ _ d.1)
 
 module _ (g : Game) (functions : ℕ) (can : CanBegin g functions) where
   -- a seam's parts stand at one position each
   abbrev pub One : SpotKind → Type 0
-  One k = (x y : Placed) → IsPlaced g k x → IsPlaced g k y → x.seam ≡ y.seam → x.part ≡ y.part → x.pos ≡ y.pos
+  One k = (x y : SeamKey) → IsSeamKey g k x → IsSeamKey g k y → x.seam ≡ y.seam → x.part ≡ y.part → x.pos ≡ y.pos
 
   asked_one : One kind.Asked
   asked_one x y a b j i =
@@ -178,7 +178,7 @@ module _ (g : Game) (functions : ℕ) (can : CanBegin g functions) where
 
   -- labels, opens and closes have one part
   abbrev pub OnePart : SpotKind → Type 0
-  OnePart k = (x y : Placed) → IsPlaced g k x → IsPlaced g k y → x.part ≡ y.part
+  OnePart k = (x y : SeamKey) → IsSeamKey g k x → IsSeamKey g k y → x.part ≡ y.part
 
   label_part : OnePart kind.Label
   label_part x y a b = (label_there (slice_get g.spots x.pos) x.seam x.part a.at).3 ∙ sym (label_there (slice_get g.spots y.pos) y.seam y.part b.at).3
@@ -190,19 +190,19 @@ module _ (g : Game) (functions : ℕ) (can : CanBegin g functions) where
   close_part x y a b = (close_there (slice_get g.spots x.pos) x.seam x.part a.at).3 ∙ sym (close_there (slice_get g.spots y.pos) y.seam y.part b.at).3
 
   -- keys that are live, by what stands at their positions
-  pub places_exactly : (k : SpotKind) (members : List Key) (ys : List Placed)
+  pub seam_keys_exactly : (k : SpotKind) (members : List Key) (ys : List SeamKey)
       → ((x : Key) → (Contains members x → IsLive g x.pos x.state x.promise) × (IsLive g x.pos x.state x.promise → Contains members x))
-      → Exactly placed_cmp (Contains (filter_map (placed_of g k) members)) ys → Exactly placed_cmp (IsPlaced g k) ys
-  places_exactly k members ys are e =
-      images placed_cmp (λ (x : Key). IsLive g x.pos x.state x.promise) (IsPlaced g k) (placed_of g k) members ys are forth back e
+      → Exactly seam_key_cmp (Contains (filter_map (seam_key_of g k) members)) ys → Exactly seam_key_cmp (IsSeamKey g k) ys
+  seam_keys_exactly k members ys are e =
+      images seam_key_cmp (λ (x : Key). IsLive g x.pos x.state x.promise) (IsSeamKey g k) (seam_key_of g k) members ys are forth back e
     where
-      forth : (x : Key) (y : Placed) → IsLive g x.pos x.state x.promise → placed_of g k x ≡ Some y → IsPlaced g k y
+      forth : (x : Key) (y : SeamKey) → IsLive g x.pos x.state x.promise → seam_key_of g k x ≡ Some y → IsSeamKey g k y
       forth x y live f =
-          let m = mapped (placed x) (part_at g k x.pos) y f in
-          subst (IsPlaced g k) m.2 (record { live = live; at = m.1 })
+          let m = mapped (seam_key x) (part_at g k x.pos) y f in
+          subst (IsSeamKey g k) m.2 (record { live = live; at = m.1 })
 
-      back : (y : Placed) → IsPlaced g k y → (x : Key) × IsLive g x.pos x.state x.promise × (placed_of g k x ≡ Some y)
-      back y is = (key y.pos y.state y.promise, is.live, ap (option_map (placed (key y.pos y.state y.promise))) is.at)
+      back : (y : SeamKey) → IsSeamKey g k y → (x : Key) × IsLive g x.pos x.state x.promise × (seam_key_of g k x ≡ Some y)
+      back y is = (key y.pos y.state y.promise, is.live, ap (option_map (seam_key (key y.pos y.state y.promise))) is.at)
 
   -- the memories
   pub memories_exactly : (members : List Key) (ms : Memories) → ((x : Key) → (Contains members x → IsLive g x.pos x.state x.promise) × (IsLive g x.pos x.state x.promise → Contains members x))
@@ -212,7 +212,7 @@ module _ (g : Game) (functions : ℕ) (can : CanBegin g functions) where
       (λ x live. record { pos = x.pos; live = live }) (λ r is. (key is.pos r.0.0 r.1, is.live, refl)) e
 
   module _ (ms : Memories) (are : Exactly mem_cmp (IsMemory g) ms) (low : HeightsAreLow g) where
-    abbrev num : Placed → ℕ
+    abbrev num : SeamKey → ℕ
     num x = number ms x.state x.promise
 
     memories_less : (q e x y p r : ℕ) → IsLive g p q e → IsLive g r x y → mem_cmp (state_id q, e) (state_id x, y) ≡ Less → nat_cmp (number ms q e) (number ms x y) ≡ Less
@@ -220,7 +220,7 @@ module _ (g : Game) (functions : ℕ) (can : CanBegin g functions) where
         less_nat (number ms q e) (number ms x y)
         (mem_less ms q e x y are.0 (meant g functions can low ms are p q e a) (meant g functions can low ms are r x y b) l)
 
-    last : (x y : Placed) → IsLive g x.pos x.state x.promise → IsLive g y.pos y.state y.promise → x.pos ≡ y.pos
+    last : (x y : SeamKey) → IsLive g x.pos x.state x.promise → IsLive g y.pos y.state y.promise → x.pos ≡ y.pos
         → ordering_then (nat_cmp x.state y.state) (ordering_then (nat_cmp x.promise y.promise) (nat_cmp x.pos y.pos)) ≡ Less → nat_cmp (num x) (num y) ≡ Less
     last x y a b p l =
         ⊎_elim
@@ -232,14 +232,14 @@ module _ (g : Game) (functions : ℕ) (can : CanBegin g functions) where
         (then_less (nat_cmp x.promise y.promise) (nat_cmp x.pos y.pos) s.1))
         (then_less (nat_cmp x.state y.state) (ordering_then (nat_cmp x.promise y.promise) (nat_cmp x.pos y.pos)) l)
 
-    abbrev three : Placed → Placed → Ordering
+    abbrev three : SeamKey → SeamKey → Ordering
     three x y = ordering_then (nat_cmp x.seam y.seam) (ordering_then (nat_cmp x.part y.part) (nat_cmp (num x) (num y)))
 
-    abbrev rest : Placed → Placed → Ordering
+    abbrev rest : SeamKey → SeamKey → Ordering
     rest x y = ordering_then (nat_cmp x.state y.state) (ordering_then (nat_cmp x.promise y.promise) (nat_cmp x.pos y.pos))
 
     -- keys before one another have rows before one another
-    three_less : (k : SpotKind) → One k → (x y : Placed) → IsPlaced g k x → IsPlaced g k y → placed_cmp x y ≡ Less → three x y ≡ Less
+    three_less : (k : SpotKind) → One k → (x y : SeamKey) → IsSeamKey g k x → IsSeamKey g k y → seam_key_cmp x y ≡ Less → three x y ≡ Less
     three_less k one x y a b l =
         ⊎_elim
         (λ s. less_first (nat_cmp x.seam y.seam) (ordering_then (nat_cmp x.part y.part) (nat_cmp (num x) (num y))) s)
@@ -253,39 +253,39 @@ module _ (g : Game) (functions : ℕ) (can : CanBegin g functions) where
         (then_less (nat_cmp x.part y.part) (rest x y) s.1))
         (then_less (nat_cmp x.seam y.seam) (ordering_then (nat_cmp x.part y.part) (rest x y)) l)
 
-    pub tries_exactly : (xs : List Placed) → Exactly placed_cmp (IsPlaced g kind.Asked) xs → Exactly try_cmp (IsTryRow g ms) (map (try_row g (lost_in g) ms) xs)
+    pub tries_exactly : (xs : List SeamKey) → Exactly seam_key_cmp (IsSeamKey g kind.Asked) xs → Exactly try_cmp (IsTryRow g ms) (map (try_row g (lost_in g) ms) xs)
     tries_exactly xs e =
-        rows_exactly placed_cmp try_cmp (IsPlaced g kind.Asked) (IsTryRow g ms) (try_row g (lost_in g) ms) xs e (λ x y a b l. three_less kind.Asked asked_one x y a b l)
+        rows_exactly seam_key_cmp try_cmp (IsSeamKey g kind.Asked) (IsTryRow g ms) (try_row g (lost_in g) ms) xs e (λ x y a b l. three_less kind.Asked asked_one x y a b l)
         (try_to g functions can low ms are) (try_from g functions can low ms are)
 
-    at_less : (k : SpotKind) → One k → OnePart k → (x y : Placed) → IsPlaced g k x → IsPlaced g k y → placed_cmp x y ≡ Less → ordering_then (nat_cmp x.seam y.seam) (nat_cmp (num x) (num y)) ≡ Less
+    at_less : (k : SpotKind) → One k → OnePart k → (x y : SeamKey) → IsSeamKey g k x → IsSeamKey g k y → seam_key_cmp x y ≡ Less → ordering_then (nat_cmp x.seam y.seam) (nat_cmp (num x) (num y)) ≡ Less
     at_less k one part x y a b l = without (nat_cmp x.seam y.seam) (nat_cmp x.part y.part) (nat_cmp (num x) (num y)) (tied_nat x.part y.part (part x y a b)) (three_less k one x y a b l)
 
-    pub labels_exactly : (xs : List Placed) → Exactly placed_cmp (IsPlaced g kind.Label) xs → Exactly at_cmp (IsLabelRow g ms) (map (at_row g ms) xs)
+    pub labels_exactly : (xs : List SeamKey) → Exactly seam_key_cmp (IsSeamKey g kind.Label) xs → Exactly at_cmp (IsLabelRow g ms) (map (at_row g ms) xs)
     labels_exactly xs e =
-        rows_exactly placed_cmp at_cmp (IsPlaced g kind.Label) (IsLabelRow g ms) (at_row g ms) xs e (λ x y a b l. at_less kind.Label label_one label_part x y a b l)
+        rows_exactly seam_key_cmp at_cmp (IsSeamKey g kind.Label) (IsLabelRow g ms) (at_row g ms) xs e (λ x y a b l. at_less kind.Label label_one label_part x y a b l)
         (label_to g functions can low ms are) (label_from g functions can low ms are)
 
-    pub closed_exactly : (xs : List Placed) → Exactly placed_cmp (IsPlaced g kind.Close) xs → Exactly at_cmp (IsCloseRow g ms) (map (at_row g ms) xs)
+    pub closed_exactly : (xs : List SeamKey) → Exactly seam_key_cmp (IsSeamKey g kind.Close) xs → Exactly at_cmp (IsCloseRow g ms) (map (at_row g ms) xs)
     closed_exactly xs e =
-        rows_exactly placed_cmp at_cmp (IsPlaced g kind.Close) (IsCloseRow g ms) (at_row g ms) xs e (λ x y a b l. at_less kind.Close close_one close_part x y a b l)
+        rows_exactly seam_key_cmp at_cmp (IsSeamKey g kind.Close) (IsCloseRow g ms) (at_row g ms) xs e (λ x y a b l. at_less kind.Close close_one close_part x y a b l)
         (close_to g functions can low ms are) (close_from g functions can low ms are)
 
-    pub opened_exactly : (xs : List Placed) → Exactly placed_cmp (IsPlaced g kind.Open) xs → Exactly open_cmp (IsOpenRow g ms) (map (open_row g ms) xs)
+    pub opened_exactly : (xs : List SeamKey) → Exactly seam_key_cmp (IsSeamKey g kind.Open) xs → Exactly open_cmp (IsOpenRow g ms) (map (open_row g ms) xs)
     opened_exactly xs e =
-        rows_exactly placed_cmp open_cmp (IsPlaced g kind.Open) (IsOpenRow g ms) (open_row g ms) xs e (λ x y a b l. at_less kind.Open open_one open_part x y a b l)
+        rows_exactly seam_key_cmp open_cmp (IsSeamKey g kind.Open) (IsOpenRow g ms) (open_row g ms) xs e (λ x y a b l. at_less kind.Open open_one open_part x y a b l)
         (open_to g functions can low ms are) (open_from g functions can low ms are)
 
     -- calls by mode
-    modes : (x y : Placed) → IsPlaced g kind.Call x → IsPlaced g kind.Call y → bool_cmp (nat_eq x.part 1) (nat_eq y.part 1) ≡ nat_cmp x.part y.part
+    modes : (x y : SeamKey) → IsSeamKey g kind.Call x → IsSeamKey g kind.Call y → bool_cmp (nat_eq x.part 1) (nat_eq y.part 1) ≡ nat_cmp x.part y.part
     modes x y a b =
         let s = call_there (slice_get g.spots x.pos) x.seam x.part a.at in
         let t = call_there (slice_get g.spots y.pos) y.seam y.part b.at in
         ap₂ (λ (i j : ℕ). bool_cmp (nat_eq i 1) (nat_eq j 1)) s.3 t.3 ∙ split_parts s.0.split t.0.split ∙ sym (ap₂ nat_cmp s.3 t.3)
 
-    pub into_exactly : (xs : List Placed) → Exactly placed_cmp (IsPlaced g kind.Call) xs → Exactly into_cmp (IsIntoRow g ms) (map (into_row (set_in g) ms) xs)
+    pub into_exactly : (xs : List SeamKey) → Exactly seam_key_cmp (IsSeamKey g kind.Call) xs → Exactly into_cmp (IsIntoRow g ms) (map (into_row (set_in g) ms) xs)
     into_exactly xs e =
-        rows_exactly placed_cmp into_cmp (IsPlaced g kind.Call) (IsIntoRow g ms) (into_row (set_in g) ms) xs e
+        rows_exactly seam_key_cmp into_cmp (IsSeamKey g kind.Call) (IsIntoRow g ms) (into_row (set_in g) ms) xs e
         (λ x y a b l. ap (λ o. ordering_then (nat_cmp x.seam y.seam) (ordering_then o (nat_cmp (num x) (num y)))) (modes x y a b) ∙ three_less kind.Call call_one x y a b l)
         (into_to g functions can low ms are) (into_from g functions can low ms are)
 
@@ -296,35 +296,35 @@ module _ (g : Game) (functions : ℕ) (can : CanBegin g functions) where
         sym (then_equal (nat_cmp b.pos c.pos) (ordering_then (nat_cmp b.state c.state) (nat_cmp b.promise c.promise)) (tied_nat b.pos c.pos p)) ∙ l in
         ⊎_elim (λ s. s) (λ s. absurd (not_less_same b.promise c.promise e s.1)) (then_less (nat_cmp b.state c.state) (nat_cmp b.promise c.promise) r)
 
-    same_call : (x : Placed) (c d : Called) → call_in (slice_get g.spots x.pos) ≡ Some c → call_in (slice_get g.spots x.pos) ≡ Some d → c ≡ d
+    same_call : (x : SeamKey) (c d : Called) → call_in (slice_get g.spots x.pos) ≡ Some c → call_in (slice_get g.spots x.pos) ≡ Some d → c ≡ d
     same_call x c d e f = same_Some c d (sym e ∙ f)
 
-    abbrev four : Placed × Key → Placed × Key → Ordering
+    abbrev four : SeamKey × Key → SeamKey × Key → Ordering
     four x y =
         ordering_then (nat_cmp x.0.seam y.0.seam) (ordering_then (nat_cmp x.0.part y.0.part) (ordering_then (nat_cmp (num x.0) (num y.0)) (nat_cmp x.1.state y.1.state)))
 
-    four_less : (x y : Placed × Key) → IsReturn g x → IsReturn g y → return_cmp x y ≡ Less → four x y ≡ Less
+    four_less : (x y : SeamKey × Key) → IsReturn g x → IsReturn g y → return_cmp x y ≡ Less → four x y ≡ Less
     four_less x y a b l =
         ⊎_elim
-        (λ s. longer (nat_cmp x.0.seam y.0.seam) (nat_cmp x.0.part y.0.part) (nat_cmp (num x.0) (num y.0)) (nat_cmp x.1.state y.1.state) (three_less kind.Call call_one x.0 y.0 a.placed b.placed s))
-        (λ s. same_place x y a b (placed_exact x.0 y.0 s.0) s.1)
-        (then_less (placed_cmp x.0 y.0) (key_cmp x.1 y.1) l)
+        (λ s. longer (nat_cmp x.0.seam y.0.seam) (nat_cmp x.0.part y.0.part) (nat_cmp (num x.0) (num y.0)) (nat_cmp x.1.state y.1.state) (three_less kind.Call call_one x.0 y.0 a.seam_key b.seam_key s))
+        (λ s. same_seam x y a b (seam_key_exact x.0 y.0 s.0) s.1)
+        (then_less (seam_key_cmp x.0 y.0) (key_cmp x.1 y.1) l)
       where
-        same_place : (x y : Placed × Key) → IsReturn g x → IsReturn g y → x.0 ≡ y.0 → key_cmp x.1 y.1 ≡ Less → four x y ≡ Less
-        same_place x y a b e l =
-            let c : a.call ≡ b.call = same_call y.0 a.call b.call (subst (λ (z : Placed). call_in (slice_get g.spots z.pos) ≡ Some a.call) e a.is_call) b.is_call in
+        same_seam : (x y : SeamKey × Key) → IsReturn g x → IsReturn g y → x.0 ≡ y.0 → key_cmp x.1 y.1 ≡ Less → four x y ≡ Less
+        same_seam x y a b e l =
+            let c : a.call ≡ b.call = same_call y.0 a.call b.call (subst (λ (z : SeamKey). call_in (slice_get g.spots z.pos) ≡ Some a.call) e a.is_call) b.is_call in
             let p : x.1.pos ≡ y.1.pos = a.pos ∙ ap (λ (f : Called). g.exit f.function) c ∙ sym b.pos in
-            let d : x.1.promise ≡ y.1.promise = a.promise ∙ ap (λ (z : Placed). set_in g z.pos z.state z.promise) e ∙ sym b.promise in
-            then_equal (nat_cmp x.0.seam y.0.seam) _ (tied_nat x.0.seam y.0.seam (ap (λ (z : Placed). z.seam) e))
-            ∙ then_equal (nat_cmp x.0.part y.0.part) _ (tied_nat x.0.part y.0.part (ap (λ (z : Placed). z.part) e))
+            let d : x.1.promise ≡ y.1.promise = a.promise ∙ ap (λ (z : SeamKey). set_in g z.pos z.state z.promise) e ∙ sym b.promise in
+            then_equal (nat_cmp x.0.seam y.0.seam) _ (tied_nat x.0.seam y.0.seam (ap (λ (z : SeamKey). z.seam) e))
+            ∙ then_equal (nat_cmp x.0.part y.0.part) _ (tied_nat x.0.part y.0.part (ap (λ (z : SeamKey). z.part) e))
             ∙ then_equal (nat_cmp (num x.0) (num y.0)) _ (tied_nat (num x.0) (num y.0) (ap num e))
             ∙ exits x.1 y.1 p d l
 
-    pub back_exactly : (xs : List (Placed × Key)) → Exactly return_cmp (IsReturn g) xs → Exactly back_cmp (IsBackRow g ms) (map (back_row g ms) xs)
+    pub back_exactly : (xs : List (SeamKey × Key)) → Exactly return_cmp (IsReturn g) xs → Exactly back_cmp (IsBackRow g ms) (map (back_row g ms) xs)
     back_exactly xs e =
         rows_exactly return_cmp back_cmp (IsReturn g) (IsBackRow g ms) (back_row g ms) xs e
         (λ x y a b l.
-        ap (λ o. ordering_then (nat_cmp x.0.seam y.0.seam) (ordering_then o (ordering_then (nat_cmp (num x.0) (num y.0)) (nat_cmp x.1.state y.1.state)))) (modes x.0 y.0 a.placed b.placed)
+        ap (λ o. ordering_then (nat_cmp x.0.seam y.0.seam) (ordering_then o (ordering_then (nat_cmp (num x.0) (num y.0)) (nat_cmp x.1.state y.1.state)))) (modes x.0 y.0 a.seam_key b.seam_key)
         ∙ four_less x y a b l)
         (back_to g functions can low ms are) (back_from g functions can low ms are)
 

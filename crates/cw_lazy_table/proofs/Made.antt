@@ -31,7 +31,7 @@ use Rattle.cw_solve.proofs.Falls.{call_is}
 use Rattle.cw_solve.proofs.Routing.{routed_of}
 use Rattle.cw_lazy_table.specs.Laws.{CanBegin}
 use Rattle.cw_lazy_table.specs.Staged.{IsAsked, AreStaged, IsKnown}
-use Rattle.cw_lazy_table.proofs.Staging.{of_point, visit_behind, visit_past, asked_once, placed_once}
+use Rattle.cw_lazy_table.proofs.Staging.{of_point, visit_behind, visit_past, asked_once, seam_key_once}
 use Rattle.cw_lazy_table.proofs.Stepping.{to_unasked, move_unasked}
 
 -- where each pair that the game needs has a height, or none, it is known whether it is lost
@@ -91,8 +91,8 @@ module _ (h : Held) (made : IsMade h) where
   same_call p r c d e k js ms = by c.split d.split ms (call_is (slice_get g.spots p) c e) (call_is (slice_get g.spots r) d k)
     where
       by : (a b : Bool) → a ≡ b → slice_get (game_of h).spots p ≡ Some (call_spot a c.seam c.function c.back) → slice_get (game_of h).spots r ≡ Some (call_spot b d.seam d.function d.back) → p ≡ r
-      by true true m e k = placed_once policy ps ns ss are_seams p r 1 (SplitCall c.seam c.function c.back) (SplitCall d.seam d.function d.back) refl refl js e k
-      by false false m e k = placed_once policy ps ns ss are_seams p r 0 (Call c.seam c.function c.back) (Call d.seam d.function d.back) refl refl js e k
+      by true true m e k = seam_key_once policy ps ns ss are_seams p r 1 (SplitCall c.seam c.function c.back) (SplitCall d.seam d.function d.back) refl refl js e k
+      by false false m e k = seam_key_once policy ps ns ss are_seams p r 0 (Call c.seam c.function c.back) (Call d.seam d.function d.back) refl refl js e k
       by true false m e k = cc
       by false true m e k = cc
 
@@ -104,9 +104,9 @@ module _ (h : Held) (made : IsMade h) where
     started = begins_unasked g.main;
     called = λ p call e. begins_unasked call.function;
     asks = λ p r j i a b e k. asked_once policy ps ns ss are_seams p r j i a b e k;
-    labels = λ p r j l k m n e f. placed_once policy ps ns ss are_seams p r 0 (Label j l m) (Label j k n) refl refl refl e f;
-    opens = λ p r j d k m n e f. placed_once policy ps ns ss are_seams p r 0 (Open j d m) (Open j k n) refl refl refl e f;
-    closes = λ p r j d k m n e f. placed_once policy ps ns ss are_seams p r 0 (Close j d m) (Close j k n) refl refl refl e f;
+    labels = λ p r j l k m n e f. seam_key_once policy ps ns ss are_seams p r 0 (Label j l m) (Label j k n) refl refl refl e f;
+    opens = λ p r j d k m n e f. seam_key_once policy ps ns ss are_seams p r 0 (Open j d m) (Open j k n) refl refl refl e f;
+    closes = λ p r j d k m n e f. seam_key_once policy ps ns ss are_seams p r 0 (Close j d m) (Close j k n) refl refl refl e f;
     calls = same_call;
     ends = λ p call e. let q = called_part p call e in exit_there call.function q.0 q.1;
     not_main = λ p call e. made.leaves.uncalled p call e;

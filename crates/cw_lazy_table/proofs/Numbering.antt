@@ -28,7 +28,7 @@ use Rattle.cw_lazy_table.specs.Closing.{key, moves_on, visited, begun, answered,
 use Rattle.cw_lazy_table.specs.Laws.{CanBegin}
 use Rattle.cw_lazy_table.specs.Live.{IsLive, calls}
 use Rattle.cw_lazy_table.specs.Numbered.{whole, whole_pair, small, lost_by, set_at, numbered, ArePromises, CanAsk, CanTake, AreNumbered, ArePaired}
-use Rattle.cw_lazy_table.specs.Places.{key_cmp}
+use Rattle.cw_lazy_table.specs.SeamKeys.{key_cmp}
 use Rattle.cw_lazy_table.proofs.Choosing.{safe_at, set_full}
 use Rattle.cw_lazy_table.proofs.Finding.{of_in}
 use Rattle.cw_lazy_table.proofs.Listing.{rows_exactly, sorted_map}

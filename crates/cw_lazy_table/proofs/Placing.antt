@@ -12,8 +12,8 @@ use Rattle.cw_game.specs.declared.spots.Spot.TheVariants.{Visit, Asked, Step, Br
 use Rattle.cw_game.specs.Pairs.{Called, call_in}
 use Rattle.cw_lazy_table.specs.Kinds as kind
 use Rattle.cw_lazy_table.specs.declared.key.Key.{Key}
-use Rattle.cw_lazy_table.specs.declared.place.Placed.{Placed}
-use Rattle.cw_lazy_table.specs.Places.{part_there, put_placed, put_return}
+use Rattle.cw_lazy_table.specs.declared.seam_key.SeamKey.{SeamKey}
+use Rattle.cw_lazy_table.specs.SeamKeys.{part_there, put_seam_key, put_return}
 
 first_of : {a b j i : ℕ} → ◌≡◌ {A = Option (ℕ × ℕ)} (Some (a, b)) (Some (j, i)) → a ≡ j
 first_of {a} {b} {j} {i} e = ap (λ (x : ℕ × ℕ). x.0) (same_Some (a, b) (j, i) e)
@@ -122,10 +122,10 @@ split_is true = refl
 split_is false = refl
 
 -- what is put
-pub put_placed_is : (xs : List Placed) (o p : Option Placed) → o ≡ p → put_placed xs o ≡ xs ++ cons_option p []
-put_placed_is xs None p e = sym (append-nil xs) ∙ ap (λ (o : Option Placed). xs ++ cons_option o []) e
-put_placed_is xs (Some x) p e = ap (λ (o : Option Placed). xs ++ cons_option o []) e
+pub put_seam_key_is : (xs : List SeamKey) (o p : Option SeamKey) → o ≡ p → put_seam_key xs o ≡ xs ++ cons_option p []
+put_seam_key_is xs None p e = sym (append-nil xs) ∙ ap (λ (o : Option SeamKey). xs ++ cons_option o []) e
+put_seam_key_is xs (Some x) p e = ap (λ (o : Option SeamKey). xs ++ cons_option o []) e
 
-pub put_return_is : (xs : List (Placed × Key)) (o p : Option Placed) (b : Key) → o ≡ p → put_return xs o b ≡ xs ++ cons_option (option_map (λ (x : Placed). (x, b)) p) []
-put_return_is xs None p b e = sym (append-nil xs) ∙ ap (λ (o : Option Placed). xs ++ cons_option (option_map (λ (x : Placed). (x, b)) o) []) e
-put_return_is xs (Some x) p b e = ap (λ (o : Option Placed). xs ++ cons_option (option_map (λ (x : Placed). (x, b)) o) []) e
+pub put_return_is : (xs : List (SeamKey × Key)) (o p : Option SeamKey) (b : Key) → o ≡ p → put_return xs o b ≡ xs ++ cons_option (option_map (λ (x : SeamKey). (x, b)) p) []
+put_return_is xs None p b e = sym (append-nil xs) ∙ ap (λ (o : Option SeamKey). xs ++ cons_option (option_map (λ (x : SeamKey). (x, b)) o) []) e
+put_return_is xs (Some x) p b e = ap (λ (o : Option SeamKey). xs ++ cons_option (option_map (λ (x : SeamKey). (x, b)) o) []) e

@@ -5,7 +5,7 @@ use Rattle.std.specs.declared.cmp.Ordering.{Ordering}
 use Rattle.std.proofs.lemmas.List.{take_more, take_all, map-append}
 use Rattle.std.proofs.lemmas.List.Elements.{Contains-append_left, Contains-append_right, Contains-append_cases}
 use Rattle.cw_fixpoint.specs.Closures.{Exactly}
-use Rattle.cw_lazy_table.specs.Places.{AreOf, IsPut}
+use Rattle.cw_lazy_table.specs.SeamKeys.{AreOf, IsPut}
 
 module _ {A : Type 0} where
   -- the first i, and one more

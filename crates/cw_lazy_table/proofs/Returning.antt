@@ -11,12 +11,12 @@ use Rattle.cw_fixpoint.specs.Members.{IsMember, IsPair, pair_cmp}
 use Rattle.cw_solve.specs.Low.{HeightsAreLow}
 use Rattle.cw_lazy_table.specs.declared.key.Key.{Key}
 use Rattle.cw_lazy_table.specs.Kinds as kind
-use Rattle.cw_lazy_table.specs.declared.place.Placed.{Placed}
+use Rattle.cw_lazy_table.specs.declared.seam_key.SeamKey.{SeamKey}
 use Rattle.cw_lazy_table.specs.Choices.{lost_in, set_in, choices, start_of}
 use Rattle.cw_lazy_table.specs.Closing.{key, waits}
 use Rattle.cw_lazy_table.specs.Laws.{CanBegin}
 use Rattle.cw_lazy_table.specs.Live.{IsLive}
-use Rattle.cw_lazy_table.specs.Places.{key_cmp, part_at, placed, key_of, IsReturn, return_cmp, return_of}
+use Rattle.cw_lazy_table.specs.SeamKeys.{key_cmp, part_at, seam_key, key_of, IsReturn, return_cmp, return_of}
 use Rattle.cw_lazy_table.proofs.Bridging.{member_live, live_member}
 use Rattle.cw_lemmas.proofs.Options.{option_map_some as mapped}
 use Rattle.cw_lazy_table.proofs.Choosing.{right}
@@ -30,8 +30,8 @@ abbrev pub part_or : Option (ℕ × ℕ) → ℕ × ℕ
 part_or None = (0, 0)
 part_or (Some at) = at
 
-abbrev pub return_at : Game → Key × Key → Placed × Key
-return_at g ab = (placed ab.0 (part_or (part_at g kind.Call ab.0.pos)), ab.1)
+abbrev pub return_at : Game → Key × Key → SeamKey × Key
+return_at g ab = (seam_key ab.0 (part_or (part_at g kind.Call ab.0.pos)), ab.1)
 
 module _ (g : Game) (functions : ℕ) (can : CanBegin g functions) (low : HeightsAreLow g) where
   abbrev Pair : Key × Key → Type 0
@@ -59,7 +59,7 @@ module _ (g : Game) (functions : ℕ) (can : CanBegin g functions) (low : Height
       let c = pair_call ab is in
       let at = pair_at ab c.0 c.1 in
       record {
-        placed = record {
+        seam_key = record {
           live = alive ab.0 is.waiting;
           at = at ∙ ap (λ (y : ℕ × ℕ). Some (y.0, y.1)) (sym (ap part_or at));
         };
@@ -70,9 +70,9 @@ module _ (g : Game) (functions : ℕ) (can : CanBegin g functions) (low : Height
         ended = alive ab.1 is.ending;
       }
 
-  return_pair : (xb : Placed × Key) → IsReturn g xb → Pair (key_of xb.0, xb.1)
+  return_pair : (xb : SeamKey × Key) → IsReturn g xb → Pair (key_of xb.0, xb.1)
   return_pair xb is = record {
-    waiting = listed xb.0.pos xb.0.state xb.0.promise is.placed.live;
+    waiting = listed xb.0.pos xb.0.state xb.0.promise is.seam_key.live;
     ending = listed xb.1.pos xb.1.state xb.1.promise is.ended;
     met = (
       (g.exit is.call.function, set_in g xb.0.pos xb.0.state xb.0.promise),
@@ -83,18 +83,18 @@ module _ (g : Game) (functions : ℕ) (can : CanBegin g functions) (low : Height
   }
 
   -- the pairs as calls with their returns
-  pub returns_exactly : (pairs : List (Key × Key)) (ys : List (Placed × Key)) → Exactly (pair_cmp key_cmp) Pair pairs → Exactly return_cmp (Contains (filter_map (return_of g) pairs)) ys
+  pub returns_exactly : (pairs : List (Key × Key)) (ys : List (SeamKey × Key)) → Exactly (pair_cmp key_cmp) Pair pairs → Exactly return_cmp (Contains (filter_map (return_of g) pairs)) ys
       → Exactly return_cmp (IsReturn g) ys
   returns_exactly pairs ys are e = images return_cmp Pair (IsReturn g) (return_of g) pairs ys are.1 forth back e
     where
-      forth : (ab : Key × Key) (y : Placed × Key) → Pair ab → return_of g ab ≡ Some y → IsReturn g y
+      forth : (ab : Key × Key) (y : SeamKey × Key) → Pair ab → return_of g ab ≡ Some y → IsReturn g y
       forth ab y is f =
           let c = pair_call ab is in
           let at = pair_at ab c.0 c.1 in
           let same : return_at g ab ≡ y =
           same_Some (return_at g ab) y
-          (sym (ap (λ o. option_map (λ (x : Placed). (x, ab.1)) (option_map (placed ab.0) o)) at ∙ ap (λ (y : ℕ × ℕ). Some (placed ab.0 y, ab.1)) (sym (ap part_or at))) ∙ f) in
+          (sym (ap (λ o. option_map (λ (x : SeamKey). (x, ab.1)) (option_map (seam_key ab.0) o)) at ∙ ap (λ (y : ℕ × ℕ). Some (seam_key ab.0 y, ab.1)) (sym (ap part_or at))) ∙ f) in
           subst (IsReturn g) same (pair_return ab is)
 
-      back : (y : Placed × Key) → IsReturn g y → (ab : Key × Key) × Pair ab × (return_of g ab ≡ Some y)
-      back y is = ((key_of y.0, y.1), return_pair y is, ap (λ o. option_map (λ (x : Placed). (x, y.1)) (option_map (placed (key_of y.0)) o)) is.placed.at)
+      back : (y : SeamKey × Key) → IsReturn g y → (ab : Key × Key) × Pair ab × (return_of g ab ≡ Some y)
+      back y is = ((key_of y.0, y.1), return_pair y is, ap (λ o. option_map (λ (x : SeamKey). (x, y.1)) (option_map (seam_key (key_of y.0)) o)) is.seam_key.at)

@@ -23,13 +23,13 @@ use Rattle.cw_product.specs.Moves.{pair_of, next_in, next_at}
 use Rattle.cw_solve.specs.Low.{HeightsAreLow}
 use Rattle.cw_lazy_table.specs.declared.key.Key.{Key}
 use Rattle.cw_lazy_table.specs.Kinds as kind
-use Rattle.cw_lazy_table.specs.declared.place.Placed.{Placed}
+use Rattle.cw_lazy_table.specs.declared.seam_key.SeamKey.{SeamKey}
 use Rattle.cw_lazy_table.specs.Choices.{lost_in, set_in}
 use Rattle.cw_lazy_table.specs.Closing.{key}
 use Rattle.cw_lazy_table.specs.Laws.{CanBegin}
 use Rattle.cw_lazy_table.specs.Lazy.{state_id, Means, IsAfter, GoesOn, IsRefused, IsMemory, IsLiveRow, IsTryRow, IsLabelRow, IsOpenRow, IsCloseRow, IsCalled, IsIntoRow, IsBackRow}
 use Rattle.cw_lazy_table.specs.Live.{IsLive, moves, goes_on, calls, returns}
-use Rattle.cw_lazy_table.specs.Places.{part_there, IsPlaced, IsReturn}
+use Rattle.cw_lazy_table.specs.SeamKeys.{part_there, IsSeamKey, IsReturn}
 use Rattle.cw_lazy_table.specs.Rowing.{Memories, number, mem_id, mem, live_row, mem_after, state_or, moved, going_on, refused_by, try_row, at_row, open_row, is_split, into_row, back_row}
 use Rattle.cw_lazy_table.proofs.Bridging.{full_is}
 use Rattle.cw_lazy_table.proofs.Choosing.{safe_at, set_full, right}
@@ -120,14 +120,14 @@ module _ (g : Game) (functions : ℕ) (can : CanBegin g functions) (low : Height
   refused_from p q e (Some c) m live h = after_from e (Some c) m h
 
   -- tries
-  abbrev asked : Placed → Primitive → Option Spot
+  abbrev asked : SeamKey → Primitive → Option Spot
   asked x a = Some (Asked x.seam x.part a)
 
-  asked_next : (x : Placed) (a : Primitive) (by : Move) → IsLive g x.pos x.state x.promise → slice_get g.spots x.pos ≡ asked x a
+  asked_next : (x : SeamKey) (a : Primitive) (by : Move) → IsLive g x.pos x.state x.promise → slice_get g.spots x.pos ≡ asked x a
       → next_at g x.pos x.state by ≡ option_map pair_of (leads_in g x.pos x.state [] (asked x a) by)
   asked_next x a by live es = next_is x.pos x.state x.promise by (asked x a) live es refl refl
 
-  pub try_to : (x : Placed) → IsPlaced g kind.Asked x → IsTryRow g ms (try_row g (lost_in g) ms x)
+  pub try_to : (x : SeamKey) → IsSeamKey g kind.Asked x → IsTryRow g ms (try_row g (lost_in g) ms x)
   try_to x is =
       let s = asked_there (slice_get g.spots x.pos) x.seam x.part is.at in
       record {
@@ -145,9 +145,9 @@ module _ (g : Game) (functions : ℕ) (can : CanBegin g functions) (low : Height
             (refused_to x.pos x.state x.promise (leads_in g x.pos x.state [] (asked x s.0) Refuse) is.live (λ c l. moved_live x.pos x.state x.promise Refuse (asked x s.0) c is.live s.1 refl refl l));
       }
 
-  pub try_from : (r : TryRow) → IsTryRow g ms r → (x : Placed) × IsPlaced g kind.Asked x × (r ≡ try_row g (lost_in g) ms x)
+  pub try_from : (r : TryRow) → IsTryRow g ms r → (x : SeamKey) × IsSeamKey g kind.Asked x × (r ≡ try_row g (lost_in g) ms x)
   try_from r h =
-      let x : Placed = record { seam = r.seam.0; part = r.stage; state = h.state; promise = h.promise; pos = h.pos } in (
+      let x : SeamKey = record { seam = r.seam.0; part = r.stage; state = h.state; promise = h.promise; pos = h.pos } in (
         x,
         record { live = h.live; at = ap (part_there kind.Asked) h.asked },
         same_try r.seam r.stage r.mem (mem ms h.state h.promise) r.granted (mem_after ms h.promise (next_at g h.pos h.state Grant)) r.refused
@@ -159,17 +159,17 @@ module _ (g : Game) (functions : ℕ) (can : CanBegin g functions) (low : Height
       )
 
   -- after labels, opens and closes
-  moved_is : (x : Placed) (by : Move) (o : Option Spot) (c : Config) → IsLive g x.pos x.state x.promise → slice_get g.spots x.pos ≡ o → is_call_in o ≡ false → is_exit_in o ≡ false
+  moved_is : (x : SeamKey) (by : Move) (o : Option Spot) (c : Config) → IsLive g x.pos x.state x.promise → slice_get g.spots x.pos ≡ o → is_call_in o ≡ false → is_exit_in o ≡ false
       → leads_in g x.pos x.state [] o by ≡ Some c → moved g ms x by ≡ mem ms c.state x.promise
   moved_is x by o c live es k e l = ap (λ n. mem ms (state_or x.state n) x.promise) (next_is x.pos x.state x.promise by o live es k e ∙ ap (option_map pair_of) l)
 
-  moved_means : (x : Placed) (by : Move) (o : Option Spot) (c : Config) → IsLive g x.pos x.state x.promise → slice_get g.spots x.pos ≡ o → weavers_in o ≡ false → is_call_in o ≡ false
+  moved_means : (x : SeamKey) (by : Move) (o : Option Spot) (c : Config) → IsLive g x.pos x.state x.promise → slice_get g.spots x.pos ≡ o → weavers_in o ≡ false → is_call_in o ≡ false
       → is_exit_in o ≡ false
       → leads_in g x.pos x.state [] o by ≡ Some c → Means ms (moved g ms x by).0 c.state x.promise
   moved_means x by o c live es w k e l =
       subst (λ (m : MemId). Means ms m.0 c.state x.promise) (sym (moved_is x by o c live es k e l)) (meant c.pos c.state x.promise (moved_live x.pos x.state x.promise by o c live es w k l))
 
-  pub label_to : (x : Placed) → IsPlaced g kind.Label x → IsLabelRow g ms (at_row g ms x)
+  pub label_to : (x : SeamKey) → IsSeamKey g kind.Label x → IsLabelRow g ms (at_row g ms x)
   label_to x is =
       let s = label_there (slice_get g.spots x.pos) x.seam x.part is.at in
       record {
@@ -184,9 +184,9 @@ module _ (g : Game) (functions : ℕ) (can : CanBegin g functions) (low : Height
         after = moved_means x On (Some (Label x.seam s.0 s.1)) (at_pair s.1 (g.states.lettered x.state s.0) []) is.live s.2 refl refl refl refl;
       }
 
-  pub label_from : (r : AtRow) → IsLabelRow g ms r → (x : Placed) × IsPlaced g kind.Label x × (r ≡ at_row g ms x)
+  pub label_from : (r : AtRow) → IsLabelRow g ms r → (x : SeamKey) × IsSeamKey g kind.Label x × (r ≡ at_row g ms x)
   label_from r h =
-      let x : Placed = record { seam = r.seam.0; part = 0; state = h.state; promise = h.promise; pos = h.pos } in (
+      let x : SeamKey = record { seam = r.seam.0; part = 0; state = h.state; promise = h.promise; pos = h.pos } in (
         x,
         record { live = h.live; at = ap (part_there kind.Label) h.spot },
         same_at r.seam r.mem (mem ms h.state h.promise) r.after (moved g ms x On) (mem_is r.mem h.state h.promise h.meant)
@@ -194,7 +194,7 @@ module _ (g : Game) (functions : ℕ) (can : CanBegin g functions) (low : Height
             ∙ sym (moved_is x On (Some (Label r.seam.0 h.label h.next)) (at_pair h.next (g.states.lettered h.state h.label) []) h.live h.spot refl refl refl)),
       )
 
-  pub close_to : (x : Placed) → IsPlaced g kind.Close x → IsCloseRow g ms (at_row g ms x)
+  pub close_to : (x : SeamKey) → IsSeamKey g kind.Close x → IsCloseRow g ms (at_row g ms x)
   close_to x is =
       let s = close_there (slice_get g.spots x.pos) x.seam x.part is.at in
       record {
@@ -209,9 +209,9 @@ module _ (g : Game) (functions : ℕ) (can : CanBegin g functions) (low : Height
         after = moved_means x On (Some (Close x.seam s.0 s.1)) (at_pair s.1 (g.states.closed x.state s.0) []) is.live s.2 refl refl refl refl;
       }
 
-  pub close_from : (r : AtRow) → IsCloseRow g ms r → (x : Placed) × IsPlaced g kind.Close x × (r ≡ at_row g ms x)
+  pub close_from : (r : AtRow) → IsCloseRow g ms r → (x : SeamKey) × IsSeamKey g kind.Close x × (r ≡ at_row g ms x)
   close_from r h =
-      let x : Placed = record { seam = r.seam.0; part = 0; state = h.state; promise = h.promise; pos = h.pos } in (
+      let x : SeamKey = record { seam = r.seam.0; part = 0; state = h.state; promise = h.promise; pos = h.pos } in (
         x,
         record { live = h.live; at = ap (part_there kind.Close) h.spot },
         same_at r.seam r.mem (mem ms h.state h.promise) r.after (moved g ms x On) (mem_is r.mem h.state h.promise h.meant)
@@ -219,7 +219,7 @@ module _ (g : Game) (functions : ℕ) (can : CanBegin g functions) (low : Height
             ∙ sym (moved_is x On (Some (Close r.seam.0 h.descriptor h.next)) (at_pair h.next (g.states.closed h.state h.descriptor) []) h.live h.spot refl refl refl)),
       )
 
-  pub open_to : (x : Placed) → IsPlaced g kind.Open x → IsOpenRow g ms (open_row g ms x)
+  pub open_to : (x : SeamKey) → IsSeamKey g kind.Open x → IsOpenRow g ms (open_row g ms x)
   open_to x is =
       let s = open_there (slice_get g.spots x.pos) x.seam x.part is.at in
       record {
@@ -235,9 +235,9 @@ module _ (g : Game) (functions : ℕ) (can : CanBegin g functions) (low : Height
         failed = moved_means x Failed (Some (Open x.seam s.0 s.1)) (at_pair s.1 (g.states.closed x.state s.0) []) is.live s.2 refl refl refl refl;
       }
 
-  pub open_from : (r : OpenRow) → IsOpenRow g ms r → (x : Placed) × IsPlaced g kind.Open x × (r ≡ open_row g ms x)
+  pub open_from : (r : OpenRow) → IsOpenRow g ms r → (x : SeamKey) × IsSeamKey g kind.Open x × (r ≡ open_row g ms x)
   open_from r h =
-      let x : Placed = record { seam = r.seam.0; part = 0; state = h.state; promise = h.promise; pos = h.pos } in
+      let x : SeamKey = record { seam = r.seam.0; part = 0; state = h.state; promise = h.promise; pos = h.pos } in
       let o : Option Spot = Some (Open r.seam.0 h.descriptor h.next) in (
         x,
         record { live = h.live; at = ap (part_there kind.Open) h.spot },
@@ -249,7 +249,7 @@ module _ (g : Game) (functions : ℕ) (can : CanBegin g functions) (low : Height
       )
 
   -- calls
-  called_to : (x : Placed) (is : IsPlaced g kind.Call x) → IsCalled g ms x.seam (is_split x) (number ms x.state x.promise)
+  called_to : (x : SeamKey) (is : IsSeamKey g kind.Call x) → IsCalled g ms x.seam (is_split x) (number ms x.state x.promise)
   called_to x is =
       let s = call_there (slice_get g.spots x.pos) x.seam x.part is.at in
       record {
@@ -266,18 +266,18 @@ module _ (g : Game) (functions : ℕ) (can : CanBegin g functions) (low : Height
         full = set_full g functions can low x.pos x.state x.promise s.0 is.live s.1;
       }
 
-  pub into_to : (x : Placed) → IsPlaced g kind.Call x → IsIntoRow g ms (into_row (set_in g) ms x)
+  pub into_to : (x : SeamKey) → IsSeamKey g kind.Call x → IsIntoRow g ms (into_row (set_in g) ms x)
   unfolding called_to
   into_to x is =
       let c = called_to x is in
       record { called = c; callee = meant (g.entry c.call.function) x.state c.set (calls x.pos x.state x.promise c.set c.call is.live c.is_call c.full) }
 
   -- the key of a call of a row
-  abbrev placed_at : (seam m : ℕ) (split : Bool) → IsCalled g ms seam split m → Placed
-  placed_at seam m split c = record { seam = seam; part = cond c.call.split 1 0; state = c.state; promise = c.promise; pos = c.pos }
+  abbrev seam_key_at : (seam m : ℕ) (split : Bool) → IsCalled g ms seam split m → SeamKey
+  seam_key_at seam m split c = record { seam = seam; part = cond c.call.split 1 0; state = c.state; promise = c.promise; pos = c.pos }
 
-  called_placed : (seam m : ℕ) (split : Bool) (c : IsCalled g ms seam split m) → IsPlaced g kind.Call (placed_at seam m split c)
-  called_placed seam m split c = record {
+  called_seam_key : (seam m : ℕ) (split : Bool) (c : IsCalled g ms seam split m) → IsSeamKey g kind.Call (seam_key_at seam m split c)
+  called_seam_key seam m split c = record {
     live = c.live;
     at = there_call (slice_get g.spots c.pos) c.call c.is_call ∙ ap (λ (j : ℕ). Some (j, cond c.call.split 1 0)) c.seams;
   }
@@ -288,22 +288,22 @@ module _ (g : Game) (functions : ℕ) (can : CanBegin g functions) (low : Height
   called_split : (seam m : ℕ) (split : Bool) (c : IsCalled g ms seam split m) → split ≡ nat_eq (cond c.call.split 1 0) 1
   called_split seam m split c = sym (split_is c.call.split ∙ c.modes)
 
-  pub into_from : (r : IntoRow) → IsIntoRow g ms r → (x : Placed) × IsPlaced g kind.Call x × (r ≡ into_row (set_in g) ms x)
+  pub into_from : (r : IntoRow) → IsIntoRow g ms r → (x : SeamKey) × IsSeamKey g kind.Call x × (r ≡ into_row (set_in g) ms x)
   into_from r h =
       let c = h.called in (
-        placed_at r.seam.0 r.mem.0 r.split c,
-        called_placed r.seam.0 r.mem.0 r.split c,
+        seam_key_at r.seam.0 r.mem.0 r.split c,
+        called_seam_key r.seam.0 r.mem.0 r.split c,
         same_into r.seam r.split (nat_eq (cond c.call.split 1 0) 1) r.mem (mem ms c.state c.promise) r.callee (mem ms c.state (set_in g c.pos c.state c.promise))
             (called_split r.seam.0 r.mem.0 r.split c) (mem_is r.mem c.state c.promise c.meant)
             (mem_is r.callee c.state c.set h.callee ∙ ap (mem ms c.state) (called_set r.seam.0 r.mem.0 r.split c)),
       )
 
   -- returns
-  pub back_to : (xb : Placed × Key) → IsReturn g xb → IsBackRow g ms (back_row g ms xb)
+  pub back_to : (xb : SeamKey × Key) → IsReturn g xb → IsBackRow g ms (back_row g ms xb)
   unfolding called_to
   back_to xb is =
       let x = xb.0 in
-      let c = called_to x is.placed in
+      let c = called_to x is.seam_key in
       let same : is.call ≡ c.call = same_call (slice_get g.spots x.pos) is.call c.call is.is_call c.is_call in
       let ended : IsLive g (g.exit c.call.function) xb.1.state c.set =
       subst (λ (f : Called). IsLive g (g.exit f.function) xb.1.state c.set) same
@@ -315,7 +315,7 @@ module _ (g : Game) (functions : ℕ) (can : CanBegin g functions) (low : Height
             x.promise) (sym c.modes)
             (meant c.call.back (returned g.states (kept_at (is_split x) x.state) xb.1.state) x.promise
             (subst (λ (s : Bool). IsLive g c.call.back (returned g.states (kept_at s x.state) xb.1.state) x.promise) c.modes
-            (returns x.pos x.state x.promise c.set xb.1.state c.call is.placed.live c.is_call c.full ended)));
+            (returns x.pos x.state x.promise c.set xb.1.state c.call is.seam_key.live c.is_call c.full ended)));
       }
     where
       same_call : (o : Option Spot) (a b : Called) → call_in o ≡ Some a → call_in o ≡ Some b → a ≡ b
@@ -324,16 +324,16 @@ module _ (g : Game) (functions : ℕ) (can : CanBegin g functions) (low : Height
           some_same : (a b : Called) → ◌≡◌ {A = Option Called} (Some a) (Some b) → a ≡ b
           some_same a b e = cc
 
-  pub back_from : (r : BackRow) → IsBackRow g ms r → (xb : Placed × Key) × IsReturn g xb × (r ≡ back_row g ms xb)
+  pub back_from : (r : BackRow) → IsBackRow g ms r → (xb : SeamKey × Key) × IsReturn g xb × (r ≡ back_row g ms xb)
   back_from r h =
       let c = h.called in
-      let x = placed_at r.seam.0 r.mem.0 r.split c in
+      let x = seam_key_at r.seam.0 r.mem.0 r.split c in
       let set = set_in g c.pos c.state c.promise in
       let same = called_set r.seam.0 r.mem.0 r.split c in
       let split = called_split r.seam.0 r.mem.0 r.split c in (
         (x, key (g.exit c.call.function) r.exit.0 set),
         record {
-          placed = called_placed r.seam.0 r.mem.0 r.split c;
+          seam_key = called_seam_key r.seam.0 r.mem.0 r.split c;
           call = c.call;
           is_call = c.is_call;
           pos = refl;

@@ -101,38 +101,38 @@ module _ (rest : List Spot) (quiet : AreQuiet rest) where
   past_there j i (b ∷ ps) x e (suc (suc k)) y z a h = past_there j (suc i) ps x e k y z a h
 
   -- where a stage is asked
-  pub asked_place : (j i : ℕ) (ps : List Primitive) (k x y : ℕ) (a : Primitive) → slice_get (visits j i ps ++ rest) k ≡ Some (spot.Asked x y a) → (h : ℕ) × (j ≡ x) × (i + h ≡ y) × (k ≡ 2 * h + 1)
-  asked_place j i [] k x y a e = absurd (no_asked k x y a e)
-  asked_place j i (b ∷ ps) zero x y a e = let v : spot.Visit j i b ≡ spot.Asked x y a = same_Some (spot.Visit j i b) (spot.Asked x y a) e in cc
-  asked_place j i (b ∷ ps) (suc zero) x y a e =
+  pub asked_seam_key : (j i : ℕ) (ps : List Primitive) (k x y : ℕ) (a : Primitive) → slice_get (visits j i ps ++ rest) k ≡ Some (spot.Asked x y a) → (h : ℕ) × (j ≡ x) × (i + h ≡ y) × (k ≡ 2 * h + 1)
+  asked_seam_key j i [] k x y a e = absurd (no_asked k x y a e)
+  asked_seam_key j i (b ∷ ps) zero x y a e = let v : spot.Visit j i b ≡ spot.Asked x y a = same_Some (spot.Visit j i b) (spot.Asked x y a) e in cc
+  asked_seam_key j i (b ∷ ps) (suc zero) x y a e =
       let v : spot.Asked j i b ≡ spot.Asked x y a = same_Some (spot.Asked j i b) (spot.Asked x y a) e in
       let is : i + 0 ≡ y = omega (arith, ap stage_of v) in
       (0, ap seam_of v, is, refl)
-  asked_place j i (b ∷ ps) (suc (suc k)) x y a e =
-      let r = asked_place j (suc i) ps k x y a e in
+  asked_seam_key j i (b ∷ ps) (suc (suc k)) x y a e =
+      let r = asked_seam_key j (suc i) ps k x y a e in
       let is : i + suc r.0 ≡ y = omega (arith, r.2) in
       let at : suc (suc k) ≡ 2 * suc r.0 + 1 = omega (arith, r.3) in
       (suc r.0, r.1, is, at)
 
   -- what is neither a visit nor asked stands behind the visits
-  pub quiet_place : (j i : ℕ) (ps : List Primitive) (k : ℕ) (s : Spot) → is_quiet s ≡ true → slice_get (visits j i ps ++ rest) k ≡ Some s
+  pub quiet_seam_key : (j i : ℕ) (ps : List Primitive) (k : ℕ) (s : Spot) → is_quiet s ≡ true → slice_get (visits j i ps ++ rest) k ≡ Some s
       → (h : ℕ) × (k ≡ 2 * length ps + h) × (slice_get rest h ≡ Some s)
-  quiet_place j i [] k s q e = let z : k ≡ 2 * 0 + k = omega arith in (k, z, e)
-  quiet_place j i (b ∷ ps) zero s q e = let w : false ≡ true = ap is_quiet (same_Some (spot.Visit j i b) s e) ∙ q in cc
-  quiet_place j i (b ∷ ps) (suc zero) s q e = let w : false ≡ true = ap is_quiet (same_Some (spot.Asked j i b) s e) ∙ q in cc
-  quiet_place j i (b ∷ ps) (suc (suc k)) s q e =
-      let r = quiet_place j (suc i) ps k s q e in
+  quiet_seam_key j i [] k s q e = let z : k ≡ 2 * 0 + k = omega arith in (k, z, e)
+  quiet_seam_key j i (b ∷ ps) zero s q e = let w : false ≡ true = ap is_quiet (same_Some (spot.Visit j i b) s e) ∙ q in cc
+  quiet_seam_key j i (b ∷ ps) (suc zero) s q e = let w : false ≡ true = ap is_quiet (same_Some (spot.Asked j i b) s e) ∙ q in cc
+  quiet_seam_key j i (b ∷ ps) (suc (suc k)) s q e =
+      let r = quiet_seam_key j (suc i) ps k s q e in
       let z : suc (suc k) ≡ 2 * length (b ∷ ps) + r.0 = omega (arith, r.1) in
       (r.0, z, r.2)
 
 -- where among the free positions of its point this stands, and its seam
-abbrev pub place_of : Spot → Option ℕ
-place_of (spot.Label j l n) = Some 0
-place_of (spot.Open j d n) = Some 0
-place_of (spot.Close j d n) = Some 0
-place_of (spot.Call j f n) = Some 0
-place_of (spot.SplitCall j f n) = Some 1
-place_of _ = None
+abbrev pub part_of_spot : Spot → Option ℕ
+part_of_spot (spot.Label j l n) = Some 0
+part_of_spot (spot.Open j d n) = Some 0
+part_of_spot (spot.Close j d n) = Some 0
+part_of_spot (spot.Call j f n) = Some 0
+part_of_spot (spot.SplitCall j f n) = Some 1
+part_of_spot _ = None
 
 abbrev pub seam_in : Spot → ℕ
 seam_in (spot.Label j l n) = j
@@ -142,40 +142,40 @@ seam_in (spot.Call j f n) = j
 seam_in (spot.SplitCall j f n) = j
 seam_in _ = 0
 
-placed_quiet : (s : Spot) (m : ℕ) → place_of s ≡ Some m → is_quiet s ≡ true
-placed_quiet (spot.Visit j i a) m e = absurd (none-some m e)
-placed_quiet (spot.Asked j i a) m e = absurd (none-some m e)
-placed_quiet _ m e = refl
+seam_key_quiet : (s : Spot) (m : ℕ) → part_of_spot s ≡ Some m → is_quiet s ≡ true
+seam_key_quiet (spot.Visit j i a) m e = absurd (none-some m e)
+seam_key_quiet (spot.Asked j i a) m e = absurd (none-some m e)
+seam_key_quiet _ m e = refl
 
-unplaced : {P : Type 0} (t s : Spot) (m : ℕ) → place_of t ≡ None → Some t ≡ Some s → place_of s ≡ Some m → P
-unplaced t s m n e h = absurd (none-some m (sym n ∙ ap place_of (same_Some t s e) ∙ h))
+unplaced : {P : Type 0} (t s : Spot) (m : ℕ) → part_of_spot t ≡ None → Some t ≡ Some s → part_of_spot s ≡ Some m → P
+unplaced t s m n e h = absurd (none-some m (sym n ∙ ap part_of_spot (same_Some t s e) ∙ h))
 
-here_placed : (t s : Spot) (i j m : ℕ) → place_of t ≡ Some i → seam_in t ≡ j → Some t ≡ Some s → place_of s ≡ Some m → (i ≡ m) × (true ≡ true) × (j ≡ seam_in s)
-here_placed t s i j m p q e h = (same_Some i m (sym p ∙ ap place_of (same_Some t s e) ∙ h), refl, sym q ∙ ap seam_in (same_Some t s e))
+here_seam_key : (t s : Spot) (i j m : ℕ) → part_of_spot t ≡ Some i → seam_in t ≡ j → Some t ≡ Some s → part_of_spot s ≡ Some m → (i ≡ m) × (true ≡ true) × (j ≡ seam_in s)
+here_seam_key t s i j m p q e h = (same_Some i m (sym p ∙ ap part_of_spot (same_Some t s e) ∙ h), refl, sym q ∙ ap seam_in (same_Some t s e))
 
-free_place : (parts : List Part) (p : Point) (f j l r k : ℕ) (s : Spot) (m : ℕ) → slice_get (free parts p f j l r) k ≡ Some s → place_of s ≡ Some m
+free_seam_key : (parts : List Part) (p : Point) (f j l r k : ℕ) (s : Spot) (m : ℕ) → slice_get (free parts p f j l r) k ≡ Some s → part_of_spot s ≡ Some m
     → (k ≡ m) × (is_seam_point p ≡ true) × (j ≡ seam_in s)
-free_place parts point.Entry f j l r zero s m e h = unplaced (spot.Step l) s m refl e h
-free_place parts point.Entry f j l r (suc k) s m e h = absurd (none-some s e)
-free_place parts point.Step f j l r zero s m e h = unplaced (spot.Step l) s m refl e h
-free_place parts point.Step f j l r (suc k) s m e h = absurd (none-some s e)
-free_place parts point.Branch f j l r zero s m e h = unplaced (spot.Branch l r) s m refl e h
-free_place parts point.Branch f j l r (suc k) s m e h = absurd (none-some s e)
-free_place parts (point.Label n) f j l r zero s m e h = here_placed (spot.Label j n l) s 0 j m refl refl e h
-free_place parts (point.Label n) f j l r (suc k) s m e h = absurd (none-some s e)
-free_place parts (point.Open d) f j l r zero s m e h = here_placed (spot.Open j d l) s 0 j m refl refl e h
-free_place parts (point.Open d) f j l r (suc k) s m e h = absurd (none-some s e)
-free_place parts (point.Close d) f j l r zero s m e h = here_placed (spot.Close j d l) s 0 j m refl refl e h
-free_place parts (point.Close d) f j l r (suc k) s m e h = absurd (none-some s e)
-free_place parts (point.Call c) f j l r zero s m e h = here_placed (spot.Call j c l) s 0 j m refl refl e h
-free_place parts (point.Call c) f j l r (suc k) s m e h = by (is_split parts c) k e
+free_seam_key parts point.Entry f j l r zero s m e h = unplaced (spot.Step l) s m refl e h
+free_seam_key parts point.Entry f j l r (suc k) s m e h = absurd (none-some s e)
+free_seam_key parts point.Step f j l r zero s m e h = unplaced (spot.Step l) s m refl e h
+free_seam_key parts point.Step f j l r (suc k) s m e h = absurd (none-some s e)
+free_seam_key parts point.Branch f j l r zero s m e h = unplaced (spot.Branch l r) s m refl e h
+free_seam_key parts point.Branch f j l r (suc k) s m e h = absurd (none-some s e)
+free_seam_key parts (point.Label n) f j l r zero s m e h = here_seam_key (spot.Label j n l) s 0 j m refl refl e h
+free_seam_key parts (point.Label n) f j l r (suc k) s m e h = absurd (none-some s e)
+free_seam_key parts (point.Open d) f j l r zero s m e h = here_seam_key (spot.Open j d l) s 0 j m refl refl e h
+free_seam_key parts (point.Open d) f j l r (suc k) s m e h = absurd (none-some s e)
+free_seam_key parts (point.Close d) f j l r zero s m e h = here_seam_key (spot.Close j d l) s 0 j m refl refl e h
+free_seam_key parts (point.Close d) f j l r (suc k) s m e h = absurd (none-some s e)
+free_seam_key parts (point.Call c) f j l r zero s m e h = here_seam_key (spot.Call j c l) s 0 j m refl refl e h
+free_seam_key parts (point.Call c) f j l r (suc k) s m e h = by (is_split parts c) k e
   where
     by : (b : Bool) (k : ℕ) → slice_get (cond b (spot.SplitCall j c l ∷ []) []) k ≡ Some s → (suc k ≡ m) × (true ≡ true) × (j ≡ seam_in s)
-    by true zero e = here_placed (spot.SplitCall j c l) s 1 j m refl refl e h
+    by true zero e = here_seam_key (spot.SplitCall j c l) s 1 j m refl refl e h
     by true (suc k) e = absurd (none-some s e)
     by false k e = absurd (none-some s e)
-free_place parts point.Exit f j l r zero s m e h = unplaced (spot.Exit f) s m refl e h
-free_place parts point.Exit f j l r (suc k) s m e h = absurd (none-some s e)
+free_seam_key parts point.Exit f j l r zero s m e h = unplaced (spot.Exit f) s m refl e h
+free_seam_key parts point.Exit f j l r (suc k) s m e h = absurd (none-some s e)
 
 pub free_there : (parts : List Part) (p : Point) (f j l r : ℕ) → (s : Spot) × (slice_get (free parts p f j l r) 0 ≡ Some s)
 free_there parts point.Entry f j l r = (spot.Step l, refl)
@@ -269,8 +269,8 @@ module _ (policy : PlainPolicy) (parts : List Part) (ns : List Node) where
         let v = found (spots_at policy parts at) (λ (m : Node). width policy parts m.point) (width_at policy parts at) ns w (spot.Asked j i b) f in
         let n = r.1 in
         let m = v.1 in
-        let x = asked_place (rest_of n) (rest_quiet n) (number n.seam) 0 (primitives_at policy parts n.point) r.2 j i a r.4 in
-        let y = asked_place (rest_of m) (rest_quiet m) (number m.seam) 0 (primitives_at policy parts m.point) v.2 j i b v.4 in
+        let x = asked_seam_key (rest_of n) (rest_quiet n) (number n.seam) 0 (primitives_at policy parts n.point) r.2 j i a r.4 in
+        let y = asked_seam_key (rest_of m) (rest_quiet m) (number m.seam) 0 (primitives_at policy parts m.point) v.2 j i b v.4 in
         let hn = asked_seam n.point n.function (number n.seam) (to at (first_of n.next)) (to at (second_of n.next)) r.2 j i a r.4 in
         let hm = asked_seam m.point m.function (number m.seam) (to at (first_of m.next)) (to at (second_of m.next)) v.2 j i b v.4 in
         let p : r.0 ≡ v.0 = one_point r.0 v.0 n m j r.3 v.3 hn hm x.1 y.1 in
@@ -278,17 +278,17 @@ module _ (policy : PlainPolicy) (parts : List Part) (ns : List Node) where
         r.5 ∙ ap₂ (λ c d. at c + d) p k ∙ sym v.5
 
     -- what stands in the same place of the same seam stands at one position
-    pub placed_once : (q w m : ℕ) (s t : Spot) → place_of s ≡ Some m → place_of t ≡ Some m → seam_in s ≡ seam_in t → slice_get (spots_in policy parts ns) q ≡ Some s
+    pub seam_key_once : (q w m : ℕ) (s t : Spot) → part_of_spot s ≡ Some m → part_of_spot t ≡ Some m → seam_in s ≡ seam_in t → slice_get (spots_in policy parts ns) q ≡ Some s
         → slice_get (spots_in policy parts ns) w ≡ Some t → q ≡ w
-    placed_once q w m s t ps pt js e f =
+    seam_key_once q w m s t ps pt js e f =
         let r = found (spots_at policy parts at) (λ (m : Node). width policy parts m.point) (width_at policy parts at) ns q s e in
         let v = found (spots_at policy parts at) (λ (m : Node). width policy parts m.point) (width_at policy parts at) ns w t f in
         let n = r.1 in
         let o = v.1 in
-        let x = quiet_place (rest_of n) (rest_quiet n) (number n.seam) 0 (primitives_at policy parts n.point) r.2 s (placed_quiet s m ps) r.4 in
-        let y = quiet_place (rest_of o) (rest_quiet o) (number o.seam) 0 (primitives_at policy parts o.point) v.2 t (placed_quiet t m pt) v.4 in
-        let c = free_place parts n.point n.function (number n.seam) (to at (first_of n.next)) (to at (second_of n.next)) x.0 s m x.2 ps in
-        let d = free_place parts o.point o.function (number o.seam) (to at (first_of o.next)) (to at (second_of o.next)) y.0 t m y.2 pt in
+        let x = quiet_seam_key (rest_of n) (rest_quiet n) (number n.seam) 0 (primitives_at policy parts n.point) r.2 s (seam_key_quiet s m ps) r.4 in
+        let y = quiet_seam_key (rest_of o) (rest_quiet o) (number o.seam) 0 (primitives_at policy parts o.point) v.2 t (seam_key_quiet t m pt) v.4 in
+        let c = free_seam_key parts n.point n.function (number n.seam) (to at (first_of n.next)) (to at (second_of n.next)) x.0 s m x.2 ps in
+        let d = free_seam_key parts o.point o.function (number o.seam) (to at (first_of o.next)) (to at (second_of o.next)) y.0 t m y.2 pt in
         let p : r.0 ≡ v.0 = one_point r.0 v.0 n o (seam_in s) r.3 v.3 c.1 d.1 c.2 (d.2 ∙ sym js) in
         let same : n ≡ o = same_Some n o (sym r.3 ∙ ap (slice_get ns) p ∙ v.3) in
         let long : length (primitives_at policy parts n.point) ≡ length (primitives_at policy parts o.point) = ap (λ (z : Node). length (primitives_at policy parts z.point)) same in

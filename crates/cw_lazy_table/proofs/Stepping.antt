@@ -24,7 +24,7 @@ use Rattle.cw_positions.proofs.Standing.{found}
 use Rattle.cw_product.proofs.Placing.{rise}
 use Rattle.cw_product.specs.Routed.{targets}
 use Rattle.cw_solve.proofs.Spotting.{one_is, two_are}
-use Rattle.cw_lazy_table.proofs.Staging.{is_quiet, AreQuiet, free_there, no_asked, front_in, front_there, quiet_place, rest_of, rest_quiet, of_point, front_unasked}
+use Rattle.cw_lazy_table.proofs.Staging.{is_quiet, AreQuiet, free_there, no_asked, front_in, front_there, quiet_seam_key, rest_of, rest_quiet, of_point, front_unasked}
 
 -- a split is the last primitive, if any is
 abbrev SplitLast : List Primitive → Type 0
@@ -154,11 +154,11 @@ module _ (policy : PlainPolicy) (parts : List Part) (ns : List Node) where
 
   -- what stands at q stands in a point, and what is behind it there too
   module _ (q : ℕ) (s : Spot) (is : slice_get (spots_in policy parts ns) q ≡ Some s) where
-    abbrev place : (p : ℕ) × (n : Node) × (i : ℕ) × (slice_get ns p ≡ Some n) × (slice_get (spots_at policy parts at n) i ≡ Some s) × (q ≡ at p + i)
-    place = found (spots_at policy parts at) (λ (m : Node). width policy parts m.point) (width_at policy parts at) ns q s is
+    abbrev at_point : (p : ℕ) × (n : Node) × (i : ℕ) × (slice_get ns p ≡ Some n) × (slice_get (spots_at policy parts at n) i ≡ Some s) × (q ≡ at p + i)
+    at_point = found (spots_at policy parts at) (λ (m : Node). width policy parts m.point) (width_at policy parts at) ns q s is
 
     abbrev node : Node
-    node = place.1
+    node = at_point.1
 
     abbrev rest : List Spot
     rest = rest_of policy parts ns node
@@ -170,20 +170,20 @@ module _ (policy : PlainPolicy) (parts : List Part) (ns : List Node) where
     free_first = free_there parts node.point node.function (number node.seam) (to at (first_of node.next)) (to at (second_of node.next))
 
     -- what stands some places on in the point
-    here : (d : ℕ) (t : Spot) → slice_get (spots_at policy parts at node) (place.2 + d) ≡ Some t → slice_get ss (q + d) ≡ Some t
+    here : (d : ℕ) (t : Spot) → slice_get (spots_at policy parts at node) (at_point.2 + d) ≡ Some t → slice_get ss (q + d) ≡ Some t
     here d t e =
-        let z : at place.0 + (place.2 + d) ≡ q + d = omega (arith, place.5) in
-        sym (ap (slice_get ss) z) ∙ of_point policy parts ns place.0 node (place.2 + d) t place.3 e
+        let z : at at_point.0 + (at_point.2 + d) ≡ q + d = omega (arith, at_point.5) in
+        sym (ap (slice_get ss) z) ∙ of_point policy parts ns at_point.0 node (at_point.2 + d) t at_point.3 e
 
     -- behind the last place of a point the next one begins
-    next : (d : ℕ) → width policy parts node.point ≡ place.2 + d → q + d ≡ at (place.0 + 1)
+    next : (d : ℕ) → width policy parts node.point ≡ at_point.2 + d → q + d ≡ at (at_point.0 + 1)
     next d e =
-        let more = begin_more (λ (m : Node). width policy parts m.point) ns place.0 node place.3 in
-        omega (arith, more, e, place.5)
+        let more = begin_more (λ (m : Node). width policy parts m.point) ns at_point.0 node at_point.3 in
+        omega (arith, more, e, at_point.5)
 
     jumps_unasked : is_quiet s ≡ true → (r : ℕ) → Contains (targets q (Some s)) r → IsUnasked r
     jumps_unasked e r c =
-        let k = quiet_place rest quiet (number node.seam) 0 (primitives_at policy parts node.point) place.2 s e place.4 in
+        let k = quiet_seam_key rest quiet (number node.seam) 0 (primitives_at policy parts node.point) at_point.2 s e at_point.4 in
         let goes = free_goes IsUnasked parts node.point node.function (number node.seam) (to at (first_of node.next)) (to at (second_of node.next))
         (to_unasked (first_of node.next)) (to_unasked (second_of node.next)) k.0 s k.2 in
         target_goes IsUnasked q s e goes r c
@@ -191,7 +191,7 @@ module _ (policy : PlainPolicy) (parts : List Part) (ns : List Node) where
   asked_next : (q j i : ℕ) (a : Primitive) → slice_get (spots_in policy parts ns) q ≡ Some (spot.Asked j i a) → IsUnasked (q + 1)
   asked_next q j i a is x y b e =
       let s = spot.Asked j i a in
-      let r = place q s is in
+      let r = at_point q s is in
       let n = r.1 in
       let ps = primitives_at policy parts n.point in
       let u = free_first q s is in
@@ -203,7 +203,7 @@ module _ (policy : PlainPolicy) (parts : List Part) (ns : List Node) where
   split_next : (q j i : ℕ) → slice_get (spots_in policy parts ns) q ≡ Some (spot.Asked j i Split) → IsUnasked (q + 2)
   split_next q j i is x y b e =
       let s = spot.Asked j i Split in
-      let r = place q s is in
+      let r = at_point q s is in
       let n = r.1 in
       let ps = primitives_at policy parts n.point in
       let all = spots_at policy parts at n in

@@ -23,17 +23,17 @@ use Rattle.cw_solve.proofs.Tabling.{there}
 use Rattle.cw_lazy_table.specs.declared.key.Key.{Key}
 use Rattle.cw_lazy_table.specs.Kinds.{SpotKind}
 use Rattle.cw_lazy_table.specs.Kinds as kind
-use Rattle.cw_lazy_table.specs.declared.place.Placed.{Placed}
+use Rattle.cw_lazy_table.specs.declared.seam_key.SeamKey.{SeamKey}
 use Rattle.cw_lazy_table.specs.Choices.{lost_in, set_in, IsReady, CanFollow}
 use Rattle.cw_lazy_table.specs.Lazy.{Means, IsLiveRow, IsTryRow, IsLabelRow, IsOpenRow, IsCloseRow, IsIntoRow, IsBackRow, IsLazyTable}
 use Rattle.cw_lazy_table.specs.Live.{IsLive, begins}
-use Rattle.cw_lazy_table.specs.Places.{placed_cmp, placed_of, key_of, memory_of, IsPlaced, IsReturn, return_cmp, return_of}
+use Rattle.cw_lazy_table.specs.SeamKeys.{seam_key_cmp, seam_key_of, key_of, memory_of, IsSeamKey, IsReturn, return_cmp, return_of}
 use Rattle.cw_lazy_table.specs.Rowing.{Memories, number, AreMemories, mem, live_row, try_row, at_row, open_row, into_row, back_row}
 use Rattle.cw_lazy_table.specs.Tabled.{AreLive, AreReturns, AreAllMemories}
 use Rattle.cw_lazy_table.proofs.Choosing.{safe_at}
 use Rattle.cw_lazy_table.proofs.Counting.{no_more}
 use Rattle.cw_lazy_table.proofs.Finding.{in_of, of_in}
-use Rattle.cw_lazy_table.proofs.Listing.{places_exactly, memories_exactly, tries_exactly, labels_exactly, opened_exactly, closed_exactly, into_exactly, back_exactly, live_exactly}
+use Rattle.cw_lazy_table.proofs.Listing.{seam_keys_exactly, memories_exactly, tries_exactly, labels_exactly, opened_exactly, closed_exactly, into_exactly, back_exactly, live_exactly}
 use Rattle.cw_lazy_table.proofs.Returning.{alive, listed, returns_exactly}
 use Rattle.cw_lazy_table.proofs.Rowing.{meant}
 use Rattle.cw_certs.proofs.Orders.{mem_total}
@@ -62,15 +62,15 @@ module _ (h : HeldGame) (keys : List Key) (live : AreLive h keys) where
   position x c = (range x.pos x.state x.promise ((lives x).0 c)).0
 
   -- the keys at positions of a kind
-  module _ (k : SpotKind) (ys : List Placed) (are : Exactly placed_cmp (Contains (filter_map (placed_of g k) keys)) ys) where
-    pub places_are : Exactly placed_cmp (IsPlaced g k) ys
-    places_are = places_exactly g functions live.begins k keys ys lives are
+  module _ (k : SpotKind) (ys : List SeamKey) (are : Exactly seam_key_cmp (Contains (filter_map (seam_key_of g k) keys)) ys) where
+    pub seam_keys_are : Exactly seam_key_cmp (IsSeamKey g k) ys
+    seam_keys_are = seam_keys_exactly g functions live.begins k keys ys lives are
 
-    pub place_range : (x : Placed) → Contains ys x → IsPosition g x.pos × IsState g x.state
-    place_range x c = range x.pos x.state x.promise ((places_are.1 x).0 c).live
+    pub seam_key_range : (x : SeamKey) → Contains ys x → IsPosition g x.pos × IsState g x.state
+    seam_key_range x c = range x.pos x.state x.promise ((seam_keys_are.1 x).0 c).live
 
-    pub place_can : (s : Held) → IsReady h s → (x : Placed) → Contains ys x → CanFollow h s (key_of x)
-    place_can s ready x c = record { ready = ready; member = listed g functions live.begins live.low x.pos x.state x.promise ((places_are.1 x).0 c).live }
+    pub seam_key_can : (s : Held) → IsReady h s → (x : SeamKey) → Contains ys x → CanFollow h s (key_of x)
+    seam_key_can s ready x c = record { ready = ready; member = listed g functions live.begins live.low x.pos x.state x.promise ((seam_keys_are.1 x).0 c).live }
 
   -- the memories
   pub memories_are : (ms : Memories) → Exactly mem_cmp (Contains (map memory_of keys)) ms → AreAllMemories g ms
@@ -92,25 +92,25 @@ module _ (h : HeldGame) (keys : List Key) (live : AreLive h keys) where
     pub live_are : (rows : List (PosId × MemId)) → rows ≡ map (live_row ms) keys → Exactly live_cmp (IsLiveRow g ms) rows
     live_are rows e = subst (Exactly live_cmp (IsLiveRow g ms)) (sym e) (live_exactly g functions live.begins ms all.are live.low keys (live.are.0, lives))
 
-    pub tries_are : (ys : List Placed) → Exactly placed_cmp (Contains (filter_map (placed_of g kind.Asked) keys)) ys → (rows : List TryRow) → rows ≡ map (try_row g (lost_in g) ms) ys
+    pub tries_are : (ys : List SeamKey) → Exactly seam_key_cmp (Contains (filter_map (seam_key_of g kind.Asked) keys)) ys → (rows : List TryRow) → rows ≡ map (try_row g (lost_in g) ms) ys
         → Exactly try_cmp (IsTryRow g ms) rows
-    tries_are ys are rows e = subst (Exactly try_cmp (IsTryRow g ms)) (sym e) (tries_exactly g functions live.begins ms all.are live.low ys (places_are kind.Asked ys are))
+    tries_are ys are rows e = subst (Exactly try_cmp (IsTryRow g ms)) (sym e) (tries_exactly g functions live.begins ms all.are live.low ys (seam_keys_are kind.Asked ys are))
 
-    pub labels_are : (ys : List Placed) → Exactly placed_cmp (Contains (filter_map (placed_of g kind.Label) keys)) ys → (rows : List AtRow) → rows ≡ map (at_row g ms) ys
+    pub labels_are : (ys : List SeamKey) → Exactly seam_key_cmp (Contains (filter_map (seam_key_of g kind.Label) keys)) ys → (rows : List AtRow) → rows ≡ map (at_row g ms) ys
         → Exactly at_cmp (IsLabelRow g ms) rows
-    labels_are ys are rows e = subst (Exactly at_cmp (IsLabelRow g ms)) (sym e) (labels_exactly g functions live.begins ms all.are live.low ys (places_are kind.Label ys are))
+    labels_are ys are rows e = subst (Exactly at_cmp (IsLabelRow g ms)) (sym e) (labels_exactly g functions live.begins ms all.are live.low ys (seam_keys_are kind.Label ys are))
 
-    pub opens_are : (ys : List Placed) → Exactly placed_cmp (Contains (filter_map (placed_of g kind.Open) keys)) ys → (rows : List OpenRow) → rows ≡ map (open_row g ms) ys
+    pub opens_are : (ys : List SeamKey) → Exactly seam_key_cmp (Contains (filter_map (seam_key_of g kind.Open) keys)) ys → (rows : List OpenRow) → rows ≡ map (open_row g ms) ys
         → Exactly open_cmp (IsOpenRow g ms) rows
-    opens_are ys are rows e = subst (Exactly open_cmp (IsOpenRow g ms)) (sym e) (opened_exactly g functions live.begins ms all.are live.low ys (places_are kind.Open ys are))
+    opens_are ys are rows e = subst (Exactly open_cmp (IsOpenRow g ms)) (sym e) (opened_exactly g functions live.begins ms all.are live.low ys (seam_keys_are kind.Open ys are))
 
-    pub closes_are : (ys : List Placed) → Exactly placed_cmp (Contains (filter_map (placed_of g kind.Close) keys)) ys → (rows : List AtRow) → rows ≡ map (at_row g ms) ys
+    pub closes_are : (ys : List SeamKey) → Exactly seam_key_cmp (Contains (filter_map (seam_key_of g kind.Close) keys)) ys → (rows : List AtRow) → rows ≡ map (at_row g ms) ys
         → Exactly at_cmp (IsCloseRow g ms) rows
-    closes_are ys are rows e = subst (Exactly at_cmp (IsCloseRow g ms)) (sym e) (closed_exactly g functions live.begins ms all.are live.low ys (places_are kind.Close ys are))
+    closes_are ys are rows e = subst (Exactly at_cmp (IsCloseRow g ms)) (sym e) (closed_exactly g functions live.begins ms all.are live.low ys (seam_keys_are kind.Close ys are))
 
-    pub calls_are : (ys : List Placed) → Exactly placed_cmp (Contains (filter_map (placed_of g kind.Call) keys)) ys → (rows : List IntoRow) → rows ≡ map (into_row (set_in g) ms) ys
+    pub calls_are : (ys : List SeamKey) → Exactly seam_key_cmp (Contains (filter_map (seam_key_of g kind.Call) keys)) ys → (rows : List IntoRow) → rows ≡ map (into_row (set_in g) ms) ys
         → Exactly into_cmp (IsIntoRow g ms) rows
-    calls_are ys are rows e = subst (Exactly into_cmp (IsIntoRow g ms)) (sym e) (into_exactly g functions live.begins ms all.are live.low ys (places_are kind.Call ys are))
+    calls_are ys are rows e = subst (Exactly into_cmp (IsIntoRow g ms)) (sym e) (into_exactly g functions live.begins ms all.are live.low ys (seam_keys_are kind.Call ys are))
 
     -- the table
     pub start_means : (q e : ℕ) → q ≡ g.states.start → e ≡ all_states g → Means ms (mem ms q e).0 g.states.start (all_states g)
@@ -150,14 +150,14 @@ module _ (h : HeldGame) (pairs : List (Key × Key)) (returns : AreReturns h pair
       let th = there (game_of h) (length h.graph.parts.items) returns.begins.routed (context s.function ab.0.promise) s.needed in
       omega (arith, s.of.1, th.ends)
 
-  module _ (ys : List (Placed × Key)) (are : Exactly return_cmp (Contains (filter_map (return_of (game_of h)) pairs)) ys) where
+  module _ (ys : List (SeamKey × Key)) (are : Exactly return_cmp (Contains (filter_map (return_of (game_of h)) pairs)) ys) where
     returns_are : Exactly return_cmp (IsReturn (game_of h)) ys
     returns_are = returns_exactly (game_of h) (length h.graph.parts.items) returns.begins returns.low pairs ys returns.are are
 
-    pub return_states : (x : Placed × Key) → Contains ys x → IsState (game_of h) x.0.state × IsState (game_of h) x.1.state
+    pub return_states : (x : SeamKey × Key) → Contains ys x → IsState (game_of h) x.0.state × IsState (game_of h) x.1.state
     return_states x c =
         let r = (returns_are.1 x).0 c in (
-          (safe_at (game_of h) (length h.graph.parts.items) returns.begins x.0.pos x.0.state x.0.promise r.placed.live).state,
+          (safe_at (game_of h) (length h.graph.parts.items) returns.begins x.0.pos x.0.state x.0.promise r.seam_key.live).state,
           (safe_at (game_of h) (length h.graph.parts.items) returns.begins x.1.pos x.1.state x.1.promise r.ended).state,
         )
 

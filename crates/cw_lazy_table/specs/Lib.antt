@@ -7,7 +7,7 @@ pub mod Laws
 pub mod Lazy
 pub mod Live
 pub mod Numbered
-pub mod Places
+pub mod SeamKeys
 pub mod Rowing
 pub mod Sets
 pub mod Staged

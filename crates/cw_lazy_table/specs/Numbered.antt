@@ -1,5 +1,5 @@
 -- Working definitions: promises by their numbers. Where the code has a key its promise is a number: the place of the promise among those that the
--- game needs, ascending. So it is with what is placed, and with memories.
+-- game needs, ascending. So it is with seam keys, and with memories.
 use Rattle.std.specs.Prelude.{◌≡◌, ◌<◌, ℕ, Bool, List, Some, Contains, map, length, slice_index}
 use Rattle.std.specs.List.Sorted.{IsStrictlySortedBy}
 use Rattle.std.specs.Ordering.{nat_cmp}
@@ -11,7 +11,7 @@ use Rattle.cw_product.specs.Product.{Held as HeldGame, game_of}
 use Rattle.cw_solve.specs.Contexts.{context, IsNeeded}
 use Rattle.cw_solve.specs.Solved.{Held}
 use Rattle.cw_lazy_table.specs.declared.key.Key.{Key}
-use Rattle.cw_lazy_table.specs.declared.place.Placed.{Placed}
+use Rattle.cw_lazy_table.specs.declared.seam_key.SeamKey.{SeamKey}
 use Rattle.cw_lazy_table.specs.Choices.{lost_in, set_in, start_of, IsReady, CanFollow}
 use Rattle.cw_lazy_table.specs.Closing.{key, rules}
 use Rattle.cw_lazy_table.specs.Rowing.{Memories, AreMemories}
@@ -21,8 +21,8 @@ use Rattle.cw_lazy_table.specs.Tabled.{AreLive, AreReturns, AreAllMemories}
 abbrev pub whole : List ℕ → Key → Key
 whole promises k = key k.pos k.state (slice_index promises k.promise)
 
-abbrev pub whole_placed : List ℕ → Placed → Placed
-whole_placed promises x = record { seam = x.seam; part = x.part; state = x.state; promise = slice_index promises x.promise; pos = x.pos }
+abbrev pub whole_seam_key : List ℕ → SeamKey → SeamKey
+whole_seam_key promises x = record { seam = x.seam; part = x.part; state = x.state; promise = slice_index promises x.promise; pos = x.pos }
 
 abbrev pub whole_memory : List ℕ → StateId × ℕ → StateId × ℕ
 whole_memory promises m = (m.0, slice_index promises m.1)
@@ -30,8 +30,8 @@ whole_memory promises m = (m.0, slice_index promises m.1)
 abbrev pub whole_pair : List ℕ → Key × Key → Key × Key
 whole_pair promises ab = (whole promises ab.0, whole promises ab.1)
 
-abbrev pub whole_return : List ℕ → Placed × Key → Placed × Key
-whole_return promises xb = (whole_placed promises xb.0, whole promises xb.1)
+abbrev pub whole_return : List ℕ → SeamKey × Key → SeamKey × Key
+whole_return promises xb = (whole_seam_key promises xb.0, whole promises xb.1)
 
 -- what the lazy table chooses, by numbers
 abbrev pub lost_by : Game → List ℕ → (p q n : ℕ) → Bool

@@ -18,7 +18,7 @@ use Rattle.cw_game.specs.Pairs.{kept_at}
 use Rattle.cw_product.specs.Moves.{next_at, pos_id}
 use Rattle.cw_points.specs.Graphs.{seam_id}
 use Rattle.cw_lazy_table.specs.declared.key.Key.{Key}
-use Rattle.cw_lazy_table.specs.declared.place.Placed.{Placed}
+use Rattle.cw_lazy_table.specs.declared.seam_key.SeamKey.{SeamKey}
 use Rattle.cw_lazy_table.specs.Lazy.{state_id}
 
 abbrev pub Memories : Type 0
@@ -50,7 +50,7 @@ abbrev pub state_or : ℕ → Option (ℕ × ℕ) → ℕ
 state_or q None = q
 state_or q (Some r) = r.1
 
-abbrev pub moved : Game → Memories → Placed → Move → MemId
+abbrev pub moved : Game → Memories → SeamKey → Move → MemId
 moved g ms x by = mem ms (state_or x.state (next_at g x.pos x.state by)) x.promise
 
 -- after a refusal that a stop can answer
@@ -62,7 +62,7 @@ abbrev pub refused_by : ((p q e : ℕ) → Bool) → Memories → (e : ℕ) → 
 refused_by lost ms e None on = going_on lost ms e on
 refused_by lost ms e (Some r) on = Some (mem ms r.1 e)
 
-abbrev pub try_row : Game → ((p q e : ℕ) → Bool) → Memories → Placed → TryRow
+abbrev pub try_row : Game → ((p q e : ℕ) → Bool) → Memories → SeamKey → TryRow
 try_row g lost ms x = record {
   seam = seam_id x.seam;
   stage = x.part;
@@ -71,19 +71,19 @@ try_row g lost ms x = record {
   refused = refused_by lost ms x.promise (next_at g x.pos x.state Refuse) (resumed g x.pos x.state);
 }
 
-abbrev pub at_row : Game → Memories → Placed → AtRow
+abbrev pub at_row : Game → Memories → SeamKey → AtRow
 at_row g ms x = record { seam = seam_id x.seam; mem = mem ms x.state x.promise; after = moved g ms x On }
 
-abbrev pub open_row : Game → Memories → Placed → OpenRow
+abbrev pub open_row : Game → Memories → SeamKey → OpenRow
 open_row g ms x = record { seam = seam_id x.seam; mem = mem ms x.state x.promise; opened = moved g ms x Opened; failed = moved g ms x Failed }
 
-abbrev pub is_split : Placed → Bool
+abbrev pub is_split : SeamKey → Bool
 is_split x = nat_eq x.part 1
 
-abbrev pub into_row : ((p q e : ℕ) → ℕ) → Memories → Placed → IntoRow
+abbrev pub into_row : ((p q e : ℕ) → ℕ) → Memories → SeamKey → IntoRow
 into_row set ms x = record { seam = seam_id x.seam; split = is_split x; mem = mem ms x.state x.promise; callee = mem ms x.state (set x.pos x.state x.promise) }
 
-abbrev pub back_row : Game → Memories → Placed × Key → BackRow
+abbrev pub back_row : Game → Memories → SeamKey × Key → BackRow
 back_row g ms (x, b) = record {
   seam = seam_id x.seam;
   split = is_split x;

@@ -10,7 +10,7 @@ use Rattle.cw_lazy_table.specs.declared.key.Key.{Key}
 use Rattle.cw_lazy_table.specs.Choices.{choices, start_of}
 use Rattle.cw_lazy_table.specs.Laws.{CanBegin}
 use Rattle.cw_lazy_table.specs.Lazy.{IsMemory}
-use Rattle.cw_lazy_table.specs.Places.{key_cmp}
+use Rattle.cw_lazy_table.specs.SeamKeys.{key_cmp}
 use Rattle.cw_lazy_table.specs.Rowing.{Memories}
 
 -- all that is live in a game in which the lazy table can begin

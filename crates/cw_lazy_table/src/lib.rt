@@ -7,8 +7,8 @@ mod indices;
 pub mod key;
 pub mod laws;
 mod lists;
-mod place;
 mod promises;
+mod seam_key;
 pub mod table;
 
 pub use key::Key;

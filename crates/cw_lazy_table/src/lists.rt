@@ -5,14 +5,14 @@ ghost use Rattle.cw_game.specs.Games.{resumed};
 ghost use Rattle.cw_product.specs.Moves.{IsPosition, IsState, next_at};
 ghost use Rattle.cw_product.specs.Product.{game_of};
 ghost use Rattle.cw_lazy_table.specs.Numbered.{lost_by, set_at, whole_memory, CanAsk};
-ghost use Rattle.cw_lazy_table.specs.Places.{key_of};
+ghost use Rattle.cw_lazy_table.specs.SeamKeys.{key_of};
 ghost use Rattle.cw_lazy_table.specs.Rowing.{AreMemories, mem, moved, mem_after, going_on, refused_by, live_row, try_row, at_row, open_row, into_row, back_row};
 ghost use Rattle.cw_certs.specs.declared.moves.Move.TheVariants.{Refuse};
 
 use crate::choice::is_lost;
 use crate::follow::set_at;
 use crate::key::Key;
-use crate::place::{Placed, stands};
+use crate::seam_key::{SeamKey, stands};
 use cw_certs::{AtRow, BackRow, IntoRow, Move, OpenRow, TryRow};
 use cw_core::{MemId, PosId, SeamId, StateId, StateSet};
 use cw_fixpoint::number_of;
@@ -88,28 +88,28 @@ pub(crate) fn live_rows(
 }
 
 /// The memory after a move, if there is one.
-fn after(game: &Game, mems: &[(StateId, usize)], placed: &Placed, by: Move) -> Option<MemId>
+fn after(game: &Game, mems: &[(StateId, usize)], seam_key: &SeamKey, by: Move) -> Option<MemId>
     requires mems { AreMemories mems.now }
-    requires position { IsPosition (game_of game.now) placed.now.pos }
-    requires state { IsState (game_of game.now) placed.now.state }
-    ensures { result ≡ mem_after mems.now placed.now.promise (next_at (game_of game.now) placed.now.pos placed.now.state by) }
+    requires position { IsPosition (game_of game.now) seam_key.now.pos }
+    requires state { IsState (game_of game.now) seam_key.now.state }
+    ensures { result ≡ mem_after mems.now seam_key.now.promise (next_at (game_of game.now) seam_key.now.pos seam_key.now.state by) }
 {
-    match game.next(PosId(placed.pos), StateId(placed.state), by) {
+    match game.next(PosId(seam_key.pos), StateId(seam_key.state), by) {
         None => None,
-        Some((_, state)) => Some(mem(mems, state, placed.promise)),
+        Some((_, state)) => Some(mem(mems, state, seam_key.promise)),
     }
 }
 
 /// The memory after a move, the same where there is none.
-fn moved(game: &Game, mems: &[(StateId, usize)], placed: &Placed, by: Move) -> MemId
+fn moved(game: &Game, mems: &[(StateId, usize)], seam_key: &SeamKey, by: Move) -> MemId
     requires mems { AreMemories mems.now }
-    requires position { IsPosition (game_of game.now) placed.now.pos }
-    requires state { IsState (game_of game.now) placed.now.state }
-    ensures { result ≡ moved (game_of game.now) mems.now placed.now by }
+    requires position { IsPosition (game_of game.now) seam_key.now.pos }
+    requires state { IsState (game_of game.now) seam_key.now.state }
+    ensures { result ≡ moved (game_of game.now) mems.now seam_key.now by }
 {
-    match game.next(PosId(placed.pos), StateId(placed.state), by) {
-        None => mem(mems, StateId(placed.state), placed.promise),
-        Some((_, state)) => mem(mems, state, placed.promise),
+    match game.next(PosId(seam_key.pos), StateId(seam_key.state), by) {
+        None => mem(mems, StateId(seam_key.state), seam_key.promise),
+        Some((_, state)) => mem(mems, state, seam_key.promise),
     }
 }
 
@@ -119,19 +119,19 @@ fn going_on(
     solved: &Solved,
     promises: &[StateSet],
     mems: &[(StateId, usize)],
-    placed: &Placed,
+    seam_key: &SeamKey,
 ) -> Option<MemId>
     requires mems { AreMemories mems.now }
-    requires can { CanAsk game.now solved.now promises.now (key_of placed.now) }
-    ensures { result ≡ going_on (lost_by (game_of game.now) promises.now) mems.now placed.now.promise (resumed (game_of game.now) placed.now.pos placed.now.state) }
+    requires can { CanAsk game.now solved.now promises.now (key_of seam_key.now) }
+    ensures { result ≡ going_on (lost_by (game_of game.now) promises.now) mems.now seam_key.now.promise (resumed (game_of game.now) seam_key.now.pos seam_key.now.state) }
 {
-    match game.resumed(PosId(placed.pos), StateId(placed.state)) {
+    match game.resumed(PosId(seam_key.pos), StateId(seam_key.state)) {
         None => None,
         Some((pos, state)) => {
-            if is_lost(game, solved, pos, state, &promises[placed.promise]) {
+            if is_lost(game, solved, pos, state, &promises[seam_key.promise]) {
                 None
             } else {
-                Some(mem(mems, state, placed.promise))
+                Some(mem(mems, state, seam_key.promise))
             }
         }
     }
@@ -143,16 +143,16 @@ fn refused(
     solved: &Solved,
     promises: &[StateSet],
     mems: &[(StateId, usize)],
-    placed: &Placed,
+    seam_key: &SeamKey,
 ) -> Option<MemId>
     requires mems { AreMemories mems.now }
-    requires can { CanAsk game.now solved.now promises.now (key_of placed.now) }
-    ensures { result ≡ refused_by (lost_by (game_of game.now) promises.now) mems.now placed.now.promise (next_at (game_of game.now) placed.now.pos placed.now.state Refuse)
-        (resumed (game_of game.now) placed.now.pos placed.now.state) }
+    requires can { CanAsk game.now solved.now promises.now (key_of seam_key.now) }
+    ensures { result ≡ refused_by (lost_by (game_of game.now) promises.now) mems.now seam_key.now.promise (next_at (game_of game.now) seam_key.now.pos seam_key.now.state Refuse)
+        (resumed (game_of game.now) seam_key.now.pos seam_key.now.state) }
 {
-    match game.next(PosId(placed.pos), StateId(placed.state), Move::Refuse) {
-        None => going_on(game, solved, promises, mems, placed),
-        Some((_, state)) => Some(mem(mems, state, placed.promise)),
+    match game.next(PosId(seam_key.pos), StateId(seam_key.state), Move::Refuse) {
+        None => going_on(game, solved, promises, mems, seam_key),
+        Some((_, state)) => Some(mem(mems, state, seam_key.promise)),
     }
 }
 
@@ -162,18 +162,18 @@ fn try_row(
     solved: &Solved,
     promises: &[StateSet],
     mems: &[(StateId, usize)],
-    placed: &Placed,
+    seam_key: &SeamKey,
 ) -> TryRow
     requires mems { AreMemories mems.now }
-    requires can { CanAsk game.now solved.now promises.now (key_of placed.now) }
-    ensures { result ≡ try_row (game_of game.now) (lost_by (game_of game.now) promises.now) mems.now placed.now }
+    requires can { CanAsk game.now solved.now promises.now (key_of seam_key.now) }
+    ensures { result ≡ try_row (game_of game.now) (lost_by (game_of game.now) promises.now) mems.now seam_key.now }
 {
     TryRow {
-        seam: SeamId(placed.seam),
-        stage: placed.part,
-        mem: mem(mems, StateId(placed.state), placed.promise),
-        granted: after(game, mems, placed, Move::Grant),
-        refused: refused(game, solved, promises, mems, placed),
+        seam: SeamId(seam_key.seam),
+        stage: seam_key.part,
+        mem: mem(mems, StateId(seam_key.state), seam_key.promise),
+        granted: after(game, mems, seam_key, Move::Grant),
+        refused: refused(game, solved, promises, mems, seam_key),
     }
 }
 
@@ -184,15 +184,15 @@ pub(crate) fn try_rows(
     solved: &Solved,
     promises: &[StateSet],
     mems: &[(StateId, usize)],
-    places: &[Placed],
+    seam_keys: &[SeamKey],
 ) -> Result<Vec<TryRow>, AllocError>
     requires mems { AreMemories mems.now }
-    requires can { (x : Placed) → Contains places.now x → CanAsk game.now solved.now promises.now (key_of x) }
-    ensures { IfOk result (λ v. v.items ≡ map (try_row (game_of game.now) (lost_by (game_of game.now) promises.now) mems.now) places.now) }
+    requires can { (x : SeamKey) → Contains seam_keys.now x → CanAsk game.now solved.now promises.now (key_of x) }
+    ensures { IfOk result (λ v. v.items ≡ map (try_row (game_of game.now) (lost_by (game_of game.now) promises.now) mems.now) seam_keys.now) }
 {
     let mut rows = Vec::new(alloc);
-    for placed in places {
-        rows.push(try_row(game, solved, promises, mems, placed))?;
+    for seam_key in seam_keys {
+        rows.push(try_row(game, solved, promises, mems, seam_key))?;
     }
     Ok(rows)
 }
@@ -202,18 +202,18 @@ pub(crate) fn at_rows(
     alloc: Global,
     game: &Game,
     mems: &[(StateId, usize)],
-    places: &[Placed],
+    seam_keys: &[SeamKey],
 ) -> Result<Vec<AtRow>, AllocError>
     requires mems { AreMemories mems.now }
-    requires there { (x : Placed) → Contains places.now x → IsPosition (game_of game.now) x.pos × IsState (game_of game.now) x.state }
-    ensures { IfOk result (λ v. v.items ≡ map (at_row (game_of game.now) mems.now) places.now) }
+    requires there { (x : SeamKey) → Contains seam_keys.now x → IsPosition (game_of game.now) x.pos × IsState (game_of game.now) x.state }
+    ensures { IfOk result (λ v. v.items ≡ map (at_row (game_of game.now) mems.now) seam_keys.now) }
 {
     let mut rows = Vec::new(alloc);
-    for placed in places {
+    for seam_key in seam_keys {
         rows.push(AtRow {
-            seam: SeamId(placed.seam),
-            mem: mem(mems, StateId(placed.state), placed.promise),
-            after: moved(game, mems, placed, Move::On),
+            seam: SeamId(seam_key.seam),
+            mem: mem(mems, StateId(seam_key.state), seam_key.promise),
+            after: moved(game, mems, seam_key, Move::On),
         })?;
     }
     Ok(rows)
@@ -224,19 +224,19 @@ pub(crate) fn open_rows(
     alloc: Global,
     game: &Game,
     mems: &[(StateId, usize)],
-    places: &[Placed],
+    seam_keys: &[SeamKey],
 ) -> Result<Vec<OpenRow>, AllocError>
     requires mems { AreMemories mems.now }
-    requires there { (x : Placed) → Contains places.now x → IsPosition (game_of game.now) x.pos × IsState (game_of game.now) x.state }
-    ensures { IfOk result (λ v. v.items ≡ map (open_row (game_of game.now) mems.now) places.now) }
+    requires there { (x : SeamKey) → Contains seam_keys.now x → IsPosition (game_of game.now) x.pos × IsState (game_of game.now) x.state }
+    ensures { IfOk result (λ v. v.items ≡ map (open_row (game_of game.now) mems.now) seam_keys.now) }
 {
     let mut rows = Vec::new(alloc);
-    for placed in places {
+    for seam_key in seam_keys {
         rows.push(OpenRow {
-            seam: SeamId(placed.seam),
-            mem: mem(mems, StateId(placed.state), placed.promise),
-            opened: moved(game, mems, placed, Move::Opened),
-            failed: moved(game, mems, placed, Move::Failed),
+            seam: SeamId(seam_key.seam),
+            mem: mem(mems, StateId(seam_key.state), seam_key.promise),
+            opened: moved(game, mems, seam_key, Move::Opened),
+            failed: moved(game, mems, seam_key, Move::Failed),
         })?;
     }
     Ok(rows)
@@ -248,23 +248,23 @@ fn into_row(
     solved: &Solved,
     promises: &[StateSet],
     mems: &[(StateId, usize)],
-    placed: &Placed,
+    seam_key: &SeamKey,
 ) -> IntoRow
     requires mems { AreMemories mems.now }
-    requires can { CanAsk game.now solved.now promises.now (key_of placed.now) }
-    ensures { result ≡ into_row (set_at (game_of game.now) promises.now) mems.now placed.now }
+    requires can { CanAsk game.now solved.now promises.now (key_of seam_key.now) }
+    ensures { result ≡ into_row (set_at (game_of game.now) promises.now) mems.now seam_key.now }
 {
     let key = Key {
-        pos: placed.pos,
-        state: placed.state,
-        promise: placed.promise,
+        pos: seam_key.pos,
+        state: seam_key.state,
+        promise: seam_key.promise,
     };
     let promise = set_at(game, solved, promises, &key);
     IntoRow {
-        seam: SeamId(placed.seam),
-        split: placed.part == 1,
-        mem: mem(mems, StateId(placed.state), placed.promise),
-        callee: mem(mems, StateId(placed.state), promise),
+        seam: SeamId(seam_key.seam),
+        split: seam_key.part == 1,
+        mem: mem(mems, StateId(seam_key.state), seam_key.promise),
+        callee: mem(mems, StateId(seam_key.state), promise),
     }
 }
 
@@ -275,35 +275,35 @@ pub(crate) fn into_rows(
     solved: &Solved,
     promises: &[StateSet],
     mems: &[(StateId, usize)],
-    places: &[Placed],
+    seam_keys: &[SeamKey],
 ) -> Result<Vec<IntoRow>, AllocError>
     requires mems { AreMemories mems.now }
-    requires can { (x : Placed) → Contains places.now x → CanAsk game.now solved.now promises.now (key_of x) }
-    ensures { IfOk result (λ v. v.items ≡ map (into_row (set_at (game_of game.now) promises.now) mems.now) places.now) }
+    requires can { (x : SeamKey) → Contains seam_keys.now x → CanAsk game.now solved.now promises.now (key_of x) }
+    ensures { IfOk result (λ v. v.items ≡ map (into_row (set_at (game_of game.now) promises.now) mems.now) seam_keys.now) }
 {
     let mut rows = Vec::new(alloc);
-    for placed in places {
-        rows.push(into_row(game, solved, promises, mems, placed))?;
+    for seam_key in seam_keys {
+        rows.push(into_row(game, solved, promises, mems, seam_key))?;
     }
     Ok(rows)
 }
 
 /// The row of a return: the memory behind the call, by the exit state with which the function ends.
-fn back_row(game: &Game, mems: &[(StateId, usize)], placed: &Placed, exit: &Key) -> BackRow
+fn back_row(game: &Game, mems: &[(StateId, usize)], seam_key: &SeamKey, exit: &Key) -> BackRow
     requires mems { AreMemories mems.now }
-    requires state { IsState (game_of game.now) placed.now.state }
+    requires state { IsState (game_of game.now) seam_key.now.state }
     requires exit { IsState (game_of game.now) exit.now.state }
-    ensures { result ≡ back_row (game_of game.now) mems.now (placed.now, exit.now) }
+    ensures { result ≡ back_row (game_of game.now) mems.now (seam_key.now, exit.now) }
 {
-    let split = placed.part == 1;
+    let split = seam_key.part == 1;
     let exit = StateId(exit.state);
-    let state = game.returned(StateId(placed.state), exit, split);
+    let state = game.returned(StateId(seam_key.state), exit, split);
     BackRow {
-        seam: SeamId(placed.seam),
+        seam: SeamId(seam_key.seam),
         split,
-        mem: mem(mems, StateId(placed.state), placed.promise),
+        mem: mem(mems, StateId(seam_key.state), seam_key.promise),
         exit,
-        after: mem(mems, state, placed.promise),
+        after: mem(mems, state, seam_key.promise),
     }
 }
 
@@ -312,10 +312,10 @@ pub(crate) fn back_rows(
     alloc: Global,
     game: &Game,
     mems: &[(StateId, usize)],
-    returns: &[(Placed, Key)],
+    returns: &[(SeamKey, Key)],
 ) -> Result<Vec<BackRow>, AllocError>
     requires mems { AreMemories mems.now }
-    requires states { (x : Placed × Key) → Contains returns.now x → IsState (game_of game.now) x.0.state × IsState (game_of game.now) x.1.state }
+    requires states { (x : SeamKey × Key) → Contains returns.now x → IsState (game_of game.now) x.0.state × IsState (game_of game.now) x.1.state }
     ensures { IfOk result (λ v. v.items ≡ map (back_row (game_of game.now) mems.now) returns.now) }
 {
     let mut rows = Vec::new(alloc);

@@ -14,7 +14,7 @@ ghost use Rattle.cw_lazy_table.specs.Choices.{start_of, IsReady};
 ghost use Rattle.cw_lazy_table.specs.Kinds.{Asked, Label, Open, Close, Call};
 ghost use Rattle.cw_lazy_table.specs.Lazy.{IsTryRow, IsLabelRow, IsOpenRow, IsCloseRow, IsIntoRow, IsBackRow, IsLazyTable, table_rows};
 ghost use Rattle.cw_lazy_table.specs.Numbered.{small, whole_memory, ArePromises, AreNumbered, ArePaired, AreKept};
-ghost use Rattle.cw_lazy_table.specs.Places.{AreOfKind};
+ghost use Rattle.cw_lazy_table.specs.SeamKeys.{AreOfKind};
 
 use crate::follow::Choices;
 use crate::indices::key_indices;
@@ -22,8 +22,8 @@ use crate::key::Key;
 use crate::lists::{
     at_rows, back_rows, into_rows, live_rows, mem, open_rows, try_rows, whole_memories,
 };
-use crate::place::{Placed, memories_of, places, returns};
 use crate::promises::{promise_number, promises_of};
+use crate::seam_key::{SeamKey, memories_of, returns, seam_keys};
 use cw_certs::{AtRow, BackRow, IntoRow, OpenRow, TryRow, WeaverCert};
 use cw_core::limits::ROWS;
 use cw_core::{StateId, StateSet};
@@ -54,7 +54,7 @@ fn tries(
     promises: &[StateSet],
     mems: &[(StateId, usize)],
     keys: &[Key],
-    asked: &[Placed],
+    asked: &[SeamKey],
 ) -> Result<Vec<TryRow>, AllocError>
     requires ready { IsReady game.now solved.now }
     requires live { AreNumbered game.now promises.now keys.now }
@@ -73,7 +73,7 @@ fn labels(
     promises: &[StateSet],
     mems: &[(StateId, usize)],
     keys: &[Key],
-    labels: &[Placed],
+    labels: &[SeamKey],
 ) -> Result<Vec<AtRow>, AllocError>
     requires live { AreNumbered game.now promises.now keys.now }
     requires labels { AreOfKind (game_of game.now) Label keys.now labels.now }
@@ -92,7 +92,7 @@ fn opens(
     promises: &[StateSet],
     mems: &[(StateId, usize)],
     keys: &[Key],
-    opens: &[Placed],
+    opens: &[SeamKey],
 ) -> Result<Vec<OpenRow>, AllocError>
     requires live { AreNumbered game.now promises.now keys.now }
     requires opens { AreOfKind (game_of game.now) Open keys.now opens.now }
@@ -111,7 +111,7 @@ fn closes(
     promises: &[StateSet],
     mems: &[(StateId, usize)],
     keys: &[Key],
-    closes: &[Placed],
+    closes: &[SeamKey],
 ) -> Result<Vec<AtRow>, AllocError>
     requires live { AreNumbered game.now promises.now keys.now }
     requires closes { AreOfKind (game_of game.now) Close keys.now closes.now }
@@ -131,7 +131,7 @@ fn calls(
     promises: &[StateSet],
     mems: &[(StateId, usize)],
     keys: &[Key],
-    calls: &[Placed],
+    calls: &[SeamKey],
 ) -> Result<Vec<IntoRow>, AllocError>
     requires ready { IsReady game.now solved.now }
     requires live { AreNumbered game.now promises.now keys.now }
@@ -181,12 +181,12 @@ fn table_of(
     let start = start_key(game, solved, promises);
     let start = mem(mems, StateId(start.state), start.promise);
     let live = live_rows(alloc, mems, keys)?;
-    let places = places(alloc, game, keys)?;
-    let tries = tries(alloc, game, solved, promises, mems, keys, &places.asked)?;
-    let labels = labels(alloc, game, promises, mems, keys, &places.labels)?;
-    let opens = opens(alloc, game, promises, mems, keys, &places.opens)?;
-    let closes = closes(alloc, game, promises, mems, keys, &places.closes)?;
-    let calls = calls(alloc, game, solved, promises, mems, keys, &places.calls)?;
+    let seam_keys = seam_keys(alloc, game, keys)?;
+    let tries = tries(alloc, game, solved, promises, mems, keys, &seam_keys.asked)?;
+    let labels = labels(alloc, game, promises, mems, keys, &seam_keys.labels)?;
+    let opens = opens(alloc, game, promises, mems, keys, &seam_keys.opens)?;
+    let closes = closes(alloc, game, promises, mems, keys, &seam_keys.closes)?;
+    let calls = calls(alloc, game, solved, promises, mems, keys, &seam_keys.calls)?;
     let backs = backs(alloc, game, promises, mems, pairs)?;
     let states = game.states();
     match WeaverCert::make(

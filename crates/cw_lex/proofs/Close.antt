@@ -3,7 +3,7 @@ use Rattle.std.proofs.Common.{◌≡◌, ℕ, suc, zero, ◌+◌, ◌<◌, true,
 use Rattle.std.specs.Prelude.{nat_eq, codes}
 use Rattle.std.specs.List.{starts_with}
 use Rattle.cw_lex.specs.Characters.{more_by}
-use Rattle.cw_lex.specs.Pieces.{to_close}
+use Rattle.cw_lex.specs.Fronts.{to_close}
 
 some_is : (a b : ℕ) → a ≡ b → Some a ≡ Some b
 some_is a b e = ap (λ (k : ℕ). Some k) e

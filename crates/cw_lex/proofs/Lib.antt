@@ -11,6 +11,6 @@ pub mod Alone
 pub mod Valued
 pub mod Each
 pub mod Strings
-mod ShortWords
+mod ShortIdentifiers
 mod Places
 mod LineEnds

@@ -1,4 +1,4 @@
--- Pieces that stand one after the other.
+-- Fronts that stand one after the other.
 use Rattle.std.proofs.Common.{◌≡◌, ℕ, ◌+◌, ◌<◌, ◌≤◌, Bool, true, false, List, [], ◌∷◌, ◌++◌, length, drop, drop-drop, refl, sym, ap, ◌∙◌, arith, add-zero, zero-add}
 use Rattle.std.specs.List.{sum_by}
 use Rattle.std.proofs.lemmas.List.{append-nil}
@@ -6,67 +6,67 @@ use Rattle.std.proofs.lemmas.List.Sums.{sum_by-append, sum_by-cons}
 use Rattle.std.proofs.Math.ListN.{drop_of_length-le}
 use Rattle.cw_lex.specs.declared.tokens.TokenKind.{TokenKind}
 use Rattle.cw_lex.specs.declared.tokens.Token.{Token}
-use Rattle.cw_lex.specs.declared.piece.Defect.{Defect}
-use Rattle.cw_lex.specs.declared.piece.Defect.TheVariants as defect
-use Rattle.cw_lex.specs.declared.piece.Front.{Front}
-use Rattle.cw_lex.specs.declared.piece.Front.TheVariants as piece
+use Rattle.cw_lex.specs.declared.front.Defect.{Defect}
+use Rattle.cw_lex.specs.declared.front.Defect.TheVariants as defect
+use Rattle.cw_lex.specs.declared.front.Front.{Front}
+use Rattle.cw_lex.specs.declared.front.Front.TheVariants as front
 use Rattle.cw_lex.specs.declared.lexer.LexFault.TheVariants as fault
-use Rattle.cw_lex.specs.Marks.{IsLeastMarker, HasNoMarker}
-use Rattle.cw_lex.specs.Pieces.{piece_at, size}
+use Rattle.cw_lex.specs.Punctuators.{IsLeastMarker, HasNoMarker}
+use Rattle.cw_lex.specs.Fronts.{front_at, size}
 use Rattle.cw_lex.specs.Tokens.{fresh_behind, Stand, tokens_of, AreTokens, fault_at, IsFirstDefect, IsFault}
 
--- one piece more behind them
-stand_more : (f : Bool) (bs : List ℕ) (ps : List Front) (g : Bool) (rest : List ℕ) (p : Front) → Stand f bs ps g rest → piece_at g rest ≡ p → 0 < size p
+-- one front more behind them
+stand_more : (f : Bool) (bs : List ℕ) (ps : List Front) (g : Bool) (rest : List ℕ) (p : Front) → Stand f bs ps g rest → front_at g rest ≡ p → 0 < size p
     → Stand f bs (ps ++ p ∷ []) (fresh_behind g p rest) (drop (size p) rest)
 stand_more f bs [] g rest p h is some = rw (sym h.0, sym h.1) (is, some, (refl, refl))
 stand_more f bs (q ∷ ps) g rest p h is some = (h.0, h.1, stand_more (fresh_behind f q bs) (drop (size q) bs) ps g rest p h.2 is some)
 
--- the tokens of pieces and of those behind them
+-- the tokens of fronts and of those behind them
 tokens_more : (at : ℕ) (ps qs : List Front) → tokens_of at (ps ++ qs) ≡ tokens_of at ps ++ tokens_of (at + sum_by size ps) qs
 tokens_more at [] qs = rw add-zero refl
-tokens_more at (piece.Gap n ∷ ps) qs =
-    let place : at + n + sum_by size ps ≡ at + sum_by size (piece.Gap n ∷ ps) = omega (arith, sum_by-cons size (piece.Gap n) ps) in
+tokens_more at (front.Gap n ∷ ps) qs =
+    let place : at + n + sum_by size ps ≡ at + sum_by size (front.Gap n ∷ ps) = omega (arith, sum_by-cons size (front.Gap n) ps) in
     tokens_more (at + n) ps qs ∙ ap (λ (k : ℕ). tokens_of (at + n) ps ++ tokens_of k qs) place
-tokens_more at (piece.Token kind n ∷ ps) qs =
-    let place : at + n + sum_by size ps ≡ at + sum_by size (piece.Token kind n ∷ ps) = omega (arith, sum_by-cons size (piece.Token kind n) ps) in
+tokens_more at (front.Token kind n ∷ ps) qs =
+    let place : at + n + sum_by size ps ≡ at + sum_by size (front.Token kind n ∷ ps) = omega (arith, sum_by-cons size (front.Token kind n) ps) in
     let t : Token = record { kind = kind; from = at; to = at + n } in
     ap (λ (z : List Token). t ∷ z) (tokens_more (at + n) ps qs ∙ ap (λ (k : ℕ). tokens_of (at + n) ps ++ tokens_of k qs) place)
-tokens_more at (piece.Fault d ∷ ps) qs =
-    let place : at + sum_by size ps ≡ at + sum_by size (piece.Fault d ∷ ps) = omega (arith, sum_by-cons size (piece.Fault d) ps) in
+tokens_more at (front.Fault d ∷ ps) qs =
+    let place : at + sum_by size ps ≡ at + sum_by size (front.Fault d ∷ ps) = omega (arith, sum_by-cons size (front.Fault d) ps) in
     tokens_more at ps qs ∙ ap (λ (k : ℕ). tokens_of at ps ++ tokens_of k qs) place
 
--- How far the source is read: pieces up to a place, whether no token stands on its line so far, and their tokens.
+-- How far the source is read: fronts up to a place, whether no token stands on its line so far, and their tokens.
 pub record Reached (source : List ℕ) (at : ℕ) (fresh : Bool) (ts : List Token) : Type 0 where
-  pub pieces : List Front
-  pub stand : Stand true source pieces fresh (drop at source)
-  pub place : at ≡ sum_by size pieces
-  pub tokens : ts ≡ tokens_of 0 pieces
+  pub fronts : List Front
+  pub stand : Stand true source fronts fresh (drop at source)
+  pub place : at ≡ sum_by size fronts
+  pub tokens : ts ≡ tokens_of 0 fronts
 
-behind : (source : List ℕ) (at : ℕ) (fresh : Bool) (ts us : List Token) (p : Front) → Reached source at fresh ts → piece_at fresh (drop at source) ≡ p → 0 < size p
+behind : (source : List ℕ) (at : ℕ) (fresh : Bool) (ts us : List Token) (p : Front) → Reached source at fresh ts → front_at fresh (drop at source) ≡ p → 0 < size p
     → us ≡ ts ++ tokens_of at (p ∷ []) → Reached source (at + size p) (fresh_behind fresh p (drop at source)) us
 behind source at fresh ts us p r is some e = record {
-  pieces = r.pieces ++ p ∷ [];
-  stand = rw (← drop-drop (size p) at source) (stand_more true source r.pieces fresh (drop at source) p r.stand is some);
+  fronts = r.fronts ++ p ∷ [];
+  stand = rw (← drop-drop (size p) at source) (stand_more true source r.fronts fresh (drop at source) p r.stand is some);
   place = rw sum_by-append (let h = r.place in omega (arith, h));
-  tokens = e ∙ ap (λ (z : List Token). z ++ tokens_of at (p ∷ [])) r.tokens ∙ ap (λ (k : ℕ). tokens_of 0 r.pieces ++ tokens_of k (p ∷ [])) (rw zero-add r.place)
-      ∙ sym (tokens_more 0 r.pieces (p ∷ []));
+  tokens = e ∙ ap (λ (z : List Token). z ++ tokens_of at (p ∷ [])) r.tokens ∙ ap (λ (k : ℕ). tokens_of 0 r.fronts ++ tokens_of k (p ∷ [])) (rw zero-add r.place)
+      ∙ sym (tokens_more 0 r.fronts (p ∷ []));
 }
 
-pub gap_behind : (source : List ℕ) (at : ℕ) (fresh : Bool) (ts : List Token) (n : ℕ) → Reached source at fresh ts → piece_at fresh (drop at source) ≡ piece.Gap n → 0 < n
-    → Reached source (at + n) (fresh_behind fresh (piece.Gap n) (drop at source)) ts
-gap_behind source at fresh ts n r is some = behind source at fresh ts ts (piece.Gap n) r is some (sym (append-nil ts))
+pub gap_behind : (source : List ℕ) (at : ℕ) (fresh : Bool) (ts : List Token) (n : ℕ) → Reached source at fresh ts → front_at fresh (drop at source) ≡ front.Gap n → 0 < n
+    → Reached source (at + n) (fresh_behind fresh (front.Gap n) (drop at source)) ts
+gap_behind source at fresh ts n r is some = behind source at fresh ts ts (front.Gap n) r is some (sym (append-nil ts))
 
 pub token_behind : (source : List ℕ) (at : ℕ) (fresh : Bool) (ts : List Token) (kind : TokenKind) (n : ℕ) → Reached source at fresh ts
-    → piece_at fresh (drop at source) ≡ piece.Token kind n → 0 < n → Reached source (at + n) false (ts ++ record { kind = kind; from = at; to = at + n } ∷ [])
-token_behind source at fresh ts kind n r is some = behind source at fresh ts (ts ++ record { kind = kind; from = at; to = at + n } ∷ []) (piece.Token kind n) r is some refl
+    → front_at fresh (drop at source) ≡ front.Token kind n → 0 < n → Reached source (at + n) false (ts ++ record { kind = kind; from = at; to = at + n } ∷ [])
+token_behind source at fresh ts kind n r is some = behind source at fresh ts (ts ++ record { kind = kind; from = at; to = at + n } ∷ []) (front.Token kind n) r is some refl
 
 pub at_end : (source : List ℕ) (at : ℕ) (fresh : Bool) (ts : List Token) → Reached source at fresh ts → length source ≤ at → HasNoMarker source → AreTokens source ts
 unfolding AreTokens
-at_end source at fresh ts r le unmarked = let e : drop at source ≡ [] = drop_of_length-le source le in (unmarked, (r.pieces, fresh, rw (← e) r.stand, r.tokens))
+at_end source at fresh ts r le unmarked = let e : drop at source ≡ [] = drop_of_length-le source le in (unmarked, (r.fronts, fresh, rw (← e) r.stand, r.tokens))
 
-pub at_defect : (source : List ℕ) (at : ℕ) (fresh : Bool) (ts : List Token) (d : Defect) → Reached source at fresh ts → piece_at fresh (drop at source) ≡ piece.Fault d
+pub at_defect : (source : List ℕ) (at : ℕ) (fresh : Bool) (ts : List Token) (d : Defect) → Reached source at fresh ts → front_at fresh (drop at source) ≡ front.Fault d
     → IsFirstDefect source (fault_at d at)
-at_defect source at fresh ts d r is = (r.pieces, fresh, drop at source, d, r.stand, is, ap (fault_at d) r.place)
+at_defect source at fresh ts d r is = (r.fronts, fresh, drop at source, d, r.stand, is, ap (fault_at d) r.place)
 
 pub is_fault : (source : List ℕ) (d : Defect) (at : ℕ) → HasNoMarker source → IsFirstDefect source (fault_at d at) → IsFault source (fault_at d at)
 unfolding IsFault

@@ -7,13 +7,13 @@ use Rattle.std.proofs.lemmas.List.{take-append-drop, drop_at, length-take-le}
 use Rattle.std.proofs.lemmas.Bool.{and_parts, eqb-true, cases_Bool}
 use Rattle.cw_lex.specs.declared.tokens.TokenKind.{TokenKind}
 use Rattle.cw_lex.specs.declared.tokens.TokenKind.TheVariants as kind
-use Rattle.cw_lex.specs.declared.piece.Front.TheVariants as piece
+use Rattle.cw_lex.specs.declared.front.Front.TheVariants as front
 use Rattle.cw_lex.specs.Characters.{Spelled, item_at, closed, character_len, more_by, text_len, character_of}
 use Rattle.cw_lex.specs.Forms.{IsCharacter, AreItems, IsString}
-use Rattle.cw_lex.specs.Pieces.{quoted, piece_at}
+use Rattle.cw_lex.specs.Fronts.{quoted, front_at}
 use Rattle.cw_lex.proofs.Texts.{skipped, item_first}
 use Rattle.cw_lex.proofs.Alone.{chosen, item_some, more_is, text_long, by_item}
-use Rattle.cw_lex.proofs.Valued.{by_kind, quoted_kind, number_kind, no_word, empty_text}
+use Rattle.cw_lex.proofs.Valued.{by_kind, quoted_kind, number_kind, no_identifier, empty_text}
 
 -- ---- characters
 
@@ -41,7 +41,7 @@ closed_form bs (Some x) is e = chosen (starts_with nat_eq (drop x.1 bs) (codes "
     let same : Some x ≡ Some (character_of (39 ∷ bs), length item) = pair_is x.0 x.1 (character_of (39 ∷ bs)) (length item) (sym value) (sym long) in
     (item, ap (λ (z : List ℕ). 39 ∷ z) all, ap (item_at 39) (sym all) ∙ is ∙ same))) (λ t h. absurd cc) e
 
-quoted_len : (q : TokenKind) (o : Option ℕ) (k : TokenKind) (n : ℕ) → quoted q o ≡ piece.Token k (suc n) → o ≡ Some n
+quoted_len : (q : TokenKind) (o : Option ℕ) (k : TokenKind) (n : ℕ) → quoted q o ≡ front.Token k (suc n) → o ≡ Some n
 quoted_len q None k n e = absurd cc
 quoted_len q (Some m) k n e = let count : m + 1 ≡ suc n = cc in ap (λ (j : ℕ). Some j) (omega (arith, count))
 
@@ -49,12 +49,12 @@ character_form : (bs : List ℕ) → character_len bs ≡ Some (length bs) → I
 unfolding character_len
 character_form bs e = closed_form bs (item_at 39 bs) refl e
 
-pub characters : (text : List ℕ) → piece_at true text ≡ piece.Token kind.Character (length text) → IsCharacter text (character_of text)
+pub characters : (text : List ℕ) → front_at true text ≡ front.Token kind.Character (length text) → IsCharacter text (character_of text)
 characters [] e = absurd (empty_text kind.Character e)
 characters (b ∷ bs) e =
     let n = suc (length bs) in
     by_kind b bs kind.Character (IsCharacter (b ∷ bs) (character_of (b ∷ bs)))
-    (λ t h. absurd (no_word (b ∷ bs) kind.Character n (λ x. absurd cc) (λ x. absurd cc) h))
+    (λ t h. absurd (no_identifier (b ∷ bs) kind.Character n (λ x. absurd cc) (λ x. absurd cc) h))
     (λ t h. absurd (let q = (number_kind (b ∷ bs) kind.Character n h).0 in absurd cc))
     (λ t same h. subst (λ (c : ℕ). IsCharacter (c ∷ bs) (character_of (c ∷ bs))) (sym same) (character_form bs (quoted_len kind.Character (character_len bs) kind.Character (length bs) h)))
     (λ t same h. absurd (let q = quoted_kind kind.Text (text_len 0 bs) kind.Character n h in absurd cc))
@@ -68,20 +68,20 @@ character_long item value is =
     let count : length item + 1 ≡ length (item ++ 39 ∷ []) = omega (arith, length-append item (39 ∷ [])) in
     rw (is, quote) (ap (λ (j : ℕ). Some j) count)
 
-quote_piece : (bs : List ℕ) → character_len bs ≡ Some (length bs) → piece_at true (39 ∷ bs) ≡ piece.Token kind.Character (suc (length bs))
-unfolding piece_at
-quote_piece bs e = rw e (let count : length bs + 1 ≡ suc (length bs) = omega arith in ap (λ (j : ℕ). piece.Token kind.Character j) count)
+quote_front : (bs : List ℕ) → character_len bs ≡ Some (length bs) → front_at true (39 ∷ bs) ≡ front.Token kind.Character (suc (length bs))
+unfolding front_at
+quote_front bs e = rw e (let count : length bs + 1 ≡ suc (length bs) = omega arith in ap (λ (j : ℕ). front.Token kind.Character j) count)
 
-pub all_characters : (text : List ℕ) (value : ℕ) → IsCharacter text value → (piece_at true text ≡ piece.Token kind.Character (length text)) × (character_of text ≡ value)
+pub all_characters : (text : List ℕ) (value : ℕ) → IsCharacter text value → (front_at true text ≡ front.Token kind.Character (length text)) × (character_of text ≡ value)
 all_characters text value h =
     let bs : List ℕ = h.0 ++ 39 ∷ [] in
-    rw h.1 (quote_piece bs (character_long h.0 value h.2), value_of bs (value, length h.0) h.2)
+    rw h.1 (quote_front bs (character_long h.0 value h.2), value_of bs (value, length h.0) h.2)
 
 -- ---- strings
 
-double_quote_piece : (bs : List ℕ) → text_len 0 bs ≡ Some (length bs) → piece_at true (34 ∷ bs) ≡ piece.Token kind.Text (suc (length bs))
-unfolding piece_at
-double_quote_piece bs e = rw e (let count : length bs + 1 ≡ suc (length bs) = omega arith in ap (λ (j : ℕ). piece.Token kind.Text j) count)
+double_quote_front : (bs : List ℕ) → text_len 0 bs ≡ Some (length bs) → front_at true (34 ∷ bs) ≡ front.Token kind.Text (suc (length bs))
+unfolding front_at
+double_quote_front bs e = rw e (let count : length bs + 1 ≡ suc (length bs) = omega arith in ap (λ (j : ℕ). front.Token kind.Text j) count)
 
 no_item : (q b : ℕ) (bs : List ℕ) → eqb b q ≡ true → item_at q (b ∷ bs) ≡ None
 unfolding item_at
@@ -156,19 +156,19 @@ string_form : (bs : List ℕ) → text_len 0 bs ≡ Some (length bs) → IsStrin
 unfolding Parts
 string_form bs e = let h = string_parts (length bs) bs (omega arith) e in (h.0, ap (λ (z : List ℕ). 34 ∷ z) h.1, h.2)
 
-strings_to : (text : List ℕ) → piece_at true text ≡ piece.Token kind.Text (length text) → IsString text
+strings_to : (text : List ℕ) → front_at true text ≡ front.Token kind.Text (length text) → IsString text
 strings_to [] e = absurd (empty_text kind.Text e)
 strings_to (b ∷ bs) e =
     let n = suc (length bs) in
     by_kind b bs kind.Text (IsString (b ∷ bs))
-    (λ t h. absurd (no_word (b ∷ bs) kind.Text n (λ x. absurd cc) (λ x. absurd cc) h))
+    (λ t h. absurd (no_identifier (b ∷ bs) kind.Text n (λ x. absurd cc) (λ x. absurd cc) h))
     (λ t h. absurd (let q = (number_kind (b ∷ bs) kind.Text n h).0 in absurd cc))
     (λ t same h. absurd (let q = quoted_kind kind.Character (character_len bs) kind.Text n h in absurd cc))
     (λ t same h. subst (λ (c : ℕ). IsString (c ∷ bs)) (sym same) (string_form bs (quoted_len kind.Text (text_len 0 bs) kind.Text (length bs) h)))
     (λ t h. absurd cc) e
 
-strings_from : (text : List ℕ) → IsString text → piece_at true text ≡ piece.Token kind.Text (length text)
-strings_from text h = rw h.1 (double_quote_piece (concat h.0 ++ 34 ∷ []) (string_long h.0 h.2))
+strings_from : (text : List ℕ) → IsString text → front_at true text ≡ front.Token kind.Text (length text)
+strings_from text h = rw h.1 (double_quote_front (concat h.0 ++ 34 ∷ []) (string_long h.0 h.2))
 
-pub strings : (text : List ℕ) → (piece_at true text ≡ piece.Token kind.Text (length text)) ↔ IsString text
+pub strings : (text : List ℕ) → (front_at true text ≡ front.Token kind.Text (length text)) ↔ IsString text
 strings text = (strings_to text, strings_from text)

@@ -1,4 +1,4 @@
--- A piece takes bytes, and no more than there are.
+-- A front takes bytes, and no more than there are.
 use Rattle.std.proofs.Common.{◌≡◌, ℕ, zero, suc, ◌+◌, ◌<◌, ◌≤◌, ◌-◌, Bool, true, false, cond, eqb, List, [], ◌∷◌, length, drop, Option, Some, None, refl, arith, length-drop, inl, inr, rules}
 use Rattle.std.specs.Prelude.{nat_eq, codes, IfSome}
 use Rattle.std.specs.List.{starts_with, prefix_len, take_while}
@@ -7,13 +7,13 @@ use Rattle.std.proofs.lemmas.List.Sums.{prefix_len-le-length}
 use Rattle.std.proofs.lemmas.List.Folds.{length-prefix_len}
 use Rattle.cw_lex.specs.declared.tokens.TokenKind.{TokenKind}
 use Rattle.cw_lex.specs.declared.tokens.TokenKind.TheVariants as kind
-use Rattle.cw_lex.specs.declared.piece.Front.{Front}
+use Rattle.cw_lex.specs.declared.front.Front.{Front}
 use Rattle.cw_lex.specs.Bytes.{is_white, is_letter, is_digit, is_name_byte, is_number_byte, is_line_byte}
 use Rattle.cw_lex.specs.Keywords.{is_keyword}
 use Rattle.cw_lex.specs.Numbers.{is_number}
 use Rattle.cw_lex.specs.Characters.{Spelled, more_by, item_at, closed, character_len, text_len}
-use Rattle.cw_lex.specs.Marks.{three_byte_marks, two_byte_marks, one_byte_marks, begins, mark_len}
-use Rattle.cw_lex.specs.Pieces.{word, number, quoted, to_close, comment, is_include, line, directive, mark, piece_at, IsWithin}
+use Rattle.cw_lex.specs.Punctuators.{three_byte_punctuators, two_byte_punctuators, one_byte_punctuators, begins, punctuator_len}
+use Rattle.cw_lex.specs.Fronts.{identifier, number, quoted, to_close, comment, is_include, line, directive, punctuator, front_at, IsWithin}
 
 pub starts_le : (bs w : List ℕ) → starts_with nat_eq bs w ≡ true → length w ≤ length bs
 starts_le bs [] e = omega arith
@@ -72,8 +72,8 @@ run_within p b bs e =
     let le = prefix_len-le-length p (b ∷ bs) in
     (omega (arith, same, some), omega (arith, same, le))
 
-word_within : (len : ℕ) (text : List ℕ) → 0 < length text → length text ≤ len → IsWithin len (word text)
-word_within len text some le = choose len (is_keyword text) _ _ (λ e. (some, le)) (λ e. (some, le))
+identifier_within : (len : ℕ) (text : List ℕ) → 0 < length text → length text ≤ len → IsWithin len (identifier text)
+identifier_within len text some le = choose len (is_keyword text) _ _ (λ e. (some, le)) (λ e. (some, le))
 
 number_within : (len : ℕ) (text : List ℕ) → 0 < length text → length text ≤ len → IsWithin len (number text)
 number_within len text some le = choose len (is_number text) _ _ (λ e. (some, le)) (λ e. tt)
@@ -99,35 +99,35 @@ positive : (n : ℕ) → eqb n 0 ≡ false → 0 < n
 positive zero e = absurd cc
 positive (suc n) e = omega arith
 
-mark_choice : (len : ℕ) (n : ℕ) → n ≤ len → IsWithin len (mark n)
-mark_choice len n le = choose len (eqb n 0) _ _ (λ e. tt) (λ e. (positive n e, le))
+punctuator_choice : (len : ℕ) (n : ℕ) → n ≤ len → IsWithin len (punctuator n)
+punctuator_choice len n le = choose len (eqb n 0) _ _ (λ e. tt) (λ e. (positive n e, le))
 
-three_long : AllLong 3 three_byte_marks
+three_long : AllLong 3 three_byte_punctuators
 three_long = search rules
 
-two_long : AllLong 2 two_byte_marks
+two_long : AllLong 2 two_byte_punctuators
 two_long = search rules
 
-one_long : AllLong 1 one_byte_marks
+one_long : AllLong 1 one_byte_punctuators
 one_long = search rules
 
-mark_le : (bs : List ℕ) → mark_len bs ≤ length bs
-unfolding mark_len
-mark_le bs =
-    cond_both (begins three_byte_marks bs) 3 _ (λ n. n ≤ length bs) (λ e. begins_le 3 three_byte_marks bs three_long e) (λ e.
-    cond_both (begins two_byte_marks bs) 2 _ (λ n. n ≤ length bs) (λ f. begins_le 2 two_byte_marks bs two_long f) (λ f.
-    cond_both (begins one_byte_marks bs) 1 0 (λ n. n ≤ length bs) (λ g. begins_le 1 one_byte_marks bs one_long g) (λ g. omega arith)))
+punctuator_le : (bs : List ℕ) → punctuator_len bs ≤ length bs
+unfolding punctuator_len
+punctuator_le bs =
+    cond_both (begins three_byte_punctuators bs) 3 _ (λ n. n ≤ length bs) (λ e. begins_le 3 three_byte_punctuators bs three_long e) (λ e.
+    cond_both (begins two_byte_punctuators bs) 2 _ (λ n. n ≤ length bs) (λ f. begins_le 2 two_byte_punctuators bs two_long f) (λ f.
+    cond_both (begins one_byte_punctuators bs) 1 0 (λ n. n ≤ length bs) (λ g. begins_le 1 one_byte_punctuators bs one_long g) (λ g. omega arith)))
 
 slash_is_line : (b : ℕ) (bs : List ℕ) → starts_with nat_eq (b ∷ bs) (codes "//") ≡ true → is_line_byte b ≡ true
 slash_is_line b bs e = rw (← eqb-true 47 b (and_parts (eqb 47 b) (starts_with nat_eq bs (codes "/")) e).0) refl
 
-pub piece_within : (fresh : Bool) (bs : List ℕ) → 0 < length bs → IsWithin (length bs) (piece_at fresh bs)
-unfolding piece_at
-piece_within fresh [] some = absurd (omega arith)
-piece_within fresh (b ∷ bs) some =
+pub front_within : (fresh : Bool) (bs : List ℕ) → 0 < length bs → IsWithin (length bs) (front_at fresh bs)
+unfolding front_at
+front_within fresh [] some = absurd (omega arith)
+front_within fresh (b ∷ bs) some =
     let len = length (b ∷ bs) in
     choose len (is_white b) _ _ (λ e. (some_prefix is_white b bs e, prefix_len-le-length is_white (b ∷ bs))) (λ e1.
-    choose len (is_letter b) _ _ (λ e. (let r = run_within is_name_byte b bs (or_left (is_letter b) (is_digit b) e) in word_within len (take_while is_name_byte (b ∷ bs)) r.0 r.1)) (λ e2.
+    choose len (is_letter b) _ _ (λ e. (let r = run_within is_name_byte b bs (or_left (is_letter b) (is_digit b) e) in identifier_within len (take_while is_name_byte (b ∷ bs)) r.0 r.1)) (λ e2.
     choose len (is_digit b) _ _ (λ e. (let r = run_within is_number_byte b bs (or_left (is_name_byte b) (eqb b 46) (or_right (is_letter b) (is_digit b) e)) in
     number_within len (take_while is_number_byte (b ∷ bs)) r.0 r.1)) (λ e3.
     choose len (eqb b 39) _ _ (λ e. quoted_within kind.Character (character_len bs) (length bs) (character_le bs)) (λ e4.
@@ -136,4 +136,4 @@ piece_within fresh (b ∷ bs) some =
     choose len (starts_with nat_eq (b ∷ bs) (codes "/*")) _ _
     (λ e. comment_within (to_close (drop 2 (b ∷ bs))) len (rw (← length-drop 2 (b ∷ bs)) (close_le (drop 2 (b ∷ bs)))) (starts_le (b ∷ bs) (codes "/*") e)) (λ e7.
     choose len (starts_with nat_eq (b ∷ bs) (codes "//")) _ _ (λ e. line_within b bs (slash_is_line b bs e)) (λ e8.
-    mark_choice len (mark_len (b ∷ bs)) (mark_le (b ∷ bs))))))))))
+    punctuator_choice len (punctuator_len (b ∷ bs)) (punctuator_le (b ∷ bs))))))))))

@@ -2,8 +2,8 @@ pub mod Bytes
 pub mod Keywords
 pub mod Numbers
 pub mod Characters
-pub mod Marks
-pub mod Pieces
+pub mod Punctuators
+pub mod Fronts
 pub mod Tokens
 pub mod Listed
 pub mod Forms

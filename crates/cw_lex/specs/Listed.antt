@@ -2,8 +2,8 @@
 use Rattle.std.specs.Prelude.{◌≡◌, ℕ, ◌-◌, ◌<◌, ◌≤◌, true, List, [], ◌∷◌}
 use Rattle.cw_syntax.specs.Names.{slice}
 use Rattle.cw_lex.specs.declared.tokens.Token.{Token}
-use Rattle.cw_lex.specs.declared.piece.Front.TheVariants as piece
-use Rattle.cw_lex.specs.Pieces.{piece_at}
+use Rattle.cw_lex.specs.declared.front.Front.TheVariants as front
+use Rattle.cw_lex.specs.Fronts.{front_at}
 
 -- the tokens lie between two places, one after the other, and none is empty
 abbrev pub AreInOrder : ℕ → ℕ → List Token → Type 0
@@ -13,4 +13,4 @@ AreInOrder from to (t ∷ ts) = (from ≤ t.from) × (t.from < t.to) × AreInOrd
 -- the bytes of each token, alone, are that token
 abbrev pub AreOfTheirKind : List ℕ → List Token → Type 0
 AreOfTheirKind source [] = Unit {0}
-AreOfTheirKind source (t ∷ ts) = (piece_at true (slice source t.from t.to) ≡ piece.Token t.kind (t.to - t.from)) × AreOfTheirKind source ts
+AreOfTheirKind source (t ∷ ts) = (front_at true (slice source t.from t.to) ≡ front.Token t.kind (t.to - t.from)) × AreOfTheirKind source ts

@@ -4,13 +4,13 @@ ghost use Rattle.std.specs.Prelude.{◌≡◌, ◌^◌, ◌<◌, ◌↔◌, ℕ,
 ghost use Rattle.cw_lex.specs.declared.tokens.Token.{Token};
 ghost use Rattle.cw_lex.specs.declared.tokens.TokenKind.{TokenKind};
 ghost use Rattle.cw_lex.specs.declared.tokens.TokenKind.TheVariants.{Keyword, Number, Character, Text};
-ghost use Rattle.cw_lex.specs.declared.piece.Front.TheVariants as piece;
+ghost use Rattle.cw_lex.specs.declared.front.Front.TheVariants as front;
 ghost use Rattle.cw_lex.specs.declared.lexer.LexFault.{LexFault};
 ghost use Rattle.cw_lex.specs.Characters.{character_of};
 ghost use Rattle.cw_lex.specs.Forms.{IsCharacter, IsString};
 ghost use Rattle.cw_lex.specs.Keywords.{is_keyword};
 ghost use Rattle.cw_lex.specs.Numbers.{number_of};
-ghost use Rattle.cw_lex.specs.Pieces.{piece_at};
+ghost use Rattle.cw_lex.specs.Fronts.{front_at};
 ghost use Rattle.cw_lex.specs.Tokens.{AreTokens, IsFault};
 ghost use Rattle.cw_lex.specs.Listed.{AreInOrder, AreOfTheirKind};
 
@@ -32,19 +32,19 @@ pub fn laws_of_tokens()
     ensures of_their_kind { (source : List ℕ) (tokens : List Token)
         → AreTokens source tokens → AreOfTheirKind source tokens }
     ensures keywords { (text : List ℕ) (kind : TokenKind)
-        → piece_at true text ≡ piece.Token kind (length text) → (kind ≡ Keyword) ↔ (is_keyword text ≡ true) }
+        → front_at true text ≡ front.Token kind (length text) → (kind ≡ Keyword) ↔ (is_keyword text ≡ true) }
     ensures numbers { (text : List ℕ)
-        → piece_at true text ≡ piece.Token Number (length text) → number_of text < 2 ^ 64 }
+        → front_at true text ≡ front.Token Number (length text) → number_of text < 2 ^ 64 }
 {}
 
 /// The forms of characters and strings. Bytes alone are a character exactly where they are a quote, an item and a quote; its value is the
 /// item's. They are a string exactly where they are a quote, items one after the other and a quote.
 pub fn laws_of_texts()
     ensures characters { (text : List ℕ)
-        → piece_at true text ≡ piece.Token Character (length text) → IsCharacter text (character_of text) }
+        → front_at true text ≡ front.Token Character (length text) → IsCharacter text (character_of text) }
     ensures all_characters { (text : List ℕ) (value : ℕ)
         → IsCharacter text value
-        → (piece_at true text ≡ piece.Token Character (length text)) × (character_of text ≡ value) }
+        → (front_at true text ≡ front.Token Character (length text)) × (character_of text ≡ value) }
     ensures strings { (text : List ℕ)
-        → (piece_at true text ≡ piece.Token Text (length text)) ↔ IsString text }
+        → (front_at true text ≡ front.Token Text (length text)) ↔ IsString text }
 {}

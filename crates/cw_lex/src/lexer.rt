@@ -2,15 +2,15 @@
 
 ghost use Rattle.std.specs.Prelude.{◌≡◌, ◌+◌, ◌^◌, ◌<◌, ◌≤◌, ◌-◌, ◌⊎◌, length, drop, IfOk, IfErr};
 ghost use Rattle.cw_lex.specs.declared.lexer.LexFault.TheVariants.{NoMemory};
-ghost use Rattle.cw_lex.specs.declared.piece.Front.TheVariants as piece;
-ghost use Rattle.cw_lex.specs.Marks.{HasNoMarker};
-ghost use Rattle.cw_lex.specs.Pieces.{piece_at};
+ghost use Rattle.cw_lex.specs.declared.front.Front.TheVariants as front;
+ghost use Rattle.cw_lex.specs.Punctuators.{HasNoMarker};
+ghost use Rattle.cw_lex.specs.Fronts.{front_at};
 ghost use Rattle.cw_lex.specs.Tokens.{fresh_behind, AreTokens, fault_at, IsFault};
-ghost use Rattle.cw_lex.specs.Pieces.{IsWithin};
+ghost use Rattle.cw_lex.specs.Fronts.{IsWithin};
 
 use crate::bytes::tail;
-use crate::marks::first_marker;
-use crate::piece::{Defect, Front, front_piece, is_fresh_behind};
+use crate::front::{Defect, Front, front_of, is_fresh_behind};
+use crate::punctuators::first_marker;
 use crate::tokens::Token;
 use std::alloc::{AllocError, AllocFailed, Global};
 use thiserror::Error;
@@ -69,20 +69,20 @@ fn fault_at(defect: Defect, at: u32) -> LexFault
     }
 }
 
-/// The piece at an index, given whether no token stands before it on its line.
-fn piece_from(source: &[u8], at: usize, fresh: bool) -> Front
+/// The front at an index, given whether no token stands before it on its line.
+fn front_from(source: &[u8], at: usize, fresh: bool) -> Front
     requires short { length source.now ≤ 262144 }
     requires in_range { at < length source.now }
-    ensures value { result ≡ piece_at fresh (drop at source.now) }
+    ensures value { result ≡ front_at fresh (drop at source.now) }
     ensures within { IsWithin (length source.now - at) result }
 {
-    front_piece(fresh, tail(source, at))
+    front_of(fresh, tail(source, at))
 }
 
-/// Whether no token stands on the line so far, behind a piece of so many bytes that is white space, a comment or an include line.
+/// Whether no token stands on the line so far, behind a front of so many bytes that is white space, a comment or an include line.
 fn is_fresh(source: &[u8], at: usize, fresh: bool, count: usize) -> bool
     requires { at + count ≤ length source.now }
-    ensures { result ≡ fresh_behind fresh (piece.Gap count) (drop at source.now) }
+    ensures { result ≡ fresh_behind fresh (front.Gap count) (drop at source.now) }
 {
     is_fresh_behind(fresh, tail(source, at), count)
 }
@@ -98,8 +98,8 @@ fn read(alloc: Global, source: &[u8]) -> Result<Vec<Token>, LexFault>
     let mut tokens = Vec::with_capacity(alloc, source.len())?;
     let mut at: usize = 0;
     let mut fresh = true;
-    'pieces: while at < source.len() {
-        match piece_from(source, at, fresh) {
+    'fronts: while at < source.len() {
+        match front_from(source, at, fresh) {
             Front::Gap(n) => {
                 fresh = is_fresh(source, at, fresh, n);
                 at += n;

@@ -3,12 +3,12 @@
 
 mod bytes;
 mod characters;
+mod front;
 mod keywords;
 mod laws;
 mod lexer;
-mod marks;
 mod numbers;
-mod piece;
+mod punctuators;
 mod tokens;
 
 pub use characters::character_value;

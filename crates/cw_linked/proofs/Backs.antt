@@ -22,35 +22,35 @@ use Rattle.cw_linked.specs.Queues.{found_of, AreLong, AreHigh, IsLinkAt, AreDue,
 use Rattle.cw_linked.specs.Returns.{AreReturns, AsksReturn}
 use Rattle.cw_linked.specs.Steps.{ReturnsThere}
 use Rattle.cw_linked.specs.Walks.{IsFrom}
-use Rattle.cw_linked.specs.Works.{Known, known_of, IsKnown, AreUpTo, place_at}
+use Rattle.cw_linked.specs.Works.{Known, known_of, IsKnown, AreUpTo, index_at}
 use Rattle.cw_linked.proofs.Asking.{kept_low, chosen_then, chosen_else}
 use Rattle.std.proofs.lemmas.Bool.{cases_Bool as decide}
-use Rattle.cw_linked.proofs.Bounding.{place_is}
+use Rattle.cw_linked.proofs.Bounding.{index_is}
 use Rattle.cw_linked.proofs.Closing.{standing_asked, own_link}
 use Rattle.cw_linked.proofs.Lowering.{lowers_standing, waits_less}
 use Rattle.cw_linked.proofs.Telling.{below, up_to_set}
 use Rattle.cw_linked.proofs.Walking.{row_whole, row_done}
 use Rattle.cw_linked.proofs.Working.{Keys, found_keys, is_due, links_lower, links_right}
 
-due_up_to : (due : List ℕ) (place key most : ℕ) → place < length due → key ≤ most → AreUpTo due most → AreUpTo (lowered due place key) most
-due_up_to due place key most lt le up =
-    elim (decide (nat_eq (slice_index due place) 0 || nat_lt key (slice_index due place))) [
-      | inl h ↦ subst (λ (y : List ℕ). AreUpTo y most) (sym (chosen_then _ (set due place key) due h)) (up_to_set due place key most lt le up)
-      | inr h ↦ subst (λ (y : List ℕ). AreUpTo y most) (sym (chosen_else _ (set due place key) due h)) up
+due_up_to : (due : List ℕ) (index key most : ℕ) → index < length due → key ≤ most → AreUpTo due most → AreUpTo (lowered due index key) most
+due_up_to due index key most lt le up =
+    elim (decide (nat_eq (slice_index due index) 0 || nat_lt key (slice_index due index))) [
+      | inl h ↦ subst (λ (y : List ℕ). AreUpTo y most) (sym (chosen_then _ (set due index key) due h)) (up_to_set due index key most lt le up)
+      | inr h ↦ subst (λ (y : List ℕ). AreUpTo y most) (sym (chosen_else _ (set due index key) due h)) up
     ]
 
-pub due_other : (due : List ℕ) (place key k : ℕ) → (k ≡ place → ⊥) → slice_index (lowered due place key) k ≡ slice_index due k
-due_other due place key k ne =
-    elim (decide (nat_eq (slice_index due place) 0 || nat_lt key (slice_index due place))) [
-      | inl h ↦ ap (λ (ys : List ℕ). slice_index ys k) (chosen_then _ (set due place key) due h) ∙ get_or-set_other due place k key 0 ne
-      | inr h ↦ ap (λ (ys : List ℕ). slice_index ys k) (chosen_else _ (set due place key) due h)
+pub due_other : (due : List ℕ) (index key k : ℕ) → (k ≡ index → ⊥) → slice_index (lowered due index key) k ≡ slice_index due k
+due_other due index key k ne =
+    elim (decide (nat_eq (slice_index due index) 0 || nat_lt key (slice_index due index))) [
+      | inl h ↦ ap (λ (ys : List ℕ). slice_index ys k) (chosen_then _ (set due index key) due h) ∙ get_or-set_other due index k key 0 ne
+      | inr h ↦ ap (λ (ys : List ℕ). slice_index ys k) (chosen_else _ (set due index key) due h)
     ]
 
-pub due_length : (due : List ℕ) (place key : ℕ) → length (lowered due place key) ≡ length due
-due_length due place key =
-    elim (decide (nat_eq (slice_index due place) 0 || nat_lt key (slice_index due place))) [
-      | inl h ↦ ap (λ (y : List ℕ). length y) (chosen_then _ (set due place key) due h) ∙ length-set due place key
-      | inr h ↦ ap (λ (y : List ℕ). length y) (chosen_else _ (set due place key) due h)
+pub due_length : (due : List ℕ) (index key : ℕ) → length (lowered due index key) ≡ length due
+due_length due index key =
+    elim (decide (nat_eq (slice_index due index) 0 || nat_lt key (slice_index due index))) [
+      | inl h ↦ ap (λ (y : List ℕ). length y) (chosen_then _ (set due index key) due h) ∙ length-set due index key
+      | inr h ↦ ap (λ (y : List ℕ). length y) (chosen_else _ (set due index key) due h)
     ]
 
 module _ (g : Game) (functions : ℕ) (routed : AreRouted g functions) (alike : AreAlike g) (old new : Work) (known : IsKnown g (known_of old)) where
@@ -59,13 +59,13 @@ module _ (g : Game) (functions : ℕ) (routed : AreRouted g functions) (alike : 
 
   -- A link whose promise shrinks for so many moves is asked for.
   module _ (long : AreLong old) (high : AreHigh old) (right : AreRight g Contexts (found_of g old)) (j : ℕ) (d : Context) (r x : ℕ) (call : Called)
-      (link : IsLink g Contexts j d r x call) (n place : ℕ)
-      (some : 0 < n) (low : n ≤ old.written) (at : place ≡ slot g Contexts j d.function r x) (shrinks : IsShrinking g Contexts (found_of g old) j r x call n)
-      (tied_there : 0 < slice_index old.store.to place) (asks : AsksForLink old new place (2 * n + 1)) where
-    here : place ≡ place_at g Contexts j r x
-    here = at ∙ sym (place_is g Contexts j d r x link.cell.at)
+      (link : IsLink g Contexts j d r x call) (n index : ℕ)
+      (some : 0 < n) (low : n ≤ old.written) (at : index ≡ slot g Contexts j d.function r x) (shrinks : IsShrinking g Contexts (found_of g old) j r x call n)
+      (tied_there : 0 < slice_index old.store.to index) (asks : AsksForLink old new index (2 * n + 1)) where
+    here : index ≡ index_at g Contexts j r x
+    here = at ∙ sym (index_is g Contexts j d r x link.cell.at)
 
-    inside : place < length old.store.heights
+    inside : index < length old.store.heights
     inside = omega (arith, at, slot_within g Contexts j d r x link.cell, known.cells)
 
     odd : 0 < 2 * n + 1
@@ -75,17 +75,17 @@ module _ (g : Game) (functions : ℕ) (routed : AreRouted g functions) (alike : 
     is_long =
         let same = ap (λ (t : Known). length t.heights) asks.others.known in
         record {
-          marks = ap (λ (ms : List Bool). length ms) asks.others.marks ∙ long.marks ∙ sym same;
+          flags = ap (λ (ms : List Bool). length ms) asks.others.flags ∙ long.flags ∙ sym same;
           asked = ap (λ (y : List ℕ). length y) asks.asked ∙ long.asked ∙ sym same;
-          due = ap (λ (y : List ℕ). length y) asks.due ∙ due_length old.store.due place (2 * n + 1) ∙ long.due ∙ sym same;
+          due = ap (λ (y : List ℕ). length y) asks.due ∙ due_length old.store.due index (2 * n + 1) ∙ long.due ∙ sym same;
           to = ap (λ (y : List ℕ). length y) asks.others.to ∙ long.to ∙ sym same;
           waves = ap (λ (y : List ℕ). length y) asks.others.waves ∙ long.waves ∙ sym same;
         }
 
     is_high : AreHigh new
     is_high =
-        let few : AreUpTo (lowered old.store.due place (2 * n + 1)) (2 * old.written + 1)
-        = due_up_to old.store.due place (2 * n + 1) (2 * old.written + 1) (omega (arith, inside, long.due)) (omega (arith, low)) high.due in
+        let few : AreUpTo (lowered old.store.due index (2 * n + 1)) (2 * old.written + 1)
+        = due_up_to old.store.due index (2 * n + 1) (2 * old.written + 1) (omega (arith, inside, long.due)) (omega (arith, low)) high.due in
         record {
           heights = subst (λ (t : Known). AreUpTo t.heights t.written) (sym asks.others.known) high.heights;
           asked = subst (λ (t : Known). AreUpTo new.store.asked (2 * t.written + 2)) (sym asks.others.known)
@@ -96,30 +96,30 @@ module _ (g : Game) (functions : ℕ) (routed : AreRouted g functions) (alike : 
 
     -- the key of the link is more than 1
     is_due_there : AreDue g old → AreDue g new
-    is_due_there are k lt most = elim (cases_eq k place) [
+    is_due_there are k lt most = elim (cases_eq k index) [
       | inl e ↦ (
         subst (λ (t : Known). IsLinkAt g t.blocks.contexts.items k) (sym asks.others.known) (j, d, r, x, call, link, e ∙ here),
-        λ tied. subst (λ (ys : List ℕ). 1 < slice_index ys k) (sym asks.due) (subst (λ (y : ℕ). 1 < slice_index (lowered old.store.due place (2 * n + 1)) y) (sym e) (more_than_one are)),
+        λ tied. subst (λ (ys : List ℕ). 1 < slice_index ys k) (sym asks.due) (subst (λ (y : ℕ). 1 < slice_index (lowered old.store.due index (2 * n + 1)) y) (sym e) (more_than_one are)),
       )
       | inr ne ↦
           let before = subst (λ (t : Known). k < length t.heights) asks.others.known lt in
-          let same : slice_index new.store.due k ≡ slice_index old.store.due k = ap (λ (ys : List ℕ). slice_index ys k) asks.due ∙ due_other old.store.due place (2 * n + 1) k ne in
+          let same : slice_index new.store.due k ≡ slice_index old.store.due k = ap (λ (ys : List ℕ). slice_index ys k) asks.due ∙ due_other old.store.due index (2 * n + 1) k ne in
           let h = are k before (omega (arith, most, same)) in (
             subst (λ (t : Known). IsLinkAt g t.blocks.contexts.items k) (sym asks.others.known) h.0,
             λ tied. let low = h.1 (subst (λ (ys : List ℕ). 0 < slice_index ys k) asks.others.to tied) in omega (arith, low, same),
           )
     ]
       where
-        more_than_one : AreDue g old → 1 < slice_index (lowered old.store.due place (2 * n + 1)) place
-        more_than_one are = elim (decide (nat_eq (slice_index old.store.due place) 0 || nat_lt (2 * n + 1) (slice_index old.store.due place))) [
+        more_than_one : AreDue g old → 1 < slice_index (lowered old.store.due index (2 * n + 1)) index
+        more_than_one are = elim (decide (nat_eq (slice_index old.store.due index) 0 || nat_lt (2 * n + 1) (slice_index old.store.due index))) [
           | inl h ↦
-              let e = ap (λ (ys : List ℕ). slice_index ys place) (chosen_then _ (set old.store.due place (2 * n + 1)) old.store.due h) in
-              let v = get_or-set_same old.store.due place (2 * n + 1) 0 (omega (arith, inside, long.due)) in
+              let e = ap (λ (ys : List ℕ). slice_index ys index) (chosen_then _ (set old.store.due index (2 * n + 1)) old.store.due h) in
+              let v = get_or-set_same old.store.due index (2 * n + 1) 0 (omega (arith, inside, long.due)) in
               omega (arith, e, v, some)
           | inr h ↦
-              let e = ap (λ (ys : List ℕ). slice_index ys place) (chosen_else _ (set old.store.due place (2 * n + 1)) old.store.due h) in
-              let w = kept_low (slice_index old.store.due place) (2 * n + 1) h in
-              let low = (are place inside w.0).1 tied_there in
+              let e = ap (λ (ys : List ℕ). slice_index ys index) (chosen_else _ (set old.store.due index (2 * n + 1)) old.store.due h) in
+              let w = kept_low (slice_index old.store.due index) (2 * n + 1) h in
+              let low = (are index inside w.0).1 tied_there in
               omega (arith, e, low)
         ]
 
@@ -128,15 +128,15 @@ module _ (g : Game) (functions : ℕ) (routed : AreRouted g functions) (alike : 
       others = asks.others;
       long = is_long;
       high = is_high;
-      lowers = links_lower g functions routed alike old new (below g functions routed alike old new known) long j d r x place (2 * n + 1) call link here inside odd asks;
+      lowers = links_lower g functions routed alike old new (below g functions routed alike old new known) long j d r x index (2 * n + 1) call link here inside odd asks;
       right = subst (λ (y : Found). AreRight g Contexts y) (sym (found_keys g old new asks.others))
-          (links_right g functions routed alike old new (below g functions routed alike old new known) long j d r x place (2 * n + 1) call link here inside odd asks right n refl some shrinks);
+          (links_right g functions routed alike old new (below g functions routed alike old new known) long j d r x index (2 * n + 1) call link here inside odd asks right n refl some shrinks);
       dues = is_due_there;
     }
 
     pub link_waits : Waits ((found_of g new).due j r x) (2 * n + 1)
     link_waits = subst (λ (y : Found). Waits (y.due j r x) (2 * n + 1)) (sym (found_keys g old new asks.others))
-        (is_due g functions routed alike old new (below g functions routed alike old new known) long j d r x place (2 * n + 1) call link here inside odd asks).here
+        (is_due g functions routed alike old new (below g functions routed alike old new known) long j d r x index (2 * n + 1) call link here inside odd asks).here
 
   -- What stood before the step stands after it.
   module _ (step : LowersKeys g old new) where

@@ -11,7 +11,7 @@ use Rattle.cw_game.specs.Pairs.{Called, has, call_in, is_call_in}
 use Rattle.cw_product.specs.Moves.{next_in, next_at}
 use Rattle.cw_solve.specs.Asking.{holds_after, holds_by_moves}
 use Rattle.cw_solve.specs.Rounds.{holds_by}
-use Rattle.cw_linked.specs.Founds.{told}
+use Rattle.cw_linked.specs.Founds.{implied}
 use Rattle.cw_linked.specs.Steps.{IsBound}
 
 module _ (g : Game) (p q : ℕ) where
@@ -59,10 +59,10 @@ more_tells n h some =
           ∙ sym (or_from (nat_eq h 0) (nat_lt n h) (ne_eqb h 0 (λ e. omega (arith, e, some))) (le-ltb n h ge))
     ]
 
-pub step_told : (g : Game) (heights : ℕ → ℕ → ℕ → ℕ) (i p q promise next height : ℕ) → slice_get g.spots p ≡ Some (Step next) → heights i next q ≡ height → 0 < height
+pub step_implied : (g : Game) (heights : ℕ → ℕ → ℕ → ℕ) (i p q promise next height : ℕ) → slice_get g.spots p ≡ Some (Step next) → heights i next q ≡ height → 0 < height
     → IsBound g heights i p q promise (height + 1)
-step_told g heights i p q promise next height step taken some n =
-    more_tells n height some ∙ ap (λ (k : ℕ). holds_by n k) (sym taken) ∙ ap (λ (o : Option Spot). holds_in g (told heights i n) p q (has promise) o) (sym step)
+step_implied g heights i p q promise next height step taken some n =
+    more_tells n height some ∙ ap (λ (k : ℕ). holds_by n k) (sym taken) ∙ ap (λ (o : Option Spot). holds_in g (implied heights i n) p q (has promise) o) (sym step)
 
 -- what isn't a call calls nothing
 pub uncalled : (o : Option Spot) (call : Called) → is_call_in o ≡ false → call_in o ≡ Some call → ⊥

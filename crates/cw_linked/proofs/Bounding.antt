@@ -8,15 +8,15 @@ use Rattle.cw_game.specs.Games.{Game, bad_in}
 use Rattle.cw_game.specs.Pairs.{is_call_in, is_exit_in}
 use Rattle.cw_solve.specs.declared.contexts.Context.{Context}
 use Rattle.cw_solve.specs.Rounds.{slot}
-use Rattle.cw_linked.specs.Works.{function_in, place_at, value_at}
+use Rattle.cw_linked.specs.Works.{function_in, index_at, value_at}
 
 -- where the value of a cell stands
-pub place_is : (g : Game) (contexts : List Context) (i : ℕ) (c : Context) (p q : ℕ) → slice_get contexts i ≡ Some c → place_at g contexts i p q ≡ slot g contexts i c.function p q
-place_is g contexts i c p q at = ap (λ (o : Option Context). slot g contexts i (function_in o) p q) at
+pub index_is : (g : Game) (contexts : List Context) (i : ℕ) (c : Context) (p q : ℕ) → slice_get contexts i ≡ Some c → index_at g contexts i p q ≡ slot g contexts i c.function p q
+index_is g contexts i c p q at = ap (λ (o : Option Context). slot g contexts i (function_in o) p q) at
 
-pub read_value : (g : Game) (contexts : List Context) (values : List ℕ) (i : ℕ) (c : Context) (p q k place : ℕ) → slice_get contexts i ≡ Some c → place ≡ slot g contexts i c.function p q
-    → k ≡ slice_index values place → k ≡ value_at g contexts values i p q
-read_value g contexts values i c p q k place at e is = is ∙ ap (slice_index values) (e ∙ sym (place_is g contexts i c p q at))
+pub read_value : (g : Game) (contexts : List Context) (values : List ℕ) (i : ℕ) (c : Context) (p q k index : ℕ) → slice_get contexts i ≡ Some c → index ≡ slot g contexts i c.function p q
+    → k ≡ slice_index values index → k ≡ value_at g contexts values i p q
+read_value g contexts values i c p q k index at e is = is ∙ ap (slice_index values) (e ∙ sym (index_is g contexts i c p q at))
 
 -- the end of a function holds where it is the end of `main`, and elsewhere where its state is promised
 pub main_ends : (f main : ℕ) (held : Bool) → f ≡ main → true ≡ (nat_eq f main || held)

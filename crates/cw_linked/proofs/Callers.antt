@@ -6,7 +6,7 @@ use Rattle.std.proofs.lemmas.Option.{same_Some}
 use Rattle.cw_game.specs.Games.{Game, Holds}
 use Rattle.cw_game.specs.Pairs.{has, Called, call_in}
 use Rattle.cw_links.specs.Lists.{list_at}
-use Rattle.cw_links.specs.Marks.{is_marked, rank}
+use Rattle.cw_links.specs.Flags.{is_flagged, rank}
 use Rattle.cw_links.proofs.Ranks.{same_from_rank}
 use Rattle.cw_solve.specs.declared.contexts.Context.{Context}
 use Rattle.cw_solve.specs.Contexts.{context}
@@ -19,10 +19,10 @@ use Rattle.cw_linked.specs.declared.work.Cell.{Cell}
 use Rattle.cw_linked.specs.declared.work.Work.{Work}
 use Rattle.cw_linked.specs.Calls.{CallsLeft, AsksCaller}
 use Rattle.cw_linked.specs.Founds.{Found, class_of, AreAlike, IsLink, IsTied, AreRight, Waits, IsCalled, AllCalled}
-use Rattle.cw_linked.specs.Queues.{found_of, IsLinkAt, AreMarked, AreLong, AreHigh, AsksForCell, LowersKeys, IsCellAt}
+use Rattle.cw_linked.specs.Queues.{found_of, IsLinkAt, AreFlagged, AreLong, AreHigh, AsksForCell, LowersKeys, IsCellAt}
 use Rattle.cw_linked.specs.Steps.{IsSame, CallsThere}
-use Rattle.cw_linked.specs.Works.{known_of, IsKnown, heights_of, place_at, value_at}
-use Rattle.cw_linked.proofs.Bounding.{place_is}
+use Rattle.cw_linked.specs.Works.{known_of, IsKnown, heights_of, index_at, value_at}
+use Rattle.cw_linked.proofs.Bounding.{index_is}
 use Rattle.cw_linked.proofs.Closing.{called_asked}
 use Rattle.cw_linked.proofs.Least.{link_of}
 use Rattle.cw_linked.proofs.Losing.{call_lost}
@@ -50,11 +50,11 @@ module _ (g : Game) (functions : ℕ) (routed : AreRouted g functions) (alike : 
   Contexts = old.blocks.contexts.items
 
   -- all calls whose link goes to the context are in its list
-  pub all_calls : AreMarked g old
-      → ((place : ℕ) → is_marked old.store.marks place ≡ true → Contains (list_at old.store.lists (slice_index old.store.to place)) (rank old.store.marks place))
+  pub all_calls : AreFlagged g old
+      → ((index : ℕ) → is_flagged old.store.flags index ≡ true → Contains (list_at old.store.lists (slice_index old.store.to index)) (rank old.store.flags index))
       → (j r x : ℕ) → AllCalled g Contexts (found_of g old) (CallsThere g (found_of g old) j r x)
-      → AllCalled g Contexts (found_of g old) (CallsLeft g Contexts old.store.marks (found_of g old) (list_at old.store.lists (j + 1)) j r x)
-  all_calls marked there j r x all i c p q is =
+      → AllCalled g Contexts (found_of g old) (CallsLeft g Contexts old.store.flags (found_of g old) (list_at old.store.lists (j + 1)) j r x)
+  all_calls flagged there j r x all i c p q is =
       elim (all i c p q is) [
         | inl called ↦ inl called
         | inr rest ↦ elim (tied_or_not (value_at g Contexts old.store.to i p (class_of g rest.0.split q)) j rest.2.0) [
@@ -63,20 +63,20 @@ module _ (g : Game) (functions : ℕ) (routed : AreRouted g functions) (alike : 
               let k = class_of g rest.0.split q in
               let link = link_of g functions routed alike Contexts (below g functions routed alike old old known) i c p q rest.0 is rest.1 in
               let list : value_at g Contexts old.store.to i p k ≡ j + 1 = omega (arith, here) in
-              let stands = there (place_at g Contexts i p k) (marked (place_at g Contexts i p k) (i, c, p, k, rest.0, link, refl)) in
-              inr (rest.0, rest.1, rest.2, subst (λ (y : ℕ). Contains (list_at old.store.lists y) (rank old.store.marks (place_at g Contexts i p k))) list stands)
+              let stands = there (index_at g Contexts i p k) (flagged (index_at g Contexts i p k) (i, c, p, k, rest.0, link, refl)) in
+              inr (rest.0, rest.1, rest.2, subst (λ (y : ℕ). Contains (list_at old.store.lists y) (rank old.store.flags (index_at g Contexts i p k))) list stands)
         ]
       ]
 
-  -- the place of a link is that of one
+  -- the index of a link is that of one
   module _ (link : ℕ) (caller : Cell) (at : IsCellAt g old link caller) (i : ℕ) (c : Context) (p q : ℕ) (call : Called) (is : IsCell g Contexts i c p q)
       (es : call_in (slice_get g.spots p) ≡ Some call)
-      (place : link ≡ place_at g Contexts i p (class_of g call.split q)) where
+      (index : link ≡ index_at g Contexts i p (class_of g call.split q)) where
     pub same_link : IsSame i p (class_of g call.split q) caller.at.number caller.pos.0 caller.state.0
     same_link =
         let k = class_of g call.split q in
         let there = link_of g functions routed alike Contexts (below g functions routed alike old old known) i c p q call is es in
-        let s = same_slot g Contexts i caller.at.number c caller.at.context p caller.pos.0 k caller.state.0 there.cell at.is (sym (place_is g Contexts i c p k is.at) ∙ sym place ∙ at.place) in
+        let s = same_slot g Contexts i caller.at.number c caller.at.context p caller.pos.0 k caller.state.0 there.cell at.is (sym (index_is g Contexts i c p k is.at) ∙ sym index ∙ at.index) in
         (s.number, s.position, s.state)
 
     pub call_at_link : call_in (slice_get g.spots caller.pos.0) ≡ Some call
@@ -87,17 +87,17 @@ module _ (g : Game) (functions : ℕ) (routed : AreRouted g functions) (alike : 
       (height : ℕ) (some : 0 < height) (taken : heights_of g (known_of old) cell.at.number cell.pos.0 cell.state.0 ≡ height)
       (link : ℕ) (caller : Cell) (at : IsCellAt g old link caller) (called : Called) (calls : call_in (slice_get g.spots caller.pos.0) ≡ Some called)
       (class : class_of g called.split cell.state.0 ≡ caller.state.0) (goes : slice_index old.store.to link ≡ suc cell.at.number) (entry : cell.pos.0 ≡ g.entry cell.at.context.function)
-      (most n place : ℕ) (more : n ≡ suc most) (greatest : (slice_index old.store.waves link ≡ most) ⊎ (height ≡ most)) (waves : slice_index old.store.waves link ≤ most) (heights : height ≤ most)
-      (low : n ≤ old.written + 1) (spot : place ≡ slot g Contexts caller.at.number caller.at.context.function caller.pos.0 cell.state.0) (asks : AsksForCell old new place (2 * n)) where
+      (most n index : ℕ) (more : n ≡ suc most) (greatest : (slice_index old.store.waves link ≡ most) ⊎ (height ≡ most)) (waves : slice_index old.store.waves link ≤ most) (heights : height ≤ most)
+      (low : n ≤ old.written + 1) (spot : index ≡ slot g Contexts caller.at.number caller.at.context.function caller.pos.0 cell.state.0) (asks : AsksForCell old new index (2 * n)) where
     abbrev k : ℕ
     k = class_of g called.split cell.state.0
 
     asked_cell : IsCell g Contexts caller.at.number caller.at.context caller.pos.0 cell.state.0
     asked_cell = record { at = at.is.at; of = at.is.of; state = is_cell.state }
 
-    here : link ≡ place_at g Contexts caller.at.number caller.pos.0 k
-    here = at.place ∙ sym (place_is g Contexts caller.at.number caller.at.context caller.pos.0 caller.state.0 at.is.at)
-        ∙ ap (λ (y : ℕ). place_at g Contexts caller.at.number caller.pos.0 y) (sym class)
+    here : link ≡ index_at g Contexts caller.at.number caller.pos.0 k
+    here = at.index ∙ sym (index_is g Contexts caller.at.number caller.at.context caller.pos.0 caller.state.0 at.is.at)
+        ∙ ap (λ (y : ℕ). index_at g Contexts caller.at.number caller.pos.0 y) (sym class)
 
     number : value_at g Contexts old.store.to caller.at.number caller.pos.0 k ≡ suc cell.at.number
     number = ap (slice_index old.store.to) (sym here) ∙ goes
@@ -130,10 +130,10 @@ module _ (g : Game) (functions : ℕ) (routed : AreRouted g functions) (alike : 
         (omega (arith, wave, waves)) (omega (arith, callee_height, some)) (omega (arith, callee_height, heights)))
 
     step : LowersKeys g old new
-    step = asked_step g functions routed alike old new known long high right caller.at.number caller.at.context caller.pos.0 cell.state.0 asked_cell n place (omega (arith, more)) low spot lost asks
+    step = asked_step g functions routed alike old new known long high right caller.at.number caller.at.context caller.pos.0 cell.state.0 asked_cell n index (omega (arith, more)) low spot lost asks
 
     waits : (Keys g old new).height caller.at.number caller.pos.0 cell.state.0 ≡ 0 → Waits ((Keys g old new).asked caller.at.number caller.pos.0 cell.state.0) (2 * n)
-    waits = asked_waits g functions routed alike old new known long high right caller.at.number caller.at.context caller.pos.0 cell.state.0 asked_cell n place (omega (arith, more)) low spot lost asks
+    waits = asked_waits g functions routed alike old new known long high right caller.at.number caller.at.context caller.pos.0 cell.state.0 asked_cell n index (omega (arith, more)) low spot lost asks
 
     is_called : IsCalled g (found_of g new) caller.at.number caller.pos.0 cell.state.0
     is_called = subst (λ (y : Found). IsCalled g y caller.at.number caller.pos.0 cell.state.0) (sym (found_keys g old new asks.others))
@@ -144,8 +144,8 @@ module _ (g : Game) (functions : ℕ) (routed : AreRouted g functions) (alike : 
     pub call_asked : AsksCaller g old new link cell
     call_asked = record {
       step = step;
-      called = λ i c p q call is es goes place.
-          let same = same_link link caller at i c p q call is es place in
+      called = λ i c p q call is es goes index.
+          let same = same_link link caller at i c p q call is es index in
           let state : q ≡ cell.state.0 = goes.2 in
           at_same g Contexts i c p q caller.at.number caller.at.context caller.pos.0 cell.state.0 is asked_cell (same.0, same.1, state) (λ i c p q. IsCalled g (found_of g new) i p q) is_called;
     }
@@ -155,9 +155,9 @@ module _ (g : Game) (functions : ℕ) (routed : AreRouted g functions) (alike : 
       → ((call : Called) → call_in (slice_get g.spots caller.pos.0) ≡ Some call → class_of g call.split cell.state.0 ≡ caller.state.0 → ⊥) → AsksCaller g old old link cell
   call_unasked link caller long high right at cell none = record {
     step = nothing g old long high right;
-    called = λ i c p q call is es goes place.
-        let same = same_link link caller at i c p q call is es place in
-        absurd (none call (call_at_link link caller at i c p q call is es place) (subst (λ (y : ℕ). class_of g call.split y ≡ caller.state.0) goes.2 same.2));
+    called = λ i c p q call is es goes index.
+        let same = same_link link caller at i c p q call is es index in
+        absurd (none call (call_at_link link caller at i c p q call is es index) (subst (λ (y : ℕ). class_of g call.split y ≡ caller.state.0) goes.2 same.2));
   }
 
   -- and a link that goes elsewhere isn't asked for
@@ -165,27 +165,27 @@ module _ (g : Game) (functions : ℕ) (routed : AreRouted g functions) (alike : 
       → AsksCaller g old old link cell
   call_elsewhere link long high right cell other = record {
     step = nothing g old long high right;
-    called = λ i c p q call is es goes place. elim (tied_or_not (value_at g Contexts old.store.to i p (class_of g call.split q)) cell.at.number goes.0) [
+    called = λ i c p q call is es goes index. elim (tied_or_not (value_at g Contexts old.store.to i p (class_of g call.split q)) cell.at.number goes.0) [
       | inl free ↦ untied_called g (found_of g old) i p q call es free
-      | inr here ↦ absurd (other (ap (slice_index old.store.to) place ∙ here))
+      | inr here ↦ absurd (other (ap (slice_index old.store.to) index ∙ here))
     ];
   }
 
-  -- One link fewer is left, which stands at this place.
-  pub one_call_left : (new : Work) (marks : List Bool) (edge place : ℕ) (back : List ℕ) (cell : Cell) → ((k : ℕ) → IsLinkAt g Contexts k → is_marked marks k ≡ true)
-      → is_marked marks place ≡ true → rank marks place ≡ edge → AsksCaller g old new place cell
-      → AllCalled g Contexts (found_of g old) (CallsLeft g Contexts marks (found_of g old) (edge ∷ back) cell.at.number cell.pos.0 cell.state.0)
-      → AllCalled g Contexts (found_of g new) (CallsLeft g Contexts marks (found_of g old) back cell.at.number cell.pos.0 cell.state.0)
-  one_call_left new marks edge place back cell marked here its asks all i c p q is =
+  -- One link fewer is left, which stands at this index.
+  pub one_call_left : (new : Work) (flags : List Bool) (edge index : ℕ) (back : List ℕ) (cell : Cell) → ((k : ℕ) → IsLinkAt g Contexts k → is_flagged flags k ≡ true)
+      → is_flagged flags index ≡ true → rank flags index ≡ edge → AsksCaller g old new index cell
+      → AllCalled g Contexts (found_of g old) (CallsLeft g Contexts flags (found_of g old) (edge ∷ back) cell.at.number cell.pos.0 cell.state.0)
+      → AllCalled g Contexts (found_of g new) (CallsLeft g Contexts flags (found_of g old) back cell.at.number cell.pos.0 cell.state.0)
+  one_call_left new flags edge index back cell flagged here its asks all i c p q is =
       elim (still_called g functions routed alike old new known asks.step.others asks.step.lowers
-      (CallsLeft g Contexts marks (found_of g old) (edge ∷ back) cell.at.number cell.pos.0 cell.state.0) all i c p q is) [
+      (CallsLeft g Contexts flags (found_of g old) (edge ∷ back) cell.at.number cell.pos.0 cell.state.0) all i c p q is) [
         | inl called ↦ inl called
-        | inr rest ↦ elim (first_or_later edge back (rank marks (place_at g Contexts i p (class_of g rest.0.split q))) rest.3) [
+        | inr rest ↦ elim (first_or_later edge back (rank flags (index_at g Contexts i p (class_of g rest.0.split q))) rest.3) [
           | inr later ↦ inr (rest.0, rest.1, rest.2, later)
           | inl now ↦
               let k = class_of g rest.0.split q in
               let link = link_of g functions routed alike Contexts (below g functions routed alike old old known) i c p q rest.0 is rest.1 in
-              let there = marked (place_at g Contexts i p k) (i, c, p, k, rest.0, link, refl) in
-              inl (asks.called i c p q rest.0 is rest.1 rest.2 (same_from_rank marks place (place_at g Contexts i p k) here there (its ∙ now)))
+              let there = flagged (index_at g Contexts i p k) (i, c, p, k, rest.0, link, refl) in
+              inl (asks.called i c p q rest.0 is rest.1 rest.2 (same_from_rank flags index (index_at g Contexts i p k) here there (its ∙ now)))
         ]
       ]

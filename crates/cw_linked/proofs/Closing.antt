@@ -14,7 +14,7 @@ use Rattle.cw_lemmas.proofs.Truths.{not_both}
 use Rattle.cw_linked.specs.Founds.{Found, class_of, AreAlike, IsLink, IsTied, height_back, GoesTo, AreRight, Waits, IsClosed, IsCalled, IsStanding}
 use Rattle.cw_linked.specs.Steps.{IsBound}
 use Rattle.cw_linked.proofs.Least.{tells_none, tells_above}
-use Rattle.cw_linked.proofs.Losing.{told_lost}
+use Rattle.cw_linked.proofs.Losing.{implied_lost}
 
 -- a bound that tells that a pair is lost is there, and no higher
 pub bound_within : (n b : ℕ) → holds_by n b ≡ false → (0 < b) × (b ≤ n)
@@ -50,7 +50,7 @@ module _ (g : Game) (functions : ℕ) (routed : AreRouted g functions) (alike : 
       → Holds g b p q (has c.promise) ≡ false
   bound_is_lost right i c p q zero is plain bound some = absurd (omega (arith, some))
   bound_is_lost right i c p q (suc b) is plain bound some =
-      told_lost g functions routed alike contexts below s right b i c p q is plain (sym (bound b) ∙ bound_lost (suc b) (suc b) some (omega arith))
+      implied_lost g functions routed alike contexts below s right b i c p q is plain (sym (bound b) ∙ bound_lost (suc b) (suc b) some (omega arith))
 
   -- a call whose callee's height and whose link's number of moves are within a number is asked for
   pub called_asked : (i : ℕ) (c : Context) (p q : ℕ) (call : Called) (most : ℕ) → call_in (slice_get g.spots p) ≡ Some call

@@ -134,11 +134,11 @@ module _ (g : Game) where
       (λ by e. subst (λ (m : Move). next_at g p q m ≡ Some (r, x) → New r x) (same_Some other by (sym also ∙ e)) (second r x)) is.0 is.1 is.2
 
   -- Pairs that wait, at positions that may change the state.
-  module _ (marks : List Bool) where
-    pub a_move_more : (old new : Chained Pair) (p q r x : ℕ) (by : Move) → next_at g p q by ≡ Some (r, x) → p < length g.spots → q < g.states.count → list_of g marks r x < length old.lists
-        → new.lists ≡ with_front old.lists (list_of g marks r x) (length old.values) → new.values ≡ old.values ++ pair_of p q ∷ [] → AddsMove g marks old new p q by
+  module _ (flags : List Bool) where
+    pub a_move_more : (old new : Chained Pair) (p q r x : ℕ) (by : Move) → next_at g p q by ≡ Some (r, x) → p < length g.spots → q < g.states.count → list_of g flags r x < length old.lists
+        → new.lists ≡ with_front old.lists (list_of g flags r x) (length old.values) → new.values ≡ old.values ++ pair_of p q ∷ [] → AddsMove g flags old new p q by
     a_move_more old new p q r x by leads lp lq within lists values =
-        let list = list_of g marks r x in
+        let list = list_of g flags r x in
         let more = one_more old new list (pair_of p q) lists values within in
         record {
           lists = lists_kept old new list (pair_of p q) lists values within;
@@ -150,56 +150,56 @@ module _ (g : Game) where
           keeps = kept_in old new list (pair_of p q) lists values within;
           leads = λ s y e.
               let same : (r, x) ≡ (s, y) = same_Some (r, x) (s, y) (sym leads ∙ e) in
-              subst (λ (z : ℕ × ℕ). IsListed g marks new p q z.0 z.1) same (new_in old new list (pair_of p q) lists values within);
+              subst (λ (z : ℕ × ℕ). IsListed g flags new p q z.0 z.1) same (new_in old new list (pair_of p q) lists values within);
         }
 
-    pub one_move : (a b : Chained Pair) (p q : ℕ) → second_move (slice_get g.spots p) ≡ None → AddsMove g marks a b p q (first_move (slice_get g.spots p)) → AddsMoves g marks a b p q
+    pub one_move : (a b : Chained Pair) (p q : ℕ) → second_move (slice_get g.spots p) ≡ None → AddsMove g flags a b p q (first_move (slice_get g.spots p)) → AddsMoves g flags a b p q
     one_move a b p q alone first = record {
       lists = first.lists;
       grows = (let h = first.grows in omega (arith, h));
       fine = first.fine;
       keeps = first.keeps;
-      leads = one_leads (IsListed g marks b p q) p q alone first.leads;
+      leads = one_leads (IsListed g flags b p q) p q alone first.leads;
     }
 
-    pub two_moves : (a b c : Chained Pair) (p q : ℕ) (other : Move) → second_move (slice_get g.spots p) ≡ Some other → AddsMove g marks a b p q (first_move (slice_get g.spots p))
-        → AddsMove g marks b c p q other → AddsMoves g marks a c p q
+    pub two_moves : (a b c : Chained Pair) (p q : ℕ) (other : Move) → second_move (slice_get g.spots p) ≡ Some other → AddsMove g flags a b p q (first_move (slice_get g.spots p))
+        → AddsMove g flags b c p q other → AddsMoves g flags a c p q
     two_moves a b c p q other also first second = record {
       lists = second.lists ∙ first.lists;
       grows = omega (arith, first.grows, second.grows);
       fine = λ are. second.fine (first.fine are);
       keeps = λ l pair is. second.keeps l pair (first.keeps l pair is);
-      leads = two_lead (IsListed g marks c p q) p q other also (λ r x e. second.keeps (list_of g marks r x) (pair_of p q) (first.leads r x e)) second.leads;
+      leads = two_lead (IsListed g flags c p q) p q other also (λ r x e. second.keeps (list_of g flags r x) (pair_of p q) (first.leads r x e)) second.leads;
     }
 
-    pub a_pair_more : (old new : Chained Pair) (p q : ℕ) → AreChangesTo g marks old p q → AddsMoves g marks old new p q → AreChangesTo g marks new p (q + 1)
+    pub a_pair_more : (old new : Chained Pair) (p q : ℕ) → AreChangesTo g flags old p q → AddsMoves g flags old new p q → AreChangesTo g flags new p (q + 1)
     a_pair_more old new p q are adds = record {
       lists = adds.lists ∙ are.lists;
       few = (let f = are.few in let h = adds.grows in omega (arith, f, h));
       fine = adds.fine are.fine;
-      leads = led_pair_more (IsListed g marks old) (IsListed g marks new) p q (λ m n r x. adds.keeps (list_of g marks r x) (pair_of m n)) are.leads adds.leads;
+      leads = led_pair_more (IsListed g flags old) (IsListed g flags new) p q (λ m n r x. adds.keeps (list_of g flags r x) (pair_of m n)) are.leads adds.leads;
     }
 
-    pub a_position_more : (pairs : Chained Pair) (p q : ℕ) → g.states.count ≡ q → AreChangesTo g marks pairs p q → AreChangesTo g marks pairs (p + 1) 0
+    pub a_position_more : (pairs : Chained Pair) (p q : ℕ) → g.states.count ≡ q → AreChangesTo g flags pairs p q → AreChangesTo g flags pairs (p + 1) 0
     a_position_more pairs p q e are = record {
       lists = are.lists;
       few = (let f = are.few in omega (arith, f, e));
       fine = are.fine;
-      leads = led_position_more (IsListed g marks pairs) p q e are.leads;
+      leads = led_position_more (IsListed g flags pairs) p q e are.leads;
     }
 
-    pub no_pair_more : (pairs : Chained Pair) (p : ℕ) → keeps_state (slice_get g.spots p) ≡ true → AreChangesTo g marks pairs p 0 → AreChangesTo g marks pairs (p + 1) 0
+    pub no_pair_more : (pairs : Chained Pair) (p : ℕ) → keeps_state (slice_get g.spots p) ≡ true → AreChangesTo g flags pairs p 0 → AreChangesTo g flags pairs (p + 1) 0
     no_pair_more pairs p keeps are = record {
       lists = are.lists;
       few = (let f = are.few in omega (arith, f));
       fine = are.fine;
-      leads = led_none_more (IsListed g marks pairs) p keeps are.leads;
+      leads = led_none_more (IsListed g flags pairs) p keeps are.leads;
     }
 
-    pub all_changes_in : (pairs : Chained Pair) (m : ℕ) → length g.spots ≤ m → AreReached g marks → AreChangesTo g marks pairs m 0 → AreChanges g (record { marks = marks; pairs = pairs })
+    pub all_changes_in : (pairs : Chained Pair) (m : ℕ) → length g.spots ≤ m → AreReached g flags → AreChangesTo g flags pairs m 0 → AreChanges g (record { flags = flags; pairs = pairs })
     all_changes_in pairs m le reached are = record {
       lists = are.lists;
-      marks = reached.long;
+      flags = reached.long;
       fine = are.fine;
       leads = λ p q r x lt state changing leads. (are.leads p q r x (inl (omega (arith, lt, le))) state changing leads, reached.leads p q r x lt state changing leads);
     }

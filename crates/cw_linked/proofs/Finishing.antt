@@ -13,14 +13,14 @@ use Rattle.cw_linked.specs.declared.work.Work.{Work}
 use Rattle.cw_linked.specs.Calls.{AreCallers, AsksCallers}
 use Rattle.cw_linked.specs.Founds.{Found, class_of, AreAlike, IsLink, AreRight, Nothing, AllClosed, AllCalled, AllStanding}
 use Rattle.cw_linked.specs.Popped.{IsTaken, Finishes}
-use Rattle.cw_linked.specs.Queues.{found_of, AreMarked, LowersKeys, AsksWaiting}
+use Rattle.cw_linked.specs.Queues.{found_of, AreFlagged, LowersKeys, AsksWaiting}
 use Rattle.cw_linked.specs.Returns.{AreFew, AsksReturns}
 use Rattle.cw_linked.specs.Steps.{CallsThere, ReturnsThere}
 use Rattle.cw_linked.specs.Works.{Known, known_of, IsKnown, heights_of, value_at}
 use Rattle.cw_linked.proofs.Backs.{stands_on, fresh_on}
 use Rattle.cw_linked.proofs.Callers.{tied_or_not, is_tied, untied_called}
 use Rattle.cw_linked.proofs.Least.{link_of}
-use Rattle.cw_linked.proofs.Staying.{callers_on, marked_on}
+use Rattle.cw_linked.proofs.Staying.{callers_on, flagged_on}
 use Rattle.cw_linked.proofs.Telling.{below, still_closed, still_called, still_standing, two_steps}
 use Rattle.cw_linked.proofs.Working.{found_keys}
 
@@ -38,8 +38,8 @@ module _ (g : Game) (functions : ℕ) (routed : AreRouted g functions) (alike : 
   pub next_known : IsKnown g (known_of new)
   next_known = subst (IsKnown g) unchanged known
 
-  pub next_marked : AreMarked g old → AreMarked g new
-  next_marked = marked_on g old new (ap (λ (t : Known). t.blocks.contexts.items) step.others.known) step.others.marks
+  pub next_flagged : AreFlagged g old → AreFlagged g new
+  next_flagged = flagged_on g old new (ap (λ (t : Known). t.blocks.contexts.items) step.others.known) step.others.flags
 
   pub next_callers : AreCallers old → AreCallers new
   next_callers = callers_on old new step.others.known step.others.to step.others.lists
@@ -151,7 +151,7 @@ module _ (g : Game) (functions : ℕ) (routed : AreRouted g functions) (alike : 
         kept = record {
           known = next_known g functions routed alike old new taken.known third;
           long = third.long;
-          marked = next_marked g functions routed alike old new taken.known third taken.marked;
+          flagged = next_flagged g functions routed alike old new taken.known third taken.flagged;
           high = third.high;
           callers = next_callers g functions routed alike old new taken.known third taken.callers;
           dues = third.dues taken.dues;

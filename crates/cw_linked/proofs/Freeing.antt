@@ -12,23 +12,23 @@ use Rattle.cw_linked.specs.declared.work.Work.{Work}
 use Rattle.cw_linked.specs.Added.{ThePair, IsLinkOf, FreesLinks}
 use Rattle.cw_linked.specs.Founds.{class_of, IsLink}
 use Rattle.cw_linked.specs.Queues.{AreLong, AreSameBut, AsksForLink}
-use Rattle.cw_linked.specs.Works.{Known, place_at}
+use Rattle.cw_linked.specs.Works.{Known, index_at}
 use Rattle.cw_linked.proofs.Asking.{kept_low, chosen_then, chosen_else}
 use Rattle.std.proofs.lemmas.Bool.{cases_Bool as decide}
 use Rattle.cw_linked.proofs.Backs.{due_other, due_length}
-use Rattle.cw_linked.proofs.Bounding.{place_is}
+use Rattle.cw_linked.proofs.Bounding.{index_is}
 use Rattle.cw_linked.proofs.Taking.{one_call}
 
 -- nothing changes
 pub same_but : (w : Work) → AreSameBut w w
-same_but w = record { known = refl; to = refl; waves = refl; marks = refl; lists = refl }
+same_but w = record { known = refl; to = refl; waves = refl; flags = refl; lists = refl }
 
 -- a key of 1 is written or was there
-due_one : (due : List ℕ) (place : ℕ) → place < length due → slice_index (lowered due place 1) place ≡ 1
-due_one due place lt =
-    elim (decide (nat_eq (slice_index due place) 0 || nat_lt 1 (slice_index due place))) [
-      | inl h ↦ ap (λ (ys : List ℕ). slice_index ys place) (chosen_then _ (set due place 1) due h) ∙ get_or-set_same due place 1 0 lt
-      | inr h ↦ let w = kept_low (slice_index due place) 1 h in let e = ap (λ (ys : List ℕ). slice_index ys place) (chosen_else _ (set due place 1) due h) in omega (arith, w.0, w.1, e)
+due_one : (due : List ℕ) (index : ℕ) → index < length due → slice_index (lowered due index 1) index ≡ 1
+due_one due index lt =
+    elim (decide (nat_eq (slice_index due index) 0 || nat_lt 1 (slice_index due index))) [
+      | inl h ↦ ap (λ (ys : List ℕ). slice_index ys index) (chosen_then _ (set due index 1) due h) ∙ get_or-set_same due index 1 0 lt
+      | inr h ↦ let w = kept_low (slice_index due index) 1 h in let e = ap (λ (ys : List ℕ). slice_index ys index) (chosen_else _ (set due index 1) due h) in omega (arith, w.0, w.1, e)
     ]
 
 module _ (g : Game) (i : ℕ) (c : Context) where
@@ -37,7 +37,7 @@ module _ (g : Game) (i : ℕ) (c : Context) where
   frees_nothing w These none = record { others = same_but w; asked = refl; long = refl; links = λ p x call is these. absurd (none p x call is these); rest = λ k. inl refl }
 
   -- the link at one pair
-  pub frees_one : (old new : Work) (r y a : ℕ) → a < length old.store.due → a ≡ place_at g old.blocks.contexts.items i r y → IsLinkOf g old.blocks.contexts.items i c a → AsksForLink old new a 1
+  pub frees_one : (old new : Work) (r y a : ℕ) → a < length old.store.due → a ≡ index_at g old.blocks.contexts.items i r y → IsLinkOf g old.blocks.contexts.items i c a → AsksForLink old new a 1
       → FreesLinks g old new i c (ThePair r y)
   frees_one old new r y a lt at is asks =
       let here : slice_index new.store.due a ≡ 1 = ap (λ (ys : List ℕ). slice_index ys a) asks.due ∙ due_one old.store.due a lt in
@@ -46,7 +46,7 @@ module _ (g : Game) (i : ℕ) (c : Context) where
         asked = asks.asked;
         long = ap (λ (ys : List ℕ). length ys) asks.due ∙ due_length old.store.due a 1;
         links = λ p x call link e.
-            ap (slice_index new.store.due) (ap₂ (λ (m n : ℕ). place_at g old.blocks.contexts.items i m n) e.0 e.1 ∙ sym at) ∙ here;
+            ap (slice_index new.store.due) (ap₂ (λ (m n : ℕ). index_at g old.blocks.contexts.items i m n) e.0 e.1 ∙ sym at) ∙ here;
         rest = λ k. elim (cases_eq k a) [
           | inl e ↦ inr (subst (λ (z : ℕ). IsLinkOf g old.blocks.contexts.items i c z) (sym e) is, ap (slice_index new.store.due) e ∙ here)
           | inr ne ↦ inl (ap (λ (ys : List ℕ). slice_index ys k) asks.due ∙ due_other old.store.due a 1 k ne)
@@ -61,7 +61,7 @@ module _ (g : Game) (i : ℕ) (c : Context) where
       known = two.others.known ∙ one.others.known;
       to = two.others.to ∙ one.others.to;
       waves = two.others.waves ∙ one.others.waves;
-      marks = two.others.marks ∙ one.others.marks;
+      flags = two.others.flags ∙ one.others.flags;
       lists = two.others.lists ∙ one.others.lists;
     };
     asked = two.asked ∙ one.asked;
@@ -69,9 +69,9 @@ module _ (g : Game) (i : ℕ) (c : Context) where
     links = λ p x call link all. elim (parts p x link.cell all) [
       | inl these ↦
           let was = one.links p x call link these in
-          elim (two.rest (place_at g old.blocks.contexts.items i p x)) [ inl same ↦ same ∙ was | inr now ↦ now.1 ]
+          elim (two.rest (index_at g old.blocks.contexts.items i p x)) [ inl same ↦ same ∙ was | inr now ↦ now.1 ]
       | inr those ↦
-          subst (λ (t : Known). slice_index new.store.due (place_at g t.blocks.contexts.items i p x) ≡ 1) one.others.known
+          subst (λ (t : Known). slice_index new.store.due (index_at g t.blocks.contexts.items i p x) ≡ 1) one.others.known
           (two.links p x call (subst (λ (t : Known). IsLink g t.blocks.contexts.items i c p x call) (sym one.others.known) link) those)
     ];
     rest = λ k. elim (two.rest k) [
@@ -96,7 +96,7 @@ module _ (g : Game) (i : ℕ) (c : Context) where
   frees_long old new These frees long =
       let same = ap (λ (t : Known). length t.heights) frees.others.known in
       record {
-        marks = ap (λ (ms : List Bool). length ms) frees.others.marks ∙ long.marks ∙ sym same;
+        flags = ap (λ (ms : List Bool). length ms) frees.others.flags ∙ long.flags ∙ sym same;
         asked = ap (λ (ys : List ℕ). length ys) frees.asked ∙ long.asked ∙ sym same;
         due = frees.long ∙ long.due ∙ sym same;
         to = ap (λ (ys : List ℕ). length ys) frees.others.to ∙ long.to ∙ sym same;
@@ -104,9 +104,9 @@ module _ (g : Game) (i : ℕ) (c : Context) where
       }
 
   -- whether a cell is that of a link
-  module _ (contexts : List Context) (p x place : ℕ) (cell : IsCell g contexts i c p x) (at : place ≡ slot g contexts i c.function p x) where
-    pub link_here : (call : Called) → call_in (slice_get g.spots p) ≡ Some call → class_of g call.split x ≡ x → IsLinkOf g contexts i c place
-    link_here call es class = (p, x, call, record { cell = cell; calls = es; class = class }, at ∙ sym (place_is g contexts i c p x cell.at))
+  module _ (contexts : List Context) (p x index : ℕ) (cell : IsCell g contexts i c p x) (at : index ≡ slot g contexts i c.function p x) where
+    pub link_here : (call : Called) → call_in (slice_get g.spots p) ≡ Some call → class_of g call.split x ≡ x → IsLinkOf g contexts i c index
+    link_here call es class = (p, x, call, record { cell = cell; calls = es; class = class }, at ∙ sym (index_is g contexts i c p x cell.at))
 
 -- a link stands for its own class alone
 pub class_here : (g : Game) (p x k : ℕ) (called call : Called) → call_in (slice_get g.spots p) ≡ Some called → class_of g called.split x ≡ k → (k ≡ x → ⊥)

@@ -1,4 +1,4 @@
--- The context that is near, and its cell at a place.
+-- The context that is near, and its cell at an index.
 use Rattle.std.proofs.Common.{◌≡◌, ℕ, ◌+◌, ◌-◌, ◌*◌, ◌/◌, ◌<◌, ◌≤◌, get_or, refl, sym, ap, ◌∙◌, subst, arith}
 use Rattle.std.proofs.lemmas.Option.{slice_get_within}
 use Rattle.cw_core.specs.declared.ids.PosId.{PosId}
@@ -35,13 +35,13 @@ module _ (g : Game) (b : Blocks) (blocks : AreBlocks g b) (at : Tabled) (there :
       → IsHomeOf g b.contexts.items (record { cell = cell_of at pos state; block = block; past = block.base + block.many * count; run = run })
   home_made pos state run is_run = record { there = there; begins = is.begins; ends = block_ends; enters = is.enters; runs = is.runs; run = is_run ∙ sym is.runs }
 
-  -- and it has each place of which the context is the owner
-  pub block_has : (i place : ℕ) → at.number ≡ i → IsOwner g b.contexts.items i place → (block.base ≤ place) × (place < block.base + block.many * count)
-  block_has i place number owner =
-      let own : IsOwner g b.contexts.items at.number place = subst (λ (y : ℕ). IsOwner g b.contexts.items y place) (sym number) owner in
+  -- and it has each index of which the context is the owner
+  pub block_has : (i index : ℕ) → at.number ≡ i → IsOwner g b.contexts.items i index → (block.base ≤ index) × (index < block.base + block.many * count)
+  block_has i index number owner =
+      let own : IsOwner g b.contexts.items at.number index = subst (λ (y : ℕ). IsOwner g b.contexts.items y index) (sym number) owner in
       (omega (arith, is.begins, own.1), omega (arith, block_ends, own.2))
 
--- The cell at a place of the context that is near.
+-- The cell at an index of the context that is near.
 module _ (g : Game) (functions : ℕ) (routed : AreRouted g functions) (w : Work) (known : IsKnown g (known_of w)) (h : Home) (home : IsHomeOf g w.blocks.contexts.items h) where
   pub is_block : IsBlock g w.blocks h.cell.at h.block
   is_block = record { begins = home.begins; enters = home.enters; runs = home.runs }

@@ -16,17 +16,17 @@ use Rattle.cw_solve.proofs.Tabling.{there_at}
 use Rattle.cw_linked.specs.declared.work.Work.{Work}
 use Rattle.cw_linked.specs.Added.{Pushes, IsLinkOf, Each, FreesLinks, HasNoHeights, AsksCells, IsOpen, AddsContext}
 use Rattle.cw_linked.specs.Founds.{AreAlike, IsLink, AreRight, IsClosed, Nothing, AllClosed, AllCalled, AllStanding}
-use Rattle.cw_linked.specs.Queues.{found_of, AreLong, AreHigh, IsLinkAt, AreMarked, AreDue}
+use Rattle.cw_linked.specs.Queues.{found_of, AreLong, AreHigh, IsLinkAt, AreFlagged, AreDue}
 use Rattle.cw_linked.specs.Steps.{Adds, IsIt}
-use Rattle.cw_linked.specs.Works.{Known, known_of, IsKnown, AreUpTo, place_at, value_at}
+use Rattle.cw_linked.specs.Works.{Known, known_of, IsKnown, AreUpTo, index_at, value_at}
 use Rattle.cw_linked.proofs.Adding.{added_right, added_closed, added_called, added_standing}
 use Rattle.cw_linked.proofs.Askings.{stays_closed}
-use Rattle.cw_linked.proofs.Bounding.{place_is}
-use Rattle.cw_linked.proofs.Finishing.{next_known, next_callers, next_marked, next_right, next_called}
+use Rattle.cw_linked.proofs.Bounding.{index_is}
+use Rattle.cw_linked.proofs.Finishing.{next_known, next_callers, next_flagged, next_right, next_called}
 use Rattle.cw_linked.proofs.Freeing.{frees_long}
 use Rattle.cw_linked.proofs.Lengthening.{grown_length, grown_before, grown_after}
-use Rattle.cw_linked.proofs.Pushing.{base_end, cell_on, value_on, value_new, pushed_known, pushed_long, pushed_high, pushed_dues, pushed_marked, pushed_callers}
-use Rattle.cw_linked.proofs.Staying.{callers_on, marked_on}
+use Rattle.cw_linked.proofs.Pushing.{base_end, cell_on, value_on, value_new, pushed_known, pushed_long, pushed_high, pushed_dues, pushed_flagged, pushed_callers}
+use Rattle.cw_linked.proofs.Staying.{callers_on, flagged_on}
 use Rattle.cw_linked.proofs.Telling.{still_standing}
 
 module _ (g : Game) (functions : ℕ) (routed : AreRouted g functions) (alike : AreAlike g) (old pushed : Work) (c : Context) (kept : IsOpen g old)
@@ -50,8 +50,8 @@ module _ (g : Game) (functions : ℕ) (routed : AreRouted g functions) (alike : 
   pub is_pushed_long : AreLong pushed
   is_pushed_long = pushed_long g old pushed c kept.laid pushes kept.long
 
-  pub is_pushed_marked : AreMarked g pushed
-  is_pushed_marked = pushed_marked g old pushed c kept.laid pushes kept.long kept.marked
+  pub is_pushed_flagged : AreFlagged g pushed
+  is_pushed_flagged = pushed_flagged g old pushed c kept.laid pushes kept.long kept.flagged
 
   pub pushed_there : slice_get pushed.blocks.contexts.items number ≡ Some c
   pushed_there = ap (λ (cs : List Context). slice_get cs number) pushes.contexts ∙ get_last Contexts c
@@ -59,18 +59,18 @@ module _ (g : Game) (functions : ℕ) (routed : AreRouted g functions) (alike : 
   functions_below : (i : ℕ) (d : Context) → slice_get More i ≡ Some d → d.function < functions
   functions_below i d at = (there_at g functions routed pushed.blocks is_pushed_known.blocks i d (ap (λ (cs : List Context). slice_get cs i) pushes.contexts ∙ at)).below
 
-  -- the places of the new context are behind all others
-  new_place : (p q : ℕ) → IsCell g More number c p q → length old.store.heights ≤ place_at g More number p q
-  new_place p q is =
-      let at = place_is g More number c p q is.at in
+  -- the indices of the new context are behind all others
+  new_index : (p q : ℕ) → IsCell g More number c p q → length old.store.heights ≤ index_at g More number p q
+  new_index p q is =
+      let at = index_is g More number c p q is.at in
       let s = base_end g Contexts c in
       omega (arith, at, s, kept.laid.cells)
 
-  -- and no link of the new context is at the place of another
-  apart : (i : ℕ) (d : Context) (p k : ℕ) → IsCell g Contexts i d p k → IsLinkOf g More number c (place_at g More i p k) → ⊥
+  -- and no link of the new context is at the index of another
+  apart : (i : ℕ) (d : Context) (p k : ℕ) → IsCell g Contexts i d p k → IsLinkOf g More number c (index_at g More i p k) → ⊥
   apart i d p k is l =
       let on = cell_on g Contexts c i d p k is in
-      let s = same_slot g More i number d c p l.0 k l.1 on l.3.cell (sym (place_is g More i d p k on.at) ∙ l.4 ∙ place_is g More number c l.0 l.1 l.3.cell.at) in
+      let s = same_slot g More i number d c p l.0 k l.1 on l.3.cell (sym (index_is g More i d p k on.at) ∙ l.4 ∙ index_is g More number c l.0 l.1 l.3.cell.at) in
       let lt = slice_get_within Contexts i d is.at in
       omega (arith, s.number, lt)
 
@@ -79,10 +79,10 @@ module _ (g : Game) (functions : ℕ) (routed : AreRouted g functions) (alike : 
     freed_contexts = ap (λ (t : Known). t.blocks.contexts.items) frees.others.known ∙ pushes.contexts
 
     freed_heights : freed.store.heights ≡ old.store.heights ++ none
-    freed_heights = ap (λ (t : Known). t.heights) frees.others.known ∙ pushes.places.heights
+    freed_heights = ap (λ (t : Known). t.heights) frees.others.known ∙ pushes.indices.heights
 
     freed_to : freed.store.to ≡ old.store.to ++ none
-    freed_to = frees.others.to ∙ pushes.places.to
+    freed_to = frees.others.to ∙ pushes.indices.to
 
     pub is_freed_known : IsKnown g (known_of freed)
     is_freed_known = subst (IsKnown g) (sym frees.others.known) is_pushed_known
@@ -93,8 +93,8 @@ module _ (g : Game) (functions : ℕ) (routed : AreRouted g functions) (alike : 
     pub freed_there : slice_get freed.blocks.contexts.items number ≡ Some c
     freed_there = ap (λ (cs : List Context). slice_get cs number) freed_contexts ∙ get_last Contexts c
 
-    links : (p x : ℕ) (call : Called) → IsLink g More number c p x call → slice_index freed.store.due (place_at g More number p x) ≡ 1
-    links p x call = subst (λ (cs : List Context). IsLink g cs number c p x call → slice_index freed.store.due (place_at g cs number p x) ≡ 1) pushes.contexts (λ is. frees.links p x call is tt)
+    links : (p x : ℕ) (call : Called) → IsLink g More number c p x call → slice_index freed.store.due (index_at g More number p x) ≡ 1
+    links p x call = subst (λ (cs : List Context). IsLink g cs number c p x call → slice_index freed.store.due (index_at g cs number p x) ≡ 1) pushes.contexts (λ is. frees.links p x call is tt)
 
     rest : (k : ℕ) → (slice_index freed.store.due k ≡ slice_index pushed.store.due k) ⊎ (IsLinkOf g More number c k × (slice_index freed.store.due k ≡ 1))
     rest = subst (λ (cs : List Context). (k : ℕ) → (slice_index freed.store.due k ≡ slice_index pushed.store.due k) ⊎ (IsLinkOf g cs number c k × (slice_index freed.store.due k ≡ 1)))
@@ -118,8 +118,8 @@ module _ (g : Game) (functions : ℕ) (routed : AreRouted g functions) (alike : 
     due_before : (i : ℕ) (d : Context) (p k : ℕ) → IsCell g Contexts i d p k → value_at g freed.blocks.contexts.items freed.store.due i p k ≡ value_at g Contexts old.store.due i p k
     due_before i d p k is =
         ap (λ (cs : List Context). value_at g cs freed.store.due i p k) freed_contexts
-        ∙ elim (rest (place_at g More i p k)) [
-          | inl same ↦ same ∙ ap (λ (ys : List ℕ). value_at g More ys i p k) pushes.places.due ∙ value_on g Contexts c old.store.due none (kept.long.due ∙ kept.laid.cells) i d p k is
+        ∙ elim (rest (index_at g More i p k)) [
+          | inl same ↦ same ∙ ap (λ (ys : List ℕ). value_at g More ys i p k) pushes.indices.due ∙ value_on g Contexts c old.store.due none (kept.long.due ∙ kept.laid.cells) i d p k is
           | inr l ↦ absurd (apart i d p k is l.0)
         ]
 
@@ -130,12 +130,12 @@ module _ (g : Game) (functions : ℕ) (routed : AreRouted g functions) (alike : 
     adds : Adds g Contexts c (found_of g old) (found_of g freed)
     adds = record {
       heights = λ i d p q is. value_before freed.store.heights old.store.heights refl freed_heights i d p q is;
-      askeds = λ i d p q is. value_before freed.store.asked old.store.asked kept.long.asked (frees.asked ∙ pushes.places.asked) i d p q is;
+      askeds = λ i d p q is. value_before freed.store.asked old.store.asked kept.long.asked (frees.asked ∙ pushes.indices.asked) i d p q is;
       tos = λ i d p k call is. ap (λ (n : ℕ). n - 1) (value_before freed.store.to old.store.to kept.long.to freed_to i d p k is.cell);
-      waves = λ i d p k call is. value_before freed.store.waves old.store.waves kept.long.waves (frees.others.waves ∙ pushes.places.waves) i d p k is.cell;
+      waves = λ i d p k call is. value_before freed.store.waves old.store.waves kept.long.waves (frees.others.waves ∙ pushes.indices.waves) i d p k is.cell;
       dues = λ i d p k call is. due_before i d p k is.cell;
       new_heights = λ p q is. value_none freed.store.heights old.store.heights refl freed_heights p q is;
-      new_askeds = λ p q is. value_none freed.store.asked old.store.asked kept.long.asked (frees.asked ∙ pushes.places.asked) p q is;
+      new_askeds = λ p q is. value_none freed.store.asked old.store.asked kept.long.asked (frees.asked ∙ pushes.indices.asked) p q is;
       tieds = λ i d p k call is. ap (λ (n : ℕ). not (nat_eq n 0)) (value_before freed.store.to old.store.to kept.long.to freed_to i d p k is.cell);
       new_tieds = λ p k call is. ap (λ (n : ℕ). not (nat_eq n 0)) (value_none freed.store.to old.store.to kept.long.to freed_to p k is.cell) ∙ ap not (eq-eqb 0 0 refl);
       new_dues = λ p k call is. due_new p k call is;
@@ -169,7 +169,7 @@ module _ (g : Game) (functions : ℕ) (routed : AreRouted g functions) (alike : 
       | inr l ↦ (
         subst (λ (cs : List Context). IsLinkAt g cs k) (sym freed_contexts) (number, c, l.0.0, l.0.1, l.0.2, l.0.3, l.0.4),
         λ tied. absurd (
-            let at = new_place l.0.0 l.0.1 l.0.3.cell in
+            let at = new_index l.0.0 l.0.1 l.0.3.cell in
             let inside = subst (λ (t : Known). k < length t.heights) frees.others.known lt in
             let z = untied k (omega (arith, at, l.0.4)) inside in
             omega (arith, z, tied)),
@@ -179,7 +179,7 @@ module _ (g : Game) (functions : ℕ) (routed : AreRouted g functions) (alike : 
         untied : (k : ℕ) → length old.store.heights ≤ k → k < length pushed.store.heights → slice_index freed.store.to k ≡ 0
         untied k le lt =
             let long = is_pushed_long.to in
-            let more = grown_length old.store.to pushed.store.to (size g c.function) 0 pushes.places.to in
+            let more = grown_length old.store.to pushed.store.to (size g c.function) 0 pushes.indices.to in
             grown_after old.store.to freed.store.to (size g c.function) freed_to k (omega (arith, le, kept.long.to)) (omega (arith, lt, long, more))
 
     module _ (new : Work) (asks : AsksCells g freed new number c Each) where
@@ -219,8 +219,8 @@ module _ (g : Game) (functions : ℕ) (routed : AreRouted g functions) (alike : 
       due_kept k lt =
           ap (λ (ys : List ℕ). slice_index ys k) asks.due
           ∙ elim (rest k) [
-            | inl same ↦ same ∙ grown_before old.store.due pushed.store.due (size g c.function) pushes.places.due k (omega (arith, lt, kept.long.due))
-            | inr l ↦ absurd (let at = new_place l.0.0 l.0.1 l.0.3.cell in omega (arith, at, lt, l.0.4))
+            | inl same ↦ same ∙ grown_before old.store.due pushed.store.due (size g c.function) pushes.indices.due k (omega (arith, lt, kept.long.due))
+            | inr l ↦ absurd (let at = new_index l.0.0 l.0.1 l.0.3.cell in omega (arith, at, lt, l.0.4))
           ]
 
       pub joined : AddsContext g old new c
@@ -228,8 +228,8 @@ module _ (g : Game) (functions : ℕ) (routed : AreRouted g functions) (alike : 
         firm = record {
           known = next_known g functions routed alike freed new is_freed_known asks.step;
           long = asks.step.long;
-          marked = next_marked g functions routed alike freed new is_freed_known asks.step
-              (marked_on g pushed freed (ap (λ (t : Known). t.blocks.contexts.items) frees.others.known) frees.others.marks is_pushed_marked);
+          flagged = next_flagged g functions routed alike freed new is_freed_known asks.step
+              (flagged_on g pushed freed (ap (λ (t : Known). t.blocks.contexts.items) frees.others.known) frees.others.flags is_pushed_flagged);
           high = asks.step.high;
           callers = next_callers g functions routed alike freed new is_freed_known asks.step
               (callers_on pushed freed frees.others.known frees.others.to frees.others.lists (pushed_callers g old pushed c kept.laid pushes kept.long kept.callers));

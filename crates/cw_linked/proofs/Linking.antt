@@ -18,10 +18,10 @@ use Rattle.cw_linked.specs.Popped.{FreesLink, IsWork}
 use Rattle.cw_linked.specs.Queues.{found_of, AreLong, AreHigh, IsLinkAt, AreDue, IsCellAt}
 use Rattle.cw_linked.specs.Steps.{with_keys, Frees, IsReady, IsIt}
 use Rattle.cw_linked.specs.Tied.{IsFreed}
-use Rattle.cw_linked.specs.Works.{Known, known_of, IsKnown, AreUpTo, place_at, value_at}
-use Rattle.cw_linked.proofs.Bounding.{place_is}
+use Rattle.cw_linked.specs.Works.{Known, known_of, IsKnown, AreUpTo, index_at, value_at}
+use Rattle.cw_linked.proofs.Bounding.{index_is}
 use Rattle.cw_linked.proofs.Popping.{least_above}
-use Rattle.cw_linked.proofs.Staying.{callers_on, marked_on}
+use Rattle.cw_linked.proofs.Staying.{callers_on, flagged_on}
 use Rattle.cw_linked.proofs.Telling.{below, up_to_set}
 use Rattle.cw_linked.proofs.Tying.{ready, freed_right, freed_standing}
 use Rattle.cw_linked.proofs.Working.{found_keys}
@@ -34,7 +34,7 @@ half_odd a h n e half =
     omega (arith, e, half, d)
 
 -- A link of the least key waits no more.
-module _ (g : Game) (functions : ℕ) (routed : AreRouted g functions) (alike : AreAlike g) (old new : Work) (work : IsWork g old) (place moves : ℕ) (frees : FreesLink old new place moves) where
+module _ (g : Game) (functions : ℕ) (routed : AreRouted g functions) (alike : AreAlike g) (old new : Work) (work : IsWork g old) (index moves : ℕ) (frees : FreesLink old new index moves) where
   abbrev Contexts : List Context
   Contexts = old.blocks.contexts.items
 
@@ -49,17 +49,17 @@ module _ (g : Game) (functions : ℕ) (routed : AreRouted g functions) (alike : 
 
   pub freed_long : AreLong new
   freed_long = record {
-    marks = ap (λ (ms : List Bool). length ms) frees.others.marks ∙ work.long.marks ∙ sym lengths;
+    flags = ap (λ (ms : List Bool). length ms) frees.others.flags ∙ work.long.flags ∙ sym lengths;
     asked = ap (λ (ys : List ℕ). length ys) frees.asked ∙ work.long.asked ∙ sym lengths;
-    due = ap (λ (ys : List ℕ). length ys) frees.due ∙ length-set old.store.due place 0 ∙ work.long.due ∙ sym lengths;
+    due = ap (λ (ys : List ℕ). length ys) frees.due ∙ length-set old.store.due index 0 ∙ work.long.due ∙ sym lengths;
     to = ap (λ (ys : List ℕ). length ys) frees.others.to ∙ work.long.to ∙ sym lengths;
     waves = ap (λ (ys : List ℕ). length ys) frees.others.waves ∙ work.long.waves ∙ sym lengths;
   }
 
   freed_high : AreHigh new
   freed_high =
-      let due : AreUpTo (set old.store.due place 0) (2 * old.written + 1)
-      = up_to_set old.store.due place 0 (2 * old.written + 1) (omega (arith, frees.within, work.long.due)) (omega arith) work.high.due in
+      let due : AreUpTo (set old.store.due index 0) (2 * old.written + 1)
+      = up_to_set old.store.due index 0 (2 * old.written + 1) (omega (arith, frees.within, work.long.due)) (omega arith) work.high.due in
       record {
         heights = subst (λ (t : Known). AreUpTo t.heights t.written) unchanged work.high.heights;
         asked = subst (λ (t : Known). AreUpTo new.store.asked (2 * t.written + 2)) unchanged (subst (λ (ys : List ℕ). AreUpTo ys (2 * old.written + 2)) (sym frees.asked) work.high.asked);
@@ -67,40 +67,40 @@ module _ (g : Game) (functions : ℕ) (routed : AreRouted g functions) (alike : 
         waves = subst (λ (t : Known). AreUpTo new.store.waves t.written) unchanged (subst (λ (ys : List ℕ). AreUpTo ys old.written) (sym frees.others.waves) work.high.waves);
       }
 
-  free_here : slice_index new.store.due place ≡ 0
-  free_here = ap (λ (ys : List ℕ). slice_index ys place) frees.due ∙ get_or-set_same old.store.due place 0 0 (omega (arith, frees.within, work.long.due))
+  free_here : slice_index new.store.due index ≡ 0
+  free_here = ap (λ (ys : List ℕ). slice_index ys index) frees.due ∙ get_or-set_same old.store.due index 0 0 (omega (arith, frees.within, work.long.due))
 
   freed_dues : AreDue g new
-  freed_dues k lt some = elim (cases_eq k place) [
+  freed_dues k lt some = elim (cases_eq k index) [
     | inl e ↦ absurd (let z : slice_index new.store.due k ≡ 0 = ap (slice_index new.store.due) e ∙ free_here in omega (arith, z, some))
     | inr ne ↦
-        let same : slice_index new.store.due k ≡ slice_index old.store.due k = ap (λ (ys : List ℕ). slice_index ys k) frees.due ∙ get_or-set_other old.store.due place k 0 0 ne in
+        let same : slice_index new.store.due k ≡ slice_index old.store.due k = ap (λ (ys : List ℕ). slice_index ys k) frees.due ∙ get_or-set_other old.store.due index k 0 0 ne in
         let h = work.dues k (omega (arith, lt, lengths)) (omega (arith, some, same)) in (
           subst (λ (t : Known). IsLinkAt g t.blocks.contexts.items k) unchanged h.0,
           λ tied. let low = h.1 (subst (λ (ys : List ℕ). 0 < slice_index ys k) frees.others.to tied) in omega (arith, low, same),
         )
   ]
 
-  module _ (link : Cell) (at : IsCellAt g new place link) where
+  module _ (link : Cell) (at : IsCellAt g new index link) where
     is_cell : IsCell g Contexts link.at.number link.at.context link.pos.0 link.state.0
     is_cell = subst (λ (t : Known). IsCell g t.blocks.contexts.items link.at.number link.at.context link.pos.0 link.state.0) frees.others.known at.is
 
-    place_here : place ≡ place_at g Contexts link.at.number link.pos.0 link.state.0
-    place_here = at.place ∙ sym (place_is g new.blocks.contexts.items link.at.number link.at.context link.pos.0 link.state.0 at.is.at)
-        ∙ ap (λ (t : Known). place_at g t.blocks.contexts.items link.at.number link.pos.0 link.state.0) frees.others.known
+    index_here : index ≡ index_at g Contexts link.at.number link.pos.0 link.state.0
+    index_here = at.index ∙ sym (index_is g new.blocks.contexts.items link.at.number link.at.context link.pos.0 link.state.0 at.is.at)
+        ∙ ap (λ (t : Known). index_at g t.blocks.contexts.items link.at.number link.pos.0 link.state.0) frees.others.known
 
     functions_below : (i : ℕ) (c : Context) → slice_get Contexts i ≡ Some c → c.function < functions
     functions_below = below g functions routed alike old old work.known
 
-    waiting : IsLinkAt g Contexts place × (0 < slice_index old.store.to place → 1 < slice_index old.store.due place)
-    waiting = work.dues place frees.within frees.some
+    waiting : IsLinkAt g Contexts index × (0 < slice_index old.store.to index → 1 < slice_index old.store.due index)
+    waiting = work.dues index frees.within frees.some
 
     -- it is a link
     is_link : (call : Called) × IsLink g Contexts link.at.number link.at.context link.pos.0 link.state.0 call
     is_link =
         let l = waiting.0 in
         let s = same_slot g Contexts l.0 link.at.number l.1 link.at.context l.2 link.pos.0 l.3 link.state.0 l.5.cell is_cell
-        (sym (place_is g Contexts l.0 l.1 l.2 l.3 l.5.cell.at) ∙ sym l.6 ∙ place_here ∙ place_is g Contexts link.at.number link.at.context link.pos.0 link.state.0 is_cell.at) in (
+        (sym (index_is g Contexts l.0 l.1 l.2 l.3 l.5.cell.at) ∙ sym l.6 ∙ index_here ∙ index_is g Contexts link.at.number link.at.context link.pos.0 link.state.0 is_cell.at) in (
           l.4,
           record {
             cell = is_cell;
@@ -109,22 +109,22 @@ module _ (g : Game) (functions : ℕ) (routed : AreRouted g functions) (alike : 
           },
         )
 
-    due_is : (found_of g old).due link.at.number link.pos.0 link.state.0 ≡ slice_index old.store.due place
-    due_is = ap (slice_index old.store.due) (sym place_here)
+    due_is : (found_of g old).due link.at.number link.pos.0 link.state.0 ≡ slice_index old.store.due index
+    due_is = ap (slice_index old.store.due) (sym index_here)
 
-    due_odd : slice_index old.store.due place ≡ 2 * moves + 1
+    due_odd : slice_index old.store.due index ≡ 2 * moves + 1
     due_odd =
         let l = work.found.right.due link.at.number link.at.context link.pos.0 link.state.0 is_link.0 is_link.1 (omega (arith, due_is, frees.some)) in
-        half_odd (slice_index old.store.due place) moves l.0 (sym due_is ∙ l.1) frees.half
+        half_odd (slice_index old.store.due index) moves l.0 (sym due_is ∙ l.1) frees.half
 
     key : (found_of g old).due link.at.number link.pos.0 link.state.0 ≡ 2 * moves + 1
     key = due_is ∙ due_odd
 
     above : AreAbove g Contexts (found_of g old) (2 * moves + 1)
-    above = subst (λ (k : ℕ). AreAbove g Contexts (found_of g old) k) due_odd (least_above g old work.known (slice_index old.store.due place) frees.least)
+    above = subst (λ (k : ℕ). AreAbove g Contexts (found_of g old) k) due_odd (least_above g old work.known (slice_index old.store.due index) frees.least)
 
     abbrev Due : ℕ → ℕ → ℕ → ℕ
-    Due = value_at g Contexts (set old.store.due place 0)
+    Due = value_at g Contexts (set old.store.due index 0)
 
     abbrev After : Found
     After = with_keys (found_of g old) (value_at g Contexts old.store.asked) Due
@@ -135,9 +135,9 @@ module _ (g : Game) (functions : ℕ) (routed : AreRouted g functions) (alike : 
         ∙ ap (λ (ys : List ℕ). with_keys (found_of g old) (value_at g Contexts old.store.asked) (value_at g Contexts ys)) frees.due
 
     is_free : Frees g Contexts (found_of g old) Due link.at.number link.pos.0 link.state.0
-    is_free = subst (λ (k : ℕ). Frees g Contexts (found_of g old) (value_at g Contexts (set old.store.due k 0)) link.at.number link.pos.0 link.state.0) (sym place_here)
+    is_free = subst (λ (k : ℕ). Frees g Contexts (found_of g old) (value_at g Contexts (set old.store.due k 0)) link.at.number link.pos.0 link.state.0) (sym index_here)
         (frees_written g Contexts (found_of g old) link.at.number link.at.context link.pos.0 link.state.0 is_link.0 is_link.1 old.store.due
-        (omega (arith, place_here, frees.within, work.long.due)) (λ i p k. refl))
+        (omega (arith, index_here, frees.within, work.long.due)) (λ i p k. refl))
 
     was_ready : (call : Called) (set_is : ℕ) → IsLink g Contexts link.at.number link.at.context link.pos.0 link.state.0 call
         → IsSetOf g set_is (λ y. holds_by moves (height_back g (found_of g old) link.at.number call link.state.0 y))
@@ -146,7 +146,7 @@ module _ (g : Game) (functions : ℕ) (routed : AreRouted g functions) (alike : 
         let r = ready g functions routed alike Contexts functions_below (found_of g old) work.found moves above link.at.number link.at.context link.pos.0 link.state.0 call here key set_is read in
         record { promise = r.promise; later = r.later; past = r.past }
 
-    was_shrinking : (call : Called) → IsLink g Contexts link.at.number link.at.context link.pos.0 link.state.0 call → 0 < slice_index old.store.to place
+    was_shrinking : (call : Called) → IsLink g Contexts link.at.number link.at.context link.pos.0 link.state.0 call → 0 < slice_index old.store.to index
         → IsShrinking g Contexts (found_of g old) link.at.number link.pos.0 link.state.0 call moves
     was_shrinking call here tied =
         let l = work.found.right.due link.at.number link.at.context link.pos.0 link.state.0 call here (omega (arith, key)) in
@@ -157,12 +157,12 @@ module _ (g : Game) (functions : ℕ) (routed : AreRouted g functions) (alike : 
     there : IsLink g new.blocks.contexts.items link.at.number link.at.context link.pos.0 link.state.0 is_link.0
     there = subst (λ (t : Known). IsLink g t.blocks.contexts.items link.at.number link.at.context link.pos.0 link.state.0 is_link.0) unchanged is_link.1
 
-    pub is_freed : IsFreed g new link place moves
+    pub is_freed : IsFreed g new link index moves
     is_freed = record {
       firm = record {
         known = freed_known;
         long = freed_long;
-        marked = marked_on g old new (ap (λ (t : Known). t.blocks.contexts.items) frees.others.known) frees.others.marks work.marked;
+        flagged = flagged_on g old new (ap (λ (t : Known). t.blocks.contexts.items) frees.others.known) frees.others.flags work.flagged;
         high = freed_high;
         callers = callers_on old new frees.others.known frees.others.to frees.others.lists work.callers;
         dues = freed_dues;
@@ -170,7 +170,7 @@ module _ (g : Game) (functions : ℕ) (routed : AreRouted g functions) (alike : 
             (freed_right g functions routed alike Contexts functions_below (found_of g old) work.found link.at.number link.at.context link.pos.0 link.state.0 is_link.0 is_link.1 Due is_free));
       };
       at = at;
-      low = (let h = work.high.due place in let e = ap (λ (t : Known). t.written) unchanged in omega (arith, h, e, due_odd));
+      low = (let h = work.high.due index in let e = ap (λ (t : Known). t.written) unchanged in omega (arith, h, e, due_odd));
       call = (is_link.0, there);
       free = free_here;
       closed = subst (λ (t : Known). AllClosed g t.blocks.contexts.items (found_of g new) Nothing) unchanged (subst (λ (s : Found). AllClosed g Contexts s Nothing) (sym found_new) work.found.closed);
@@ -191,5 +191,5 @@ module _ (g : Game) (functions : ℕ) (routed : AreRouted g functions) (alike : 
           → IsShrinking g t.blocks.contexts.items (found_of g new) link.at.number link.pos.0 link.state.0 call moves) unchanged
           (subst (λ (s : Found). IsLink g Contexts link.at.number link.at.context link.pos.0 link.state.0 call
           → IsShrinking g Contexts s link.at.number link.pos.0 link.state.0 call moves) (sym found_new)
-          (λ here. was_shrinking call here (subst (λ (ys : List ℕ). 0 < slice_index ys place) frees.others.to tied))) is;
+          (λ here. was_shrinking call here (subst (λ (ys : List ℕ). 0 < slice_index ys index) frees.others.to tied))) is;
     }

@@ -28,9 +28,9 @@ module _ (g : Game) (functions : ℕ) (routed : AreRouted g functions) (alike : 
       ]
 
   -- where no call is
-  pub told_lost : (n i : ℕ) (c : Context) (p q : ℕ) → IsCell g contexts i c p q → is_call_in (slice_get g.spots p) ≡ false
+  pub implied_lost : (n i : ℕ) (c : Context) (p q : ℕ) → IsCell g contexts i c p q → is_call_in (slice_get g.spots p) ≡ false
       → holds_in g (tells s i n) p q (has c.promise) (slice_get g.spots p) ≡ false → Holds g (suc n) p q (has c.promise) ≡ false
-  told_lost n i c p q is plain lost =
+  implied_lost n i c p q is plain lost =
       false_of (Holds g (suc n) p q (has c.promise)) (λ holds.
       not_both (holds_in g (tells s i n) p q (has c.promise) (slice_get g.spots p))
       (in_gives g (Holds g n) (tells s i n) (has c.promise) p q (slice_get g.spots p) plain

@@ -28,8 +28,8 @@ use Rattle.cw_linked.specs.Popped.{TakesCell, FreesLink, IsWork}
 use Rattle.cw_linked.specs.Queues.{found_of}
 use Rattle.cw_linked.specs.Returns.{AreFew}
 use Rattle.cw_linked.specs.Tied.{IsFreed}
-use Rattle.cw_linked.specs.Works.{Known, known_of, place_at}
-use Rattle.cw_linked.proofs.Bounding.{place_is}
+use Rattle.cw_linked.specs.Works.{Known, known_of, index_at}
+use Rattle.cw_linked.proofs.Bounding.{index_is}
 use Rattle.cw_linked.proofs.Callers.{is_tied}
 use Rattle.cw_linked.proofs.Takings.{is_known}
 
@@ -83,12 +83,12 @@ states_most g set = let l = count_by-le-length (has set) (range_with_len 0 g.sta
 
 -- A cell is taken.
 
-module _ (g : Game) (functions : ℕ) (routed : AreRouted g functions) (alike : AreAlike g) (old new : Work) (work : IsWork g old) (place height : ℕ) (takes : TakesCell old new place height) where
+module _ (g : Game) (functions : ℕ) (routed : AreRouted g functions) (alike : AreAlike g) (old new : Work) (work : IsWork g old) (index height : ℕ) (takes : TakesCell old new index height) where
   pub taken_less : work_left g new < work_left g old
   taken_less =
-      let after = is_known g functions routed alike old new work place height takes in
+      let after = is_known g functions routed alike old new work index height takes in
       let long = ap (λ (ys : List ℕ). length ys) takes.heights in
-      let same = length-set old.store.heights place height in
+      let same = length-set old.store.heights index height in
       let all : length new.store.heights ≡ length old.store.heights = long ∙ same in
       let counted = after.counted in
       let before = work.known.counted in
@@ -108,15 +108,15 @@ kept_left g old new known to =
 
 -- A link is tied to a context whose promise is one of its fewer ties.
 
-pub tied_less : (g : Game) (old new : Work) (place number : ℕ) → known_of new ≡ known_of old → new.store.to ≡ set old.store.to place (number + 1) → place < length old.store.to
-    → promised_in g (slice_get old.blocks.contexts.items number) < ties_left g old.blocks.contexts.items (slice_index old.store.to place) → work_left g new < work_left g old
-tied_less g old new place number known to within less =
+pub tied_less : (g : Game) (old new : Work) (index number : ℕ) → known_of new ≡ known_of old → new.store.to ≡ set old.store.to index (number + 1) → index < length old.store.to
+    → promised_in g (slice_get old.blocks.contexts.items number) < ties_left g old.blocks.contexts.items (slice_index old.store.to index) → work_left g new < work_left g old
+tied_less g old new index number known to within less =
     let now : work_left g new ≡ (4194304 - length old.store.heights) * (g.states.count + 2) + count_by is_none old.store.heights + sum_by (ties_left g old.blocks.contexts.items)
-    (set old.store.to place (suc number))
+    (set old.store.to index (suc number))
     = ap (λ (t : Known). (4194304 - length t.heights) * (g.states.count + 2) + count_by is_none t.heights + sum_by (ties_left g t.blocks.contexts.items) new.store.to) known
     ∙ ap (λ (ys : List ℕ). (4194304 - length old.store.heights) * (g.states.count + 2) + count_by is_none old.store.heights + sum_by (ties_left g old.blocks.contexts.items) ys)
-    (to ∙ ap (λ (n : ℕ). set old.store.to place n) (add-one number)) in
-    let sums = sum_by-set (ties_left g old.blocks.contexts.items) old.store.to place (suc number) 0 within in
+    (to ∙ ap (λ (n : ℕ). set old.store.to index n) (add-one number)) in
+    let sums = sum_by-set (ties_left g old.blocks.contexts.items) old.store.to index (suc number) 0 within in
     omega (arith, now, sums, less)
 
 -- A context is added.
@@ -163,29 +163,29 @@ added_left g old new c many contexts heights to room long few =
 
 -- A link stops waiting: the promise of its call has fewer states than the link has ties left.
 
-module _ (g : Game) (functions : ℕ) (routed : AreRouted g functions) (w : Work) (link : Cell) (place moves : ℕ) (freed : IsFreed g w link place moves)
-    (more : 0 < slice_index w.store.to place → 0 < moves) where
+module _ (g : Game) (functions : ℕ) (routed : AreRouted g functions) (w : Work) (link : Cell) (index moves : ℕ) (freed : IsFreed g w link index moves)
+    (more : 0 < slice_index w.store.to index → 0 < moves) where
   abbrev Contexts : List Context
   Contexts = w.blocks.contexts.items
 
-  place_here : place ≡ place_at g Contexts link.at.number link.pos.0 link.state.0
-  place_here = freed.at.place ∙ sym (place_is g Contexts link.at.number link.at.context link.pos.0 link.state.0 freed.at.is.at)
+  index_here : index ≡ index_at g Contexts link.at.number link.pos.0 link.state.0
+  index_here = freed.at.index ∙ sym (index_is g Contexts link.at.number link.at.context link.pos.0 link.state.0 freed.at.is.at)
 
   module _ (call : Called) (is : IsLink g Contexts link.at.number link.at.context link.pos.0 link.state.0 call) (states : ℕ)
       (read : IsSetOf g states (λ y. holds_by moves (height_back g (found_of g w) link.at.number call link.state.0 y))) where
     back_state : (x : ℕ) → x < g.states.count → IsState g (returned g.states (kept_at call.split link.state.0) x)
     back_state x lt = return_state g functions routed link.pos.0 x link.state.0 call is.calls lt is.cell.state
 
-    fewer : (to : ℕ) → slice_index w.store.to place ≡ suc to → states_in g states < promised_in g (slice_get Contexts to)
+    fewer : (to : ℕ) → slice_index w.store.to index ≡ suc to → states_in g states < promised_in g (slice_get Contexts to)
     fewer to e =
-        let tied : 0 < slice_index w.store.to place = omega (arith, e) in
+        let tied : 0 < slice_index w.store.to index = omega (arith, e) in
         let s = freed.shrinks call is tied in
         let before = s.0 in
         let x = s.1 in
-        let value : (found_of g w).to link.at.number link.pos.0 link.state.0 ≡ to = (let v = ap (slice_index w.store.to) (sym place_here) in omega (arith, v, e)) in
+        let value : (found_of g w).to link.at.number link.pos.0 link.state.0 ≡ to = (let v = ap (slice_index w.store.to) (sym index_here) in omega (arith, v, e)) in
         let goes : slice_get Contexts to ≡ Some (context call.function before) = ap (slice_get Contexts) (sym value) ∙ s.2 in
-        let is_tied_here : IsTied (found_of g w) link.at.number link.pos.0 link.state.0 = is_tied (slice_index w.store.to (place_at g Contexts link.at.number link.pos.0 link.state.0)) to
-        (ap (slice_index w.store.to) (sym place_here) ∙ e) in
+        let is_tied_here : IsTied (found_of g w) link.at.number link.pos.0 link.state.0 = is_tied (slice_index w.store.to (index_at g Contexts link.at.number link.pos.0 link.state.0)) to
+        (ap (slice_index w.store.to) (sym index_here) ∙ e) in
         let l = freed.firm.right.linked link.at.number link.at.context link.pos.0 link.state.0 call is is_tied_here in
         let same : l.0 ≡ before = ap (λ (c : Context). c.promise) (same_Some (context call.function l.0) (context call.function before) (sym l.1 ∙ s.2)) in
         let wave = (found_of g w).wave link.at.number link.pos.0 link.state.0 in
@@ -217,16 +217,16 @@ module _ (g : Game) (functions : ℕ) (routed : AreRouted g functions) (w : Work
             ]
 
     -- fewer than are left
-    pub fewer_states : states_in g states < ties_left g Contexts (slice_index w.store.to place)
-    fewer_states = by (slice_index w.store.to place) refl
+    pub fewer_states : states_in g states < ties_left g Contexts (slice_index w.store.to index)
+    fewer_states = by (slice_index w.store.to index) refl
       where
-        by : (to : ℕ) → slice_index w.store.to place ≡ to → states_in g states < ties_left g Contexts to
+        by : (to : ℕ) → slice_index w.store.to index ≡ to → states_in g states < ties_left g Contexts to
         by zero e = let m = states_most g states in omega (arith, m)
         by (suc to) e = fewer to e
 
 -- The least key's link that goes to a context waited for some moves.
-pub some_moves : (g : Game) (old new : Work) (place moves : ℕ) → IsWork g old → FreesLink old new place moves → 0 < slice_index new.store.to place → 0 < moves
-some_moves g old new place moves work frees tied =
-    let high = (work.dues place frees.within frees.some).1 (subst (λ (ys : List ℕ). 0 < slice_index ys place) frees.others.to tied) in
+pub some_moves : (g : Game) (old new : Work) (index moves : ℕ) → IsWork g old → FreesLink old new index moves → 0 < slice_index new.store.to index → 0 < moves
+some_moves g old new index moves work frees tied =
+    let high = (work.dues index frees.within frees.some).1 (subst (λ (ys : List ℕ). 0 < slice_index ys index) frees.others.to tied) in
     let half = frees.half in
     omega (arith, high, half)

@@ -1,4 +1,4 @@
--- The cell at a place.
+-- The cell at an index.
 use Rattle.std.proofs.Common.{◌≡◌, ℕ, zero, suc, ◌+◌, ◌-◌, ◌*◌, ◌/◌, ◌<◌, ◌≤◌, List, true, false, length, get_or, nat_le, sym, ap, ◌∙◌, subst, arith, inl, inr}
 use Rattle.std.specs.List.Sorted.{IsNonDecreasing, IsPartitionPoint}
 use Rattle.std.proofs.lemmas.Bool.{cases_lt, leb-true, leb-false}
@@ -20,7 +20,7 @@ use Rattle.cw_linked.specs.declared.work.Work.{Work}
 use Rattle.cw_linked.specs.Queues.{IsOwner, IsCellAt}
 use Rattle.cw_linked.specs.Works.{known_of, IsKnown}
 
--- where the cells of some first contexts have a place among theirs, one of these has
+-- where the cells of some first contexts have an index among theirs, one of these has
 owner_upto : (g : Game) (contexts : List Context) (k n : ℕ) → n ≤ length contexts → k < base g contexts n → (i : ℕ) × IsOwner g contexts i k
 owner_upto g contexts k zero le lt = absurd (omega (arith, lt))
 owner_upto g contexts k (suc n) le lt =
@@ -39,7 +39,7 @@ module _ (g : Game) (b : Blocks) (blocks : AreBlocks g b) where
   all_base : base g Contexts (length Contexts) ≡ cells_of g Contexts
   all_base = ap (λ (cs : List Context). cells_of g cs) (take_all (length Contexts) Contexts (omega arith))
 
-  -- each place is one of a context
+  -- each index is one of a context
   pub owned : (k : ℕ) → k < cells_of g Contexts → (i : ℕ) × IsOwner g Contexts i k
   owned k lt = owner_upto g Contexts k (length Contexts) (omega arith) (omega (arith, lt, all_base))
 
@@ -53,7 +53,7 @@ module _ (g : Game) (b : Blocks) (blocks : AreBlocks g b) where
       let rises : base g Contexts i ≤ base g Contexts j = rw e (base_rises g Contexts i (j - i)) in
       omega (arith, rises, base_is i d (omega (arith, le, lt, blocks.bases)), base_is j d (omega (arith, lt, blocks.bases)))
 
-  -- where the context begins at or before the place, and the next one, if there is one, behind it
+  -- where the context begins at or before the index, and the next one, if there is one, behind it
   pub owns : (k i start : ℕ) → k < cells_of g Contexts → slice_get b.bases.items i ≡ Some start → start ≤ k
       → ((next : ℕ) → slice_get b.bases.items (i + 1) ≡ Some next → k < next) → IsOwner g Contexts i k
   owns k i start within at le ahead =
@@ -91,7 +91,7 @@ module _ (g : Game) (b : Blocks) (blocks : AreBlocks g b) where
     nothing_below : k < base g Contexts 0 → ⊥
     nothing_below lt = omega (arith, lt)
 
-    -- some context begins at or before the place
+    -- some context begins at or before the index
     pub some_begun : 0 < n
     some_begun = elim (cases_lt 0 n) [
       | inl lt ↦ lt
@@ -130,7 +130,7 @@ module _ (g : Game) (functions : ℕ) (routed : AreRouted g functions) (w : Work
   pub begins_below : (b : ℕ) → b ≡ get_or w.blocks.bases.items at.number b → b ≤ k
   begins_below b is = let e = start_is b is in omega (arith, e, own.1)
 
-  -- a place among those of the context
+  -- an index among those of the context
   row : (b s : ℕ) → b ≡ get_or w.blocks.bases.items at.number b → s ≡ positions g at.context.function → k - b < g.states.count * s
   row b s base_is run =
       let start = start_is b base_is in
@@ -171,5 +171,5 @@ module _ (g : Game) (functions : ℕ) (routed : AreRouted g functions) (w : Work
             of = (omega (arith, entry), omega (arith, entry, left.1, run, function_there.begins));
             state = omega (arith, below, quotient);
           };
-          place = omega (arith, start, runs, back, left.0, own.1);
+          index = omega (arith, start, runs, back, left.0, own.1);
         }

@@ -1,4 +1,4 @@
--- Positions are marked as plain, and at one all is asked for once what leads there in the same state is.
+-- Positions are flagged as plain, and at one all is asked for once what leads there in the same state is.
 use Rattle.std.proofs.Common.{◌≡◌, ℕ, ◌+◌, ◌<◌, ◌≤◌, List, [], ◌∷◌, ◌++◌, Bool, true, false, length, get_or, set, sym, ap, ◌∙◌, subst, arith, inl, inr}
 use Rattle.std.specs.Prelude.{slice_get}
 use Rattle.std.proofs.lemmas.Bool.{cases_eq, cases_lt, false≢true}
@@ -23,11 +23,11 @@ use Rattle.cw_linked.specs.Works.{known_of, IsKnown}
 use Rattle.cw_linked.proofs.Finishing.{next_known, next_right, next_cell, no_entry, one_called, two_standing, finished}
 use Rattle.cw_linked.proofs.Telling.{nothing}
 
--- Marks.
+-- Flags.
 
 module _ (g : Game) where
-  -- nothing leads there that may change the state, where the position isn't marked by changes, and nothing returns there, where its row is empty
-  pub bare : (changes : Changes) (returns : List (List PosId)) → AreChanges g changes → AreReturns g returns → (r : ℕ) → get_or changes.marks r false ≡ false
+  -- nothing leads there that may change the state, where the position isn't flagged by changes, and nothing returns there, where its row is empty
+  pub bare : (changes : Changes) (returns : List (List PosId)) → AreChanges g changes → AreReturns g returns → (r : ℕ) → get_or changes.flags r false ≡ false
       → length (row_at returns r) ≡ 0 → IsPlain g 0 r
   bare changes returns are back r unmarked none = record {
     keeps = λ p q x lt state leads. elim (decide (keeps_state (slice_get g.spots p))) [
@@ -53,8 +53,8 @@ module _ (g : Game) where
   pub plain_more : (functions m : ℕ) (plain new : List Bool) (b : Bool) → ArePlain g functions m plain → (b ≡ true → IsPlain g functions m) → new ≡ plain ++ b ∷ [] → ArePlain g functions (m + 1) new
   plain_more functions m plain new b are here is = record {
     long = (let e = ap (λ (bs : List Bool). length bs) is in let p = length_push plain b in omega (arith, e, p, are.long));
-    are = λ r marked.
-        let now : get_or (plain ++ b ∷ []) r false ≡ true = sym (ap (λ (bs : List Bool). get_or bs r false) is) ∙ marked in
+    are = λ r flagged.
+        let now : get_or (plain ++ b ∷ []) r false ≡ true = sym (ap (λ (bs : List Bool). get_or bs r false) is) ∙ flagged in
         elim (cases_lt r m) [
           | inl before ↦ are.are r (sym (get_or_append_left plain (b ∷ []) false r (omega (arith, before, are.long))) ∙ now)
           | inr after ↦ elim (cases_lt m r) [
@@ -69,16 +69,16 @@ module _ (g : Game) where
         ];
   }
 
-  -- one function more, whose entry is marked no longer
-  pub entry_marked : (functions m : ℕ) (plain : List Bool) (e : ℕ) → ArePlain g functions m plain → e ≡ g.entry functions → e < m → ArePlain g (functions + 1) m (set plain e false)
-  entry_marked functions m plain e are entry lt = record {
+  -- one function more, whose entry is flagged no longer
+  pub entry_flagged : (functions m : ℕ) (plain : List Bool) (e : ℕ) → ArePlain g functions m plain → e ≡ g.entry functions → e < m → ArePlain g (functions + 1) m (set plain e false)
+  entry_flagged functions m plain e are entry lt = record {
     long = length-set plain e false ∙ are.long;
-    are = λ r marked. elim (cases_eq r e) [
+    are = λ r flagged. elim (cases_eq r e) [
       | inl same ↦
           let none : get_or (set plain e false) r false ≡ false = ap (λ (y : ℕ). get_or (set plain e false) y false) same ∙ get_or-set_same plain e false false (omega (arith, lt, are.long)) in
-          absurd (false≢true (sym none ∙ marked))
+          absurd (false≢true (sym none ∙ flagged))
       | inr other ↦
-          let was = are.are r (sym (get_or-set_other plain e r false false other) ∙ marked) in
+          let was = are.are r (sym (get_or-set_other plain e r false false other) ∙ flagged) in
           record {
             keeps = was.keeps;
             unreturned = was.unreturned;
@@ -96,8 +96,8 @@ module _ (g : Game) where
   pub fewer_functions : (functions many m : ℕ) (plain : List Bool) → many ≤ functions → ArePlain g functions m plain → ArePlain g many m plain
   fewer_functions functions many m plain le are = record {
     long = are.long;
-    are = λ r marked.
-        let was = are.are r marked in
+    are = λ r flagged.
+        let was = are.are r flagged in
         record { keeps = was.keeps; unreturned = was.unreturned; unentered = λ f lt. was.unentered f (omega (arith, lt, le)) };
   }
 

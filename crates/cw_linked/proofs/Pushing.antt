@@ -1,4 +1,4 @@
--- A context is added, with its places: what stands in the store then.
+-- A context is added, with its indices: what stands in the store then.
 use Rattle.std.proofs.Common.{◌≡◌, ℕ, ◌+◌, ◌-◌, ◌*◌, ◌<◌, ◌≤◌, List, [], ◌∷◌, ◌++◌, cond, true, length, get_or, take, replicate, refl, sym, ap, ◌∙◌, subst, arith, inl, inr}
 use Rattle.std.specs.Prelude.{slice_get, slice_index, count_by}
 use Rattle.std.proofs.lemmas.Bool.{cases_lt}
@@ -8,7 +8,7 @@ use Rattle.std.proofs.lemmas.Option.{slice_get_within}
 use Rattle.cw_lemmas.proofs.Lists.{get_last}
 use Rattle.cw_game.specs.Games.{Game}
 use Rattle.cw_game.specs.Pairs.{Called}
-use Rattle.cw_links.specs.Marks.{is_marked}
+use Rattle.cw_links.specs.Flags.{is_flagged}
 use Rattle.cw_solve.specs.declared.contexts.Context.{Context}
 use Rattle.cw_solve.specs.Contexts.{size, cells_of, AreNeeded}
 use Rattle.cw_solve.specs.Rounds.{base, positions, IsCell}
@@ -19,10 +19,10 @@ use Rattle.cw_linked.specs.declared.work.Work.{Work}
 use Rattle.cw_linked.specs.Added.{IsLaid, Pushes}
 use Rattle.cw_linked.specs.Calls.{AreCallers}
 use Rattle.cw_linked.specs.Founds.{IsLink}
-use Rattle.cw_linked.specs.Queues.{AreLong, AreHigh, IsLinkAt, AreMarked, AreDue}
-use Rattle.cw_linked.specs.Works.{known_of, IsKnown, AreUpTo, place_at, value_at}
+use Rattle.cw_linked.specs.Queues.{AreLong, AreHigh, IsLinkAt, AreFlagged, AreDue}
+use Rattle.cw_linked.specs.Works.{known_of, IsKnown, AreUpTo, index_at, value_at}
 use Rattle.cw_linked.proofs.Adding.{before_push, push_cases}
-use Rattle.cw_linked.proofs.Bounding.{place_is}
+use Rattle.cw_linked.proofs.Bounding.{index_is}
 
 -- no number of a longer list is above
 pub up_to_append : (values : List ℕ) (n v most : ℕ) → v ≤ most → AreUpTo values most → AreUpTo (values ++ replicate n v) most
@@ -56,19 +56,19 @@ module _ (g : Game) (contexts : List Context) (new : Context) where
   pub link_on : (i : ℕ) (c : Context) (p x : ℕ) (call : Called) → IsLink g contexts i c p x call → IsLink g Longer i c p x call
   link_on i c p x call is = record { cell = cell_on i c p x is.cell; calls = is.calls; class = is.class }
 
-  pub place_on : (i : ℕ) (c : Context) (p q : ℕ) → IsCell g contexts i c p q → place_at g Longer i p q ≡ place_at g contexts i p q
-  place_on i c p q is =
+  pub index_on : (i : ℕ) (c : Context) (p q : ℕ) → IsCell g contexts i c p q → index_at g Longer i p q ≡ index_at g contexts i p q
+  index_on i c p q is =
       let lt = slice_get_within contexts i c is.at in
-      place_is g Longer i c p q (before_push contexts new i c is.at)
+      index_is g Longer i c p q (before_push contexts new i c is.at)
       ∙ ap (λ (b : ℕ). b + (q * positions g c.function + (p - g.entry c.function))) (base_before i (omega (arith, lt)))
-      ∙ sym (place_is g contexts i c p q is.at)
+      ∙ sym (index_is g contexts i c p q is.at)
 
   -- what stood for a cell stands there still
   pub value_on : (values more : List ℕ) → length values ≡ cells_of g contexts → (i : ℕ) (c : Context) (p q : ℕ) → IsCell g contexts i c p q
       → value_at g Longer (values ++ more) i p q ≡ value_at g contexts values i p q
   value_on values more long i c p q is =
-      let inside : place_at g contexts i p q < length values = omega (arith, place_is g contexts i c p q is.at, slot_within g contexts i c p q is, long) in
-      ap (λ (k : ℕ). get_or (values ++ more) k 0) (place_on i c p q is) ∙ get_or_append_left values more 0 (place_at g contexts i p q) inside
+      let inside : index_at g contexts i p q < length values = omega (arith, index_is g contexts i c p q is.at, slot_within g contexts i c p q is, long) in
+      ap (λ (k : ℕ). get_or (values ++ more) k 0) (index_on i c p q is) ∙ get_or_append_left values more 0 (index_at g contexts i p q) inside
 
   -- and a new cell has what is added
   pub value_new : (values : List ℕ) (v : ℕ) → length values ≡ cells_of g contexts → (p q : ℕ) → IsCell g Longer (length contexts) new p q
@@ -76,10 +76,10 @@ module _ (g : Game) (contexts : List Context) (new : Context) where
   value_new values v long p q is =
       let at = get_last contexts new in
       let row = within g Longer (length contexts) new p q is in
-      let place : place_at g Longer (length contexts) p q ≡ length values + (q * positions g new.function + (p - g.entry new.function))
-      = place_is g Longer (length contexts) new p q at ∙ ap (λ (b : ℕ). b + (q * positions g new.function + (p - g.entry new.function))) (base_end ∙ sym long) in
-      let rest : place_at g Longer (length contexts) p q - length values ≡ q * positions g new.function + (p - g.entry new.function) = omega (arith, place) in
-      get_or-append_right values (replicate (size g new.function) v) (length values) (place_at g Longer (length contexts) p q) 0 refl (omega (arith, place))
+      let index : index_at g Longer (length contexts) p q ≡ length values + (q * positions g new.function + (p - g.entry new.function))
+      = index_is g Longer (length contexts) new p q at ∙ ap (λ (b : ℕ). b + (q * positions g new.function + (p - g.entry new.function))) (base_end ∙ sym long) in
+      let rest : index_at g Longer (length contexts) p q - length values ≡ q * positions g new.function + (p - g.entry new.function) = omega (arith, index) in
+      get_or-append_right values (replicate (size g new.function) v) (length values) (index_at g Longer (length contexts) p q) 0 refl (omega (arith, index))
       ∙ ap (λ (k : ℕ). get_or (replicate (size g new.function) v) k 0) rest
       ∙ get_or-replicate (size g new.function) (q * positions g new.function + (p - g.entry new.function)) v 0 row
 
@@ -94,13 +94,13 @@ module _ (g : Game) (old new : Work) (c : Context) (laid : IsLaid g (known_of ol
   many = size g c.function
 
   cells : length new.store.heights ≡ length old.store.heights + many
-  cells = ap (λ (ys : List ℕ). length ys) pushes.places.heights ∙ length-append old.store.heights (replicate many 0)
+  cells = ap (λ (ys : List ℕ). length ys) pushes.indices.heights ∙ length-append old.store.heights (replicate many 0)
       ∙ ap (λ (n : ℕ). length old.store.heights + n) (length-replicate {A = ℕ} many 0)
 
   counted : new.written + count_by is_none new.store.heights ≡ length new.store.heights
   counted =
       let w = pushes.written in
-      let hs = ap (λ (ys : List ℕ). count_by is_none ys) pushes.places.heights in
+      let hs = ap (λ (ys : List ℕ). count_by is_none ys) pushes.indices.heights in
       let both = sum_by-append (λ (x : ℕ). cond (is_none x) 1 0) old.store.heights (replicate many 0) in
       let all = none_written many in
       omega (arith, w, hs, both, all, cells, laid.counted)
@@ -131,44 +131,44 @@ module _ (g : Game) (old new : Work) (c : Context) (laid : IsLaid g (known_of ol
 
   pub pushed_long : AreLong old → AreLong new
   pushed_long long = record {
-    marks = pushes.places.long ∙ ap (λ (n : ℕ). n + many) long.marks ∙ sym cells;
-    asked = longer_by old.store.asked new.store.asked 0 long.asked pushes.places.asked;
-    due = longer_by old.store.due new.store.due 0 long.due pushes.places.due;
-    to = longer_by old.store.to new.store.to 0 long.to pushes.places.to;
-    waves = longer_by old.store.waves new.store.waves 0 long.waves pushes.places.waves;
+    flags = pushes.indices.long ∙ ap (λ (n : ℕ). n + many) long.flags ∙ sym cells;
+    asked = longer_by old.store.asked new.store.asked 0 long.asked pushes.indices.asked;
+    due = longer_by old.store.due new.store.due 0 long.due pushes.indices.due;
+    to = longer_by old.store.to new.store.to 0 long.to pushes.indices.to;
+    waves = longer_by old.store.waves new.store.waves 0 long.waves pushes.indices.waves;
   }
 
   pub pushed_high : AreHigh old → AreHigh new
   pushed_high high = record {
-    heights = subst (λ (n : ℕ). AreUpTo new.store.heights n) (sym pushes.written) (subst (λ (ys : List ℕ). AreUpTo ys old.written) (sym pushes.places.heights)
+    heights = subst (λ (n : ℕ). AreUpTo new.store.heights n) (sym pushes.written) (subst (λ (ys : List ℕ). AreUpTo ys old.written) (sym pushes.indices.heights)
         (up_to_append old.store.heights many 0 old.written (omega arith) high.heights));
-    asked = subst (λ (n : ℕ). AreUpTo new.store.asked (2 * n + 2)) (sym pushes.written) (subst (λ (ys : List ℕ). AreUpTo ys (2 * old.written + 2)) (sym pushes.places.asked)
+    asked = subst (λ (n : ℕ). AreUpTo new.store.asked (2 * n + 2)) (sym pushes.written) (subst (λ (ys : List ℕ). AreUpTo ys (2 * old.written + 2)) (sym pushes.indices.asked)
         (up_to_append old.store.asked many 0 (2 * old.written + 2) (omega arith) high.asked));
-    due = subst (λ (n : ℕ). AreUpTo new.store.due (2 * n + 1)) (sym pushes.written) (subst (λ (ys : List ℕ). AreUpTo ys (2 * old.written + 1)) (sym pushes.places.due)
+    due = subst (λ (n : ℕ). AreUpTo new.store.due (2 * n + 1)) (sym pushes.written) (subst (λ (ys : List ℕ). AreUpTo ys (2 * old.written + 1)) (sym pushes.indices.due)
         (up_to_append old.store.due many 0 (2 * old.written + 1) (omega arith) high.due));
-    waves = subst (λ (n : ℕ). AreUpTo new.store.waves n) (sym pushes.written) (subst (λ (ys : List ℕ). AreUpTo ys old.written) (sym pushes.places.waves)
+    waves = subst (λ (n : ℕ). AreUpTo new.store.waves n) (sym pushes.written) (subst (λ (ys : List ℕ). AreUpTo ys old.written) (sym pushes.indices.waves)
         (up_to_append old.store.waves many 0 old.written (omega arith) high.waves));
   }
 
-  -- and each of its links' places is marked
-  pub pushed_marked : AreLong old → AreMarked g old → AreMarked g new
-  pushed_marked long marked k link =
+  -- and each of its links' indices is flagged
+  pub pushed_flagged : AreLong old → AreFlagged g old → AreFlagged g new
+  pushed_flagged long flagged k link =
       let l = subst (λ (cs : List Context). IsLinkAt g cs k) pushes.contexts link in
       elim (push_cases Contexts c l.0 l.1 l.5.cell.at) [
         | inl h ↦
             let before : IsLink g Contexts l.0 l.1 l.2 l.3 l.4 = record { cell = record { at = h; of = l.5.cell.of; state = l.5.cell.state }; calls = l.5.calls; class = l.5.class } in
-            let place : k ≡ place_at g Contexts l.0 l.2 l.3 = l.6 ∙ place_on g Contexts c l.0 l.1 l.2 l.3 before.cell in
-            let is = place_is g Contexts l.0 l.1 l.2 l.3 h in
+            let index : k ≡ index_at g Contexts l.0 l.2 l.3 = l.6 ∙ index_on g Contexts c l.0 l.1 l.2 l.3 before.cell in
+            let is = index_is g Contexts l.0 l.1 l.2 l.3 h in
             let inside = slot_within g Contexts l.0 l.1 l.2 l.3 before.cell in
-            pushes.places.kept k (omega (arith, place, is, inside, laid.cells, long.marks)) ∙ marked k (l.0, l.1, l.2, l.3, l.4, before, place)
+            pushes.indices.kept k (omega (arith, index, is, inside, laid.cells, long.flags)) ∙ flagged k (l.0, l.1, l.2, l.3, l.4, before, index)
         | inr h ↦
             let there : IsLink g More (length Contexts) c l.2 l.3 l.4
             = subst (λ (d : Context). IsLink g More (length Contexts) d l.2 l.3 l.4) (sym h.1) (subst (λ (i : ℕ). IsLink g More i l.1 l.2 l.3 l.4) h.0 l.5) in
-            let is = place_is g More (length Contexts) c l.2 l.3 there.cell.at in
-            let at : k ≡ place_at g More (length Contexts) l.2 l.3 = l.6 ∙ ap (λ (i : ℕ). place_at g More i l.2 l.3) h.0 in
-            let place : k ≡ length old.store.marks + (l.3 * positions g c.function + (l.2 - g.entry c.function)) = omega (arith, at, is, base_end g Contexts c, laid.cells, long.marks) in
-            subst (λ (y : ℕ). is_marked new.store.marks y ≡ true) (sym place)
-            (pushes.marked l.2 l.3 l.4 there.cell.of there.calls there.class (within g More (length Contexts) c l.2 l.3 there.cell))
+            let is = index_is g More (length Contexts) c l.2 l.3 there.cell.at in
+            let at : k ≡ index_at g More (length Contexts) l.2 l.3 = l.6 ∙ ap (λ (i : ℕ). index_at g More i l.2 l.3) h.0 in
+            let index : k ≡ length old.store.flags + (l.3 * positions g c.function + (l.2 - g.entry c.function)) = omega (arith, at, is, base_end g Contexts c, laid.cells, long.flags) in
+            subst (λ (y : ℕ). is_flagged new.store.flags y ≡ true) (sym index)
+            (pushes.flagged l.2 l.3 l.4 there.cell.of there.calls there.class (within g More (length Contexts) c l.2 l.3 there.cell))
       ]
 
   -- and there is a list for it
@@ -177,12 +177,12 @@ module _ (g : Game) (old new : Work) (c : Context) (laid : IsLaid g (known_of ol
     more = omega (arith, longer, pushes.lists);
     few = λ k lt. elim (cases_lt k (length old.store.heights)) [
       | inl before ↦
-          let e : slice_index new.store.to k ≡ slice_index old.store.to k = ap (λ (ys : List ℕ). slice_index ys k) pushes.places.to
+          let e : slice_index new.store.to k ≡ slice_index old.store.to k = ap (λ (ys : List ℕ). slice_index ys k) pushes.indices.to
           ∙ get_or_append_left old.store.to (replicate many 0) 0 k (omega (arith, before, long.to)) in
           let f = callers.few k before in
           omega (arith, e, f, longer)
       | inr after ↦
-          let e : slice_index new.store.to k ≡ 0 = ap (λ (ys : List ℕ). slice_index ys k) pushes.places.to
+          let e : slice_index new.store.to k ≡ 0 = ap (λ (ys : List ℕ). slice_index ys k) pushes.indices.to
           ∙ get_or-append_right old.store.to (replicate many 0) (length old.store.to) k 0 refl (omega (arith, after, long.to))
           ∙ get_or-replicate many (k - length old.store.to) 0 0 (omega (arith, after, long.to, lt, cells)) in
           omega (arith, e)
@@ -193,20 +193,20 @@ module _ (g : Game) (old new : Work) (c : Context) (laid : IsLaid g (known_of ol
   pushed_dues long dues k lt some =
       elim (cases_lt k (length old.store.heights)) [
         | inl before ↦
-            let e : slice_index new.store.due k ≡ slice_index old.store.due k = ap (λ (ys : List ℕ). slice_index ys k) pushes.places.due
+            let e : slice_index new.store.due k ≡ slice_index old.store.due k = ap (λ (ys : List ℕ). slice_index ys k) pushes.indices.due
             ∙ get_or_append_left old.store.due (replicate many 0) 0 k (omega (arith, before, long.due)) in
-            let t : slice_index new.store.to k ≡ slice_index old.store.to k = ap (λ (ys : List ℕ). slice_index ys k) pushes.places.to
+            let t : slice_index new.store.to k ≡ slice_index old.store.to k = ap (λ (ys : List ℕ). slice_index ys k) pushes.indices.to
             ∙ get_or_append_left old.store.to (replicate many 0) 0 k (omega (arith, before, long.to)) in
             let h = dues k before (omega (arith, some, e)) in (
               subst (λ (cs : List Context). IsLinkAt g cs k) (sym pushes.contexts) (link_there k h.0),
               λ tied. let low = h.1 (omega (arith, tied, t)) in omega (arith, low, e),
             )
         | inr after ↦
-            let e : slice_index new.store.due k ≡ 0 = ap (λ (ys : List ℕ). slice_index ys k) pushes.places.due
+            let e : slice_index new.store.due k ≡ 0 = ap (λ (ys : List ℕ). slice_index ys k) pushes.indices.due
             ∙ get_or-append_right old.store.due (replicate many 0) (length old.store.due) k 0 refl (omega (arith, after, long.due))
             ∙ get_or-replicate many (k - length old.store.due) 0 0 (omega (arith, after, long.due, lt, cells)) in
             absurd (omega (arith, e, some))
       ]
     where
       link_there : (k : ℕ) → IsLinkAt g Contexts k → IsLinkAt g More k
-      link_there k l = (l.0, l.1, l.2, l.3, l.4, link_on g Contexts c l.0 l.1 l.2 l.3 l.4 l.5, l.6 ∙ sym (place_on g Contexts c l.0 l.1 l.2 l.3 l.5.cell))
+      link_there k l = (l.0, l.1, l.2, l.3, l.4, link_on g Contexts c l.0 l.1 l.2 l.3 l.4 l.5, l.6 ∙ sym (index_on g Contexts c l.0 l.1 l.2 l.3 l.5.cell))

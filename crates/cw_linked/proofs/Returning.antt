@@ -7,7 +7,7 @@ use Rattle.cw_core.specs.declared.ids.PosId.{PosId}
 use Rattle.cw_game.specs.declared.spots.Spot.{Spot}
 use Rattle.cw_game.specs.Games.{Game, returned}
 use Rattle.cw_game.specs.Pairs.{has, Called, call_in, kept_at}
-use Rattle.cw_links.specs.Marks.{is_marked, rank}
+use Rattle.cw_links.specs.Flags.{is_flagged, rank}
 use Rattle.cw_product.specs.declared.turn.Turn.{Turn}
 use Rattle.cw_product.specs.Moves.{pos_id, turn_in}
 use Rattle.cw_solve.specs.declared.contexts.Context.{Context}
@@ -21,12 +21,12 @@ use Rattle.cw_linked.specs.declared.work.Cell.{Cell}
 use Rattle.cw_linked.specs.declared.work.Work.{Work}
 use Rattle.cw_linked.specs.Calls.{CallsLeft, AsksCaller}
 use Rattle.cw_linked.specs.Founds.{Found, class_of, AreAlike, IsLink, height_back, GoesTo, IsShrinking, AreRight, Waits, IsStanding, Nothing, AllCalled, AllStanding}
-use Rattle.cw_linked.specs.Queues.{found_of, IsLinkAt, AreMarked, AreLong, AreHigh, AsksForLink, LowersKeys}
+use Rattle.cw_linked.specs.Queues.{found_of, IsLinkAt, AreFlagged, AreLong, AreHigh, AsksForLink, LowersKeys}
 use Rattle.cw_linked.specs.Returns.{IsPromised, Returns, AsksReturn}
 use Rattle.cw_linked.specs.Steps.{ReturnsThere}
-use Rattle.cw_linked.specs.Works.{Known, known_of, IsKnown, heights_of, place_at, value_at}
+use Rattle.cw_linked.specs.Works.{Known, known_of, IsKnown, heights_of, index_at, value_at}
 use Rattle.cw_linked.proofs.Backs.{ReturnsLeft, stands_on, fresh_on, link_step, link_waits, returns_stand}
-use Rattle.cw_linked.proofs.Bounding.{place_is}
+use Rattle.cw_linked.proofs.Bounding.{index_is}
 use Rattle.cw_linked.proofs.Callers.{one_call_left, is_tied}
 use Rattle.cw_linked.proofs.Least.{link_of}
 use Rattle.cw_linked.proofs.Taking.{one_call}
@@ -63,25 +63,25 @@ module _ (g : Game) (functions : ℕ) (routed : AreRouted g functions) (alike : 
   unchanged = sym step.others.known
 
   -- of the calls whose link goes there
-  pub asked_call_left : (edge place : ℕ) (back : List ℕ) (cell : Cell) → AreMarked g w → is_marked mid.store.marks place ≡ true → rank mid.store.marks place ≡ edge → AsksCaller g mid new place cell
-      → AllCalled g Contexts (found_of g mid) (CallsLeft g Contexts w.store.marks (found_of g w) (edge ∷ back) cell.at.number cell.pos.0 cell.state.0)
-      → AllCalled g Contexts (found_of g new) (CallsLeft g Contexts w.store.marks (found_of g w) back cell.at.number cell.pos.0 cell.state.0)
-  asked_call_left edge place back cell marked here its asks all =
-      let marks = w.store.marks in
+  pub asked_call_left : (edge index : ℕ) (back : List ℕ) (cell : Cell) → AreFlagged g w → is_flagged mid.store.flags index ≡ true → rank mid.store.flags index ≡ edge → AsksCaller g mid new index cell
+      → AllCalled g Contexts (found_of g mid) (CallsLeft g Contexts w.store.flags (found_of g w) (edge ∷ back) cell.at.number cell.pos.0 cell.state.0)
+      → AllCalled g Contexts (found_of g new) (CallsLeft g Contexts w.store.flags (found_of g w) back cell.at.number cell.pos.0 cell.state.0)
+  asked_call_left edge index back cell flagged here its asks all =
+      let flags = w.store.flags in
       let keys = found_keys g w mid step.others in
-      let now : AllCalled g Contexts (found_of g mid) (CallsLeft g Contexts marks (found_of g mid) (edge ∷ back) cell.at.number cell.pos.0 cell.state.0)
-      = subst (λ (y : Found). AllCalled g Contexts (found_of g mid) (CallsLeft g Contexts marks y (edge ∷ back) cell.at.number cell.pos.0 cell.state.0)) (sym keys) all in
-      let there : AllCalled g mid.blocks.contexts.items (found_of g mid) (CallsLeft g mid.blocks.contexts.items marks (found_of g mid) (edge ∷ back) cell.at.number cell.pos.0 cell.state.0)
-      = subst (λ (t : Known). AllCalled g t.blocks.contexts.items (found_of g mid) (CallsLeft g t.blocks.contexts.items marks (found_of g mid) (edge ∷ back) cell.at.number cell.pos.0 cell.state.0))
+      let now : AllCalled g Contexts (found_of g mid) (CallsLeft g Contexts flags (found_of g mid) (edge ∷ back) cell.at.number cell.pos.0 cell.state.0)
+      = subst (λ (y : Found). AllCalled g Contexts (found_of g mid) (CallsLeft g Contexts flags y (edge ∷ back) cell.at.number cell.pos.0 cell.state.0)) (sym keys) all in
+      let there : AllCalled g mid.blocks.contexts.items (found_of g mid) (CallsLeft g mid.blocks.contexts.items flags (found_of g mid) (edge ∷ back) cell.at.number cell.pos.0 cell.state.0)
+      = subst (λ (t : Known). AllCalled g t.blocks.contexts.items (found_of g mid) (CallsLeft g t.blocks.contexts.items flags (found_of g mid) (edge ∷ back) cell.at.number cell.pos.0 cell.state.0))
       unchanged now in
-      let links : (k : ℕ) → IsLinkAt g mid.blocks.contexts.items k → is_marked marks k ≡ true
-      = subst (λ (t : Known). (k : ℕ) → IsLinkAt g t.blocks.contexts.items k → is_marked marks k ≡ true) unchanged marked in
-      let done = one_call_left g functions routed alike mid (subst (IsKnown g) unchanged known) new marks edge place back cell links
-      (subst (λ (ms : List Bool). is_marked ms place ≡ true) step.others.marks here) (subst (λ (ms : List Bool). rank ms place ≡ edge) step.others.marks its) asks there in
-      let back_here : AllCalled g Contexts (found_of g new) (CallsLeft g Contexts marks (found_of g mid) back cell.at.number cell.pos.0 cell.state.0)
-      = subst (λ (t : Known). AllCalled g t.blocks.contexts.items (found_of g new) (CallsLeft g t.blocks.contexts.items marks (found_of g mid) back cell.at.number cell.pos.0 cell.state.0))
+      let links : (k : ℕ) → IsLinkAt g mid.blocks.contexts.items k → is_flagged flags k ≡ true
+      = subst (λ (t : Known). (k : ℕ) → IsLinkAt g t.blocks.contexts.items k → is_flagged flags k ≡ true) unchanged flagged in
+      let done = one_call_left g functions routed alike mid (subst (IsKnown g) unchanged known) new flags edge index back cell links
+      (subst (λ (ms : List Bool). is_flagged ms index ≡ true) step.others.flags here) (subst (λ (ms : List Bool). rank ms index ≡ edge) step.others.flags its) asks there in
+      let back_here : AllCalled g Contexts (found_of g new) (CallsLeft g Contexts flags (found_of g mid) back cell.at.number cell.pos.0 cell.state.0)
+      = subst (λ (t : Known). AllCalled g t.blocks.contexts.items (found_of g new) (CallsLeft g t.blocks.contexts.items flags (found_of g mid) back cell.at.number cell.pos.0 cell.state.0))
       (sym unchanged) done in
-      subst (λ (y : Found). AllCalled g Contexts (found_of g new) (CallsLeft g Contexts marks y back cell.at.number cell.pos.0 cell.state.0)) keys back_here
+      subst (λ (y : Found). AllCalled g Contexts (found_of g new) (CallsLeft g Contexts flags y back cell.at.number cell.pos.0 cell.state.0)) keys back_here
 
   -- of the links that return there
   module _ (row : List PosId) (n : ℕ) (cell : Cell) (pos : PosId) (at : slice_get Contexts cell.at.number ≡ Some cell.at.context)
@@ -142,8 +142,8 @@ module _ (g : Game) (functions : ℕ) (routed : AreRouted g functions) (alike : 
             → IsStanding g Contexts (found_of g w) z p k there.0 y) there.2 there.5) y lt)
 
 -- at last no call is left
-pub no_calls_left : (g : Game) (contexts : List Context) (marks : List Bool) (t s : Found) (j r x : ℕ) → AllCalled g contexts t (CallsLeft g contexts marks s [] j r x) → AllCalled g contexts t Nothing
-no_calls_left g contexts marks t s j r x all i c p q is =
+pub no_calls_left : (g : Game) (contexts : List Context) (flags : List Bool) (t s : Found) (j r x : ℕ) → AllCalled g contexts t (CallsLeft g contexts flags s [] j r x) → AllCalled g contexts t Nothing
+no_calls_left g contexts flags t s j r x all i c p q is =
     elim (all i c p q is) [
       | inl called ↦ inl called
       | inr rest ↦ absurd (let lt = rest.3.1 in omega (arith, lt))
@@ -158,7 +158,7 @@ module _ (g : Game) (functions : ℕ) (routed : AreRouted g functions) (alike : 
     (right : AreRight g w.blocks.contexts.items (found_of g w)) (cell : Cell) (is : HasCell g w.blocks cell.at cell.pos.0 cell.state.0) (height : ℕ) (some : 0 < height)
     (taken : heights_of g (known_of w) cell.at.number cell.pos.0 cell.state.0 ≡ height) (p : ℕ) (of : IsOf g cell.at.context.function p) (returns : Returns g p cell.pos.0)
     (call : Called) (es : call_in (slice_get g.spots p) ≡ Some call) (k : ℕ) (class : class_of g call.split cell.state.0 ≡ k)
-    (place : ℕ) (at : place ≡ slot g w.blocks.contexts.items cell.at.number cell.at.context.function p k) where
+    (index : ℕ) (at : index ≡ slot g w.blocks.contexts.items cell.at.number cell.at.context.function p k) where
   abbrev Cells : List Context
   Cells = w.blocks.contexts.items
 
@@ -169,8 +169,8 @@ module _ (g : Game) (functions : ℕ) (routed : AreRouted g functions) (alike : 
   link = subst (λ (y : ℕ). IsLink g Cells cell.at.number cell.at.context p y call) class
       (link_of g functions routed alike Cells functions_below cell.at.number cell.at.context p cell.state.0 call (record { at = is.at; of = of; state = is.state }) es)
 
-  spot : place ≡ place_at g Cells cell.at.number p k
-  spot = at ∙ sym (place_is g Cells cell.at.number cell.at.context p k is.at)
+  spot : index ≡ index_at g Cells cell.at.number p k
+  spot = at ∙ sym (index_is g Cells cell.at.number cell.at.context p k is.at)
 
   behind : call.back ≡ cell.pos.0
   behind = ap (λ (c : Called). c.back) (one_call (slice_get g.spots p) call returns.0 es returns.1) ∙ returns.2
@@ -182,11 +182,11 @@ module _ (g : Game) (functions : ℕ) (routed : AreRouted g functions) (alike : 
   back_height = ap (λ (y : ℕ). heights_of g (known_of w) cell.at.number y (returned g.states (kept_at call.split k) cell.state.0)) behind
       ∙ ap (λ (y : ℕ). heights_of g (known_of w) cell.at.number cell.pos.0 y) own ∙ taken
 
-  pub own_link : IsLinkAt g Cells place
+  pub own_link : IsLinkAt g Cells index
   own_link = (cell.at.number, cell.at.context, p, k, call, link, spot)
 
   -- it is asked for
-  module _ (new : Work) (promised : IsPromised w place cell.state.0) (asks : AsksForLink w new place (2 * height + 1)) where
+  module _ (new : Work) (promised : IsPromised w index cell.state.0) (asks : AsksForLink w new index (2 * height + 1)) where
     value : value_at g Cells w.store.to cell.at.number p k ≡ suc (value_at g Cells w.store.to cell.at.number p k - 1)
     value = let v = ap (slice_index w.store.to) (sym spot) in let lt = promised.1 in omega (arith, v, lt)
 
@@ -203,19 +203,19 @@ module _ (g : Game) (functions : ℕ) (routed : AreRouted g functions) (alike : 
         (linked.0, cell.state.0, linked.1, is.state, sym (ap (λ (y : Context). has y.promise cell.state.0) same) ∙ promised.3, back_height)
 
     low : height ≤ w.written
-    low = let h = high.heights (place_at g Cells cell.at.number cell.pos.0 cell.state.0) in omega (arith, h, taken)
+    low = let h = high.heights (index_at g Cells cell.at.number cell.pos.0 cell.state.0) in omega (arith, h, taken)
 
     step : LowersKeys g w new
-    step = link_step g functions routed alike w new known long high right cell.at.number cell.at.context p k call link height place some low at shrinks promised.1 asks
+    step = link_step g functions routed alike w new known long high right cell.at.number cell.at.context p k call link height index some low at shrinks promised.1 asks
 
     pub own_asked : AsksReturn g w new cell p
     own_asked = returns_stand g functions routed alike w new known step cell is height
         (ap (λ (t : Known). heights_of g t cell.at.number cell.pos.0 cell.state.0) step.others.known ∙ taken) p call es
         (λ set_of tied goes_to member. subst (λ (y : ℕ). Waits ((found_of g new).due cell.at.number p y) (2 * height + 1)) (sym class)
-        (link_waits g functions routed alike w new known long high right cell.at.number cell.at.context p k call link height place some low at shrinks promised.1 asks))
+        (link_waits g functions routed alike w new known long high right cell.at.number cell.at.context p k call link height index some low at shrinks promised.1 asks))
 
   -- or doesn't promise its state
-  pub own_unpromised : (IsPromised w place cell.state.0 → ⊥) → AsksReturn g w w cell p
+  pub own_unpromised : (IsPromised w index cell.state.0 → ⊥) → AsksReturn g w w cell p
   own_unpromised none = returns_stand g functions routed alike w w known (nothing g w long high right) cell is height taken p call es
       (λ set_of tied goes member. absurd (none (
         context call.function set_of,
@@ -224,5 +224,5 @@ module _ (g : Game) (functions : ℕ) (routed : AreRouted g functions) (alike : 
         member,
       )))
     where
-      there : place ≡ place_at g Cells cell.at.number p (class_of g call.split cell.state.0)
-      there = spot ∙ ap (λ (y : ℕ). place_at g Cells cell.at.number p y) (sym class)
+      there : index ≡ index_at g Cells cell.at.number p (class_of g call.split cell.state.0)
+      there = spot ∙ ap (λ (y : ℕ). index_at g Cells cell.at.number p y) (sym class)

@@ -22,7 +22,7 @@ use Rattle.cw_linked.specs.Popped.{IsWork, Finishes, TakesCell, FreesLink}
 use Rattle.cw_linked.specs.Queues.{found_of}
 use Rattle.cw_linked.specs.Solving.{IsBlankWork, IsAllKnown, Ends}
 use Rattle.cw_linked.specs.Works.{Known, known_of, IsKnown, AreUpTo}
-use Rattle.cw_linked.proofs.Bounding.{place_is}
+use Rattle.cw_linked.proofs.Bounding.{index_is}
 use Rattle.cw_linked.proofs.Ending.{heights_are, all_tabled}
 use Rattle.cw_linked.proofs.Linking.{freed_known}
 use Rattle.cw_linked.proofs.Measuring.{taken_less, kept_left}
@@ -46,8 +46,8 @@ module _ (g : Game) (w : Work) (blank : IsBlankWork w) where
   long_as : (values : List ℕ) → values ≡ [] → length values ≡ length w.store.heights
   long_as values none = ap (λ (ys : List ℕ). length ys) none ∙ sym (ap (λ (ys : List ℕ). length ys) blank.store.heights)
 
-  no_place : (k : ℕ) → k < length w.store.heights → ⊥
-  no_place k lt = let e = ap (λ (ys : List ℕ). length ys) blank.store.heights in absurd (omega (arith, lt, e))
+  no_index : (k : ℕ) → k < length w.store.heights → ⊥
+  no_index k lt = let e = ap (λ (ys : List ℕ). length ys) blank.store.heights in absurd (omega (arith, lt, e))
 
   no_context : length Contexts ≡ 0
   no_context = ap (λ (cs : List Context). length cs) blank.contexts
@@ -75,13 +75,13 @@ module _ (g : Game) (w : Work) (blank : IsBlankWork w) where
           omega (arith, written, none, length_is));
     };
     long = record {
-      marks = ap (λ (ms : List Bool). length ms) blank.store.marks ∙ sym (ap (λ (ys : List ℕ). length ys) blank.store.heights);
+      flags = ap (λ (ms : List Bool). length ms) blank.store.flags ∙ sym (ap (λ (ys : List ℕ). length ys) blank.store.heights);
       asked = long_as w.store.asked blank.store.asked;
       due = long_as w.store.due blank.store.due;
       to = long_as w.store.to blank.store.to;
       waves = long_as w.store.waves blank.store.waves;
     };
-    marked = λ k l. absurd (no_cell g Contexts blank.contexts l.0 l.1 l.2 l.3 l.5.cell);
+    flagged = λ k l. absurd (no_cell g Contexts blank.contexts l.0 l.1 l.2 l.3 l.5.cell);
     high = record {
       heights = up_to_none w.store.heights w.written blank.store.heights;
       asked = up_to_none w.store.asked (2 * w.written + 2) blank.store.asked;
@@ -90,9 +90,9 @@ module _ (g : Game) (w : Work) (blank : IsBlankWork w) where
     };
     callers = record {
       more = omega (arith, no_context, blank.store.lists);
-      few = λ k lt. absurd (no_place k lt);
+      few = λ k lt. absurd (no_index k lt);
     };
-    dues = λ k lt. absurd (no_place k lt);
+    dues = λ k lt. absurd (no_index k lt);
     right = blank_right;
   }
 
@@ -100,7 +100,7 @@ module _ (g : Game) (w : Work) (blank : IsBlankWork w) where
   begun_work new c adds = record {
     known = adds.firm.known;
     long = adds.firm.long;
-    marked = adds.firm.marked;
+    flagged = adds.firm.flagged;
     high = adds.firm.high;
     callers = adds.firm.callers;
     dues = adds.firm.dues;
@@ -115,18 +115,18 @@ module _ (g : Game) (w : Work) (blank : IsBlankWork w) where
 -- A step.
 
 module _ (g : Game) (functions : ℕ) (routed : AreRouted g functions) (alike : AreAlike g) where
-  pub finished_less : (old mid new : Work) → IsWork g old → (place height : ℕ) → TakesCell old mid place height → Finishes g mid new mid.store.to → work_left g new < work_left g old
-  finished_less old mid new work place height takes ends =
-      let less = taken_less g functions routed alike old mid work place height takes in
+  pub finished_less : (old mid new : Work) → IsWork g old → (index height : ℕ) → TakesCell old mid index height → Finishes g mid new mid.store.to → work_left g new < work_left g old
+  finished_less old mid new work index height takes ends =
+      let less = taken_less g functions routed alike old mid work index height takes in
       let same = kept_left g mid new ends.known ends.to in
       omega (arith, less, same)
 
-  pub linked_less : (old mid new : Work) → (place moves : ℕ) → FreesLink old mid place moves → work_left g new < work_left g mid → work_left g new < work_left g old
-  linked_less old mid new place moves frees less = let same = kept_left g old mid frees.others.known frees.others.to in omega (arith, less, same)
+  pub linked_less : (old mid new : Work) → (index moves : ℕ) → FreesLink old mid index moves → work_left g new < work_left g mid → work_left g new < work_left g old
+  linked_less old mid new index moves frees less = let same = kept_left g old mid frees.others.known frees.others.to in omega (arith, less, same)
 
-  pub linked_beyond : (old mid new : Work) → IsWork g old → (place moves : ℕ) → FreesLink old mid place moves → (c : Context) → TakesLink g mid new (TooMany c) → Ends g (known_of new) (Some c)
-  linked_beyond old mid new work place moves frees c takes =
-      (subst (λ (w : Work). IsKnown g (known_of w)) (sym takes.0) (freed_known g functions routed alike old mid work place moves frees), takes.1)
+  pub linked_beyond : (old mid new : Work) → IsWork g old → (index moves : ℕ) → FreesLink old mid index moves → (c : Context) → TakesLink g mid new (TooMany c) → Ends g (known_of new) (Some c)
+  linked_beyond old mid new work index moves frees c takes =
+      (subst (λ (w : Work). IsKnown g (known_of w)) (sym takes.0) (freed_known g functions routed alike old mid work index moves frees), takes.1)
 
   -- The end.
   pub ended : (w : Work) → IsWork g w → AreEmpty w.store.asked w.store.due → IsAllKnown g (known_of w)
@@ -135,7 +135,7 @@ module _ (g : Game) (functions : ℕ) (routed : AreRouted g functions) (alike : 
       let functions_below = below g functions routed alike w w work.known in
       let above = none_above g w work.known out in
       record {
-        heights = λ i c p q is. subst (λ (k : ℕ). HeightIs g p q c.promise (height_by (slice_index w.store.heights k))) (place_is g contexts i c p q is.at)
+        heights = λ i c p q is. subst (λ (k : ℕ). HeightIs g p q c.promise (height_by (slice_index w.store.heights k))) (index_is g contexts i c p q is.at)
             (heights_are g functions routed alike contexts functions_below (found_of g w) work.found above i c p q is);
         all = all_tabled g functions routed alike contexts functions_below (found_of g w) work.found above (contained contexts 0 _ work.known.blocks.first);
       }

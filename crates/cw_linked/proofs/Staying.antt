@@ -2,11 +2,11 @@
 use Rattle.std.proofs.Common.{◌≡◌, ℕ, ◌<◌, ◌≤◌, Bool, true, List, length, sym, ap, subst}
 use Rattle.std.specs.Prelude.{slice_index}
 use Rattle.cw_game.specs.Games.{Game}
-use Rattle.cw_links.specs.Marks.{is_marked}
+use Rattle.cw_links.specs.Flags.{is_flagged}
 use Rattle.cw_solve.specs.declared.contexts.Context.{Context}
 use Rattle.cw_linked.specs.declared.work.Work.{Work}
 use Rattle.cw_linked.specs.Calls.{AreCallers}
-use Rattle.cw_linked.specs.Queues.{IsLinkAt, AreMarked}
+use Rattle.cw_linked.specs.Queues.{IsLinkAt, AreFlagged}
 use Rattle.cw_linked.specs.Works.{Known, known_of}
 
 -- what is known, with these heights
@@ -16,10 +16,10 @@ known_with w heights = record { blocks = w.blocks; heights = heights; written = 
 pub known_on : (w : Work) (heights : List ℕ) → heights ≡ w.store.heights → known_with w heights ≡ known_of w
 known_on w heights same = ap (known_with w) same
 
--- each link's place is marked still
-pub marked_on : (g : Game) (old new : Work) → new.blocks.contexts.items ≡ old.blocks.contexts.items → new.store.marks ≡ old.store.marks → AreMarked g old → AreMarked g new
-marked_on g old new contexts marks are k link =
-    subst (λ (ms : List Bool). is_marked ms k ≡ true) (sym marks) (are k (subst (λ (cs : List Context). IsLinkAt g cs k) contexts link))
+-- each link's index is flagged still
+pub flagged_on : (g : Game) (old new : Work) → new.blocks.contexts.items ≡ old.blocks.contexts.items → new.store.flags ≡ old.store.flags → AreFlagged g old → AreFlagged g new
+flagged_on g old new contexts flags are k link =
+    subst (λ (ms : List Bool). is_flagged ms k ≡ true) (sym flags) (are k (subst (λ (cs : List Context). IsLinkAt g cs k) contexts link))
 
 pub callers_on : (old new : Work) → known_of new ≡ known_of old → new.store.to ≡ old.store.to → new.store.lists ≡ old.store.lists → AreCallers old → AreCallers new
 callers_on old new known to lists c = record {

@@ -20,11 +20,11 @@ use Rattle.cw_linked.specs.Founds.{Found, AreAlike, AreRight, AllClosed, AllCall
 use Rattle.cw_linked.specs.Popped.{TakesCell, IsWork, IsTaken}
 use Rattle.cw_linked.specs.Queues.{found_of, AreLong, AreHigh, IsLinkAt, AreDue, IsCellAt}
 use Rattle.cw_linked.specs.Steps.{with_heights, Takes, WaitsFor, CallsThere, ReturnsThere}
-use Rattle.cw_linked.specs.Works.{Known, known_of, IsKnown, AreUpTo, place_at, value_at}
-use Rattle.cw_linked.proofs.Bounding.{place_is}
+use Rattle.cw_linked.specs.Works.{Known, known_of, IsKnown, AreUpTo, index_at, value_at}
+use Rattle.cw_linked.proofs.Bounding.{index_is}
 use Rattle.cw_linked.proofs.Placing.{owned, cell_is}
 use Rattle.cw_linked.proofs.Popping.{least_above}
-use Rattle.cw_linked.proofs.Staying.{marked_on}
+use Rattle.cw_linked.proofs.Staying.{flagged_on}
 use Rattle.cw_linked.proofs.Taking.{taken_right, taken_closed, taken_called, taken_standing}
 use Rattle.cw_linked.proofs.Telling.{below, up_to_set}
 use Rattle.cw_linked.proofs.Writing.{takes_written}
@@ -40,7 +40,7 @@ few_written g t known = omega (arith, known.cells, known.blocks.few, known.count
 pub few_number : (contexts : List Context) (i : ℕ) (c : Context) → slice_get contexts i ≡ Some c → i < length contexts
 few_number contexts i c at = slice_get_within contexts i c at
 
--- each place is that of a cell
+-- each index is that of a cell
 pub cell_for : (g : Game) (functions : ℕ) (routed : AreRouted g functions) (w : Work) → IsKnown g (known_of w) → (k : ℕ) → k < length w.store.heights → (cell : Cell) × IsCellAt g w k cell
 cell_for g functions routed w known k lt =
     let own = owned g w.blocks known.blocks k (omega (arith, lt, known.cells)) in
@@ -76,46 +76,46 @@ found_in g cs hs ks ts ws ds = record {
 }
 
 -- one cell without a height is less
-counted_set : (heights : List ℕ) (place height written : ℕ) → place < length heights → slice_index heights place ≡ 0 → 0 < height → written + count_by is_none heights ≡ length heights
-    → written + 1 + count_by is_none (set heights place height) ≡ length (set heights place height)
-counted_set heights place height written lt none some counted =
+counted_set : (heights : List ℕ) (index height written : ℕ) → index < length heights → slice_index heights index ≡ 0 → 0 < height → written + count_by is_none heights ≡ length heights
+    → written + 1 + count_by is_none (set heights index height) ≡ length (set heights index height)
+counted_set heights index height written lt none some counted =
     let never : height ≡ 0 → ⊥ = λ e. omega (arith, e, some) in
-    let one : cond (is_none (get_or heights place 0)) 1 0 ≡ 1 = ap {B = ℕ} (λ (x : ℕ). cond (is_none x) 1 0) none ∙ ap {B = ℕ} (λ (b : Bool). cond b 1 0) (eq-eqb 0 0 refl) in
+    let one : cond (is_none (get_or heights index 0)) 1 0 ≡ 1 = ap {B = ℕ} (λ (x : ℕ). cond (is_none x) 1 0) none ∙ ap {B = ℕ} (λ (b : Bool). cond b 1 0) (eq-eqb 0 0 refl) in
     let gone : cond (is_none height) 1 0 ≡ 0 = ap {B = ℕ} (λ (b : Bool). cond b 1 0) (ne_eqb height 0 never) in
-    let sums = sum_by-set (λ (x : ℕ). cond (is_none x) 1 0) heights place height 0 lt in
-    let same = length-set heights place height in
+    let sums = sum_by-set (λ (x : ℕ). cond (is_none x) 1 0) heights index height 0 lt in
+    let same = length-set heights index height in
     omega (arith, one, gone, sums, same, counted)
 
-module _ (g : Game) (functions : ℕ) (routed : AreRouted g functions) (alike : AreAlike g) (old new : Work) (work : IsWork g old) (place height : ℕ) (takes : TakesCell old new place height) where
+module _ (g : Game) (functions : ℕ) (routed : AreRouted g functions) (alike : AreAlike g) (old new : Work) (work : IsWork g old) (index height : ℕ) (takes : TakesCell old new index height) where
   abbrev Contexts : List Context
   Contexts = old.blocks.contexts.items
 
   contexts : new.blocks.contexts.items ≡ Contexts
   contexts = ap (λ (b : Blocks). b.contexts.items) takes.blocks
 
-  here : (cell : Cell) × IsCellAt g old place cell
-  here = cell_for g functions routed old work.known place takes.within
+  here : (cell : Cell) × IsCellAt g old index cell
+  here = cell_for g functions routed old work.known index takes.within
 
-  lost : (slice_index old.store.heights place ≡ 0) × (slice_index old.store.asked place ≡ 2 * height)
+  lost : (slice_index old.store.heights index ≡ 0) × (slice_index old.store.asked index ≡ 2 * height)
   lost =
       let cell = here.0 in
       let is = here.1 in
-      let e : place ≡ place_at g Contexts cell.at.number cell.pos.0 cell.state.0 = is.place ∙ sym (place_is g Contexts cell.at.number cell.at.context cell.pos.0 cell.state.0 is.is.at) in
-      let asked : slice_index old.store.asked place ≡ value_at g Contexts old.store.asked cell.at.number cell.pos.0 cell.state.0 = ap (slice_index old.store.asked) e in
+      let e : index ≡ index_at g Contexts cell.at.number cell.pos.0 cell.state.0 = is.index ∙ sym (index_is g Contexts cell.at.number cell.at.context cell.pos.0 cell.state.0 is.is.at) in
+      let asked : slice_index old.store.asked index ≡ value_at g Contexts old.store.asked cell.at.number cell.pos.0 cell.state.0 = ap (slice_index old.store.asked) e in
       let l = work.found.right.lost cell.at.number cell.at.context cell.pos.0 cell.state.0 is.is (omega (arith, takes.some, asked)) in (
         ap (slice_index old.store.heights) e ∙ l.0,
-        half_of (slice_index old.store.asked place) height l.1.0 (asked ∙ l.1.1) takes.half,
+        half_of (slice_index old.store.asked index) height l.1.0 (asked ∙ l.1.1) takes.half,
       )
 
   pub some : 0 < height
   some = omega (arith, lost.1, takes.some)
 
   same_length : length new.store.heights ≡ length old.store.heights
-  same_length = ap (λ (ys : List ℕ). length ys) takes.heights ∙ length-set old.store.heights place height
+  same_length = ap (λ (ys : List ℕ). length ys) takes.heights ∙ length-set old.store.heights index height
 
   pub is_known : IsKnown g (known_of new)
   is_known =
-      let counted = counted_set old.store.heights place height old.written takes.within lost.0 some work.known.counted in
+      let counted = counted_set old.store.heights index height old.written takes.within lost.0 some work.known.counted in
       record {
         blocks = subst (AreBlocks g) (sym takes.blocks) work.known.blocks;
         cells = same_length ∙ work.known.cells ∙ ap (λ (cs : List Context). cells_of g cs) (sym contexts);
@@ -125,8 +125,8 @@ module _ (g : Game) (functions : ℕ) (routed : AreRouted g functions) (alike : 
 
   pub is_long : AreLong new
   is_long = record {
-    marks = ap (λ (ms : List Bool). length ms) takes.marks ∙ work.long.marks ∙ sym same_length;
-    asked = ap (λ (ys : List ℕ). length ys) takes.asked ∙ length-set old.store.asked place 0 ∙ work.long.asked ∙ sym same_length;
+    flags = ap (λ (ms : List Bool). length ms) takes.flags ∙ work.long.flags ∙ sym same_length;
+    asked = ap (λ (ys : List ℕ). length ys) takes.asked ∙ length-set old.store.asked index 0 ∙ work.long.asked ∙ sym same_length;
     due = ap (λ (ys : List ℕ). length ys) takes.due ∙ work.long.due ∙ sym same_length;
     to = ap (λ (ys : List ℕ). length ys) takes.to ∙ work.long.to ∙ sym same_length;
     waves = ap (λ (ys : List ℕ). length ys) takes.waves ∙ work.long.waves ∙ sym same_length;
@@ -134,13 +134,13 @@ module _ (g : Game) (functions : ℕ) (routed : AreRouted g functions) (alike : 
 
   are_high : AreHigh new
   are_high =
-      let key = work.high.asked place in
+      let key = work.high.asked index in
       let low : height ≤ old.written + 1 = omega (arith, key, lost.1) in
-      let heights : AreUpTo (set old.store.heights place height) (old.written + 1)
-      = up_to_set old.store.heights place height (old.written + 1) takes.within low
+      let heights : AreUpTo (set old.store.heights index height) (old.written + 1)
+      = up_to_set old.store.heights index height (old.written + 1) takes.within low
       (up_more old.store.heights old.written (old.written + 1) (omega arith) work.high.heights) in
-      let asked : AreUpTo (set old.store.asked place 0) (2 * (old.written + 1) + 2)
-      = up_to_set old.store.asked place 0 (2 * (old.written + 1) + 2) (omega (arith, takes.within, work.long.asked)) (omega arith)
+      let asked : AreUpTo (set old.store.asked index 0) (2 * (old.written + 1) + 2)
+      = up_to_set old.store.asked index 0 (2 * (old.written + 1) + 2) (omega (arith, takes.within, work.long.asked)) (omega arith)
       (up_more old.store.asked (2 * old.written + 2) (2 * (old.written + 1) + 2) (omega arith) work.high.asked) in
       let due = up_more old.store.due (2 * old.written + 1) (2 * (old.written + 1) + 1) (omega arith) work.high.due in
       let waves = up_more old.store.waves old.written (old.written + 1) (omega arith) work.high.waves in
@@ -170,10 +170,10 @@ module _ (g : Game) (functions : ℕ) (routed : AreRouted g functions) (alike : 
       )
 
   abbrev Heights : ℕ → ℕ → ℕ → ℕ
-  Heights = value_at g Contexts (set old.store.heights place height)
+  Heights = value_at g Contexts (set old.store.heights index height)
 
   abbrev Asked : ℕ → ℕ → ℕ → ℕ
-  Asked = value_at g Contexts (set old.store.asked place 0)
+  Asked = value_at g Contexts (set old.store.asked index 0)
 
   abbrev After : Found
   After = with_heights (found_of g old) Heights Asked
@@ -182,32 +182,32 @@ module _ (g : Game) (functions : ℕ) (routed : AreRouted g functions) (alike : 
   found_new =
       ap (λ (cs : List Context). found_in g cs new.store.heights new.store.asked new.store.to new.store.waves new.store.due) contexts
       ∙ ap (λ (ys : List ℕ). found_in g Contexts ys new.store.asked new.store.to new.store.waves new.store.due) takes.heights
-      ∙ ap (λ (ys : List ℕ). found_in g Contexts (set old.store.heights place height) ys new.store.to new.store.waves new.store.due) takes.asked
-      ∙ ap (λ (ys : List ℕ). found_in g Contexts (set old.store.heights place height) (set old.store.asked place 0) ys new.store.waves new.store.due) takes.to
-      ∙ ap (λ (ys : List ℕ). found_in g Contexts (set old.store.heights place height) (set old.store.asked place 0) old.store.to ys new.store.due) takes.waves
-      ∙ ap (λ (ys : List ℕ). found_in g Contexts (set old.store.heights place height) (set old.store.asked place 0) old.store.to old.store.waves ys) takes.due
+      ∙ ap (λ (ys : List ℕ). found_in g Contexts (set old.store.heights index height) ys new.store.to new.store.waves new.store.due) takes.asked
+      ∙ ap (λ (ys : List ℕ). found_in g Contexts (set old.store.heights index height) (set old.store.asked index 0) ys new.store.waves new.store.due) takes.to
+      ∙ ap (λ (ys : List ℕ). found_in g Contexts (set old.store.heights index height) (set old.store.asked index 0) old.store.to ys new.store.due) takes.waves
+      ∙ ap (λ (ys : List ℕ). found_in g Contexts (set old.store.heights index height) (set old.store.asked index 0) old.store.to old.store.waves ys) takes.due
 
-  module _ (cell : Cell) (at : IsCellAt g new place cell) where
+  module _ (cell : Cell) (at : IsCellAt g new index cell) where
     is_cell : IsCell g Contexts cell.at.number cell.at.context cell.pos.0 cell.state.0
     is_cell = subst (λ (cs : List Context). IsCell g cs cell.at.number cell.at.context cell.pos.0 cell.state.0) contexts at.is
 
-    place_here : place ≡ place_at g Contexts cell.at.number cell.pos.0 cell.state.0
-    place_here = at.place ∙ sym (place_is g new.blocks.contexts.items cell.at.number cell.at.context cell.pos.0 cell.state.0 at.is.at)
-        ∙ ap (λ (cs : List Context). place_at g cs cell.at.number cell.pos.0 cell.state.0) contexts
+    index_here : index ≡ index_at g Contexts cell.at.number cell.pos.0 cell.state.0
+    index_here = at.index ∙ sym (index_is g new.blocks.contexts.items cell.at.number cell.at.context cell.pos.0 cell.state.0 at.is.at)
+        ∙ ap (λ (cs : List Context). index_at g cs cell.at.number cell.pos.0 cell.state.0) contexts
 
     is_taken_there : Takes g Contexts (found_of g old) Heights Asked cell.at.number cell.pos.0 cell.state.0 height
     is_taken_there =
         subst (λ (k : ℕ). Takes g Contexts (found_of g old) (value_at g Contexts (set old.store.heights k height))
         (value_at g Contexts (set old.store.asked k 0)) cell.at.number cell.pos.0 cell.state.0 height)
-        (sym place_here)
+        (sym index_here)
         (takes_written g Contexts (found_of g old) cell.at.number cell.at.context cell.pos.0 cell.state.0 old.store.heights old.store.asked height is_cell
-        (omega (arith, place_here, takes.within)) (omega (arith, place_here, takes.within, work.long.asked)) (λ i p q. refl) (λ i p q. refl))
+        (omega (arith, index_here, takes.within)) (omega (arith, index_here, takes.within, work.long.asked)) (λ i p q. refl) (λ i p q. refl))
 
     above : AreAbove g Contexts (found_of g old) (2 * height)
-    above = subst (λ (k : ℕ). AreAbove g Contexts (found_of g old) k) lost.1 (least_above g old work.known (slice_index old.store.asked place) takes.least)
+    above = subst (λ (k : ℕ). AreAbove g Contexts (found_of g old) k) lost.1 (least_above g old work.known (slice_index old.store.asked index) takes.least)
 
     key : (found_of g old).asked cell.at.number cell.pos.0 cell.state.0 ≡ 2 * height
-    key = ap (slice_index old.store.asked) (sym place_here) ∙ lost.1
+    key = ap (slice_index old.store.asked) (sym index_here) ∙ lost.1
 
     functions_below : (i : ℕ) (c : Context) → slice_get Contexts i ≡ Some c → c.function < functions
     functions_below = below g functions routed alike old old work.known
@@ -216,7 +216,7 @@ module _ (g : Game) (functions : ℕ) (routed : AreRouted g functions) (alike : 
     is_taken = record {
       known = is_known;
       long = is_long;
-      marked = marked_on g old new contexts takes.marks work.marked;
+      flagged = flagged_on g old new contexts takes.flags work.flagged;
       high = are_high;
       callers = are_callers;
       dues = are_due;

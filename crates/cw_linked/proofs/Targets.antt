@@ -39,7 +39,7 @@ pub firm_open : (g : Game) (w : Work) → IsFirm g w → IsOpen g w
 firm_open g w firm = record {
   laid = record { begins = firm.known.blocks.begins; bases = firm.known.blocks.bases; cells = firm.known.cells; counted = firm.known.counted };
   long = firm.long;
-  marked = firm.marked;
+  flagged = firm.flagged;
   high = firm.high;
   callers = firm.callers;
   dues = firm.dues;
@@ -47,7 +47,7 @@ firm_open g w firm = record {
 }
 
 -- the call of a link, as its turn tells it
-module _ (g : Game) (functions : ℕ) (routed : AreRouted g functions) (old : Work) (link : Cell) (place moves : ℕ) (freed : IsFreed g old link place moves) where
+module _ (g : Game) (functions : ℕ) (routed : AreRouted g functions) (old : Work) (link : Cell) (index moves : ℕ) (freed : IsFreed g old link index moves) where
   pub call_here : (f : ℕ) (split : Bool) (back : PosId) → Some (turn.Call f split back) ≡ option_map (turn_in g) (slice_get g.spots link.pos.0)
       → (call : Called) × IsLink g old.blocks.contexts.items link.at.number link.at.context link.pos.0 link.state.0 call × (call.split ≡ split) × (call.function ≡ f) × (call.back ≡ back.0)
   call_here f split back e =
@@ -77,7 +77,7 @@ module _ (g : Game) (functions : ℕ) (routed : AreRouted g functions) (old : Wo
       subst (λ (y : ℕ). IsSetOf g set (λ x. holds_by moves (heights_of g (known_of old) link.at.number y (returned g.states (kept_at call.split link.state.0) x)))) (sym behind)
       (subst (λ (y : Bool). IsSetOf g set (λ x. holds_by moves (heights_of g (known_of old) link.at.number back (returned g.states (kept_at y link.state.0) x)))) (sym same) read)
 
-module _ (g : Game) (functions : ℕ) (routed : AreRouted g functions) (old : Work) (link : Cell) (place moves : ℕ) (freed : IsFreed g old link place moves) (call : Called)
+module _ (g : Game) (functions : ℕ) (routed : AreRouted g functions) (old : Work) (link : Cell) (index moves : ℕ) (freed : IsFreed g old link index moves) (call : Called)
     (is : IsLink g old.blocks.contexts.items link.at.number link.at.context link.pos.0 link.state.0 call) (to : Context) (function : call.function ≡ to.function)
     (read : IsSetOf g to.promise (λ y. holds_by moves (height_back g (found_of g old) link.at.number call link.state.0 y))) where
   abbrev Contexts : List Context
@@ -86,8 +86,8 @@ module _ (g : Game) (functions : ℕ) (routed : AreRouted g functions) (old : Wo
   ready : IsReady g Contexts (found_of g old) link.at.number link.at.context link.pos.0 link.state.0 call moves to.promise
   ready = freed.ready call to.promise is read
 
-  inside : place < length old.store.heights
-  inside = omega (arith, freed.at.place, slot_within g Contexts link.at.number link.at.context link.pos.0 link.state.0 freed.at.is, freed.firm.known.cells)
+  inside : index < length old.store.heights
+  inside = omega (arith, freed.at.index, slot_within g Contexts link.at.number link.at.context link.pos.0 link.state.0 freed.at.is, freed.firm.known.cells)
 
   pub is_needed : IsNeeded g to
   is_needed = subst (λ (f : ℕ). IsNeeded g (context f to.promise)) function
@@ -116,22 +116,22 @@ module _ (g : Game) (functions : ℕ) (routed : AreRouted g functions) (old : Wo
           (a.0, subst (λ (cs : List Context). Contains cs (context other.function a.0)) (sym adds.contexts) (Contains-append_left Contexts (to ∷ []) (context other.function a.0) a.1), a.2);
     }
 
-    at_then : IsCellAt g mid place link
+    at_then : IsCellAt g mid index link
     at_then = record {
       is = subst (λ (cs : List Context). IsCell g cs link.at.number link.at.context link.pos.0 link.state.0) (sym adds.contexts)
           (cell_on g Contexts to link.at.number link.at.context link.pos.0 link.state.0 freed.at.is);
-      place = freed.at.place
+      index = freed.at.index
           ∙ ap (λ (b : ℕ). b + (link.state.0 * positions g link.at.context.function + (link.pos.0 - g.entry link.at.context.function)))
           (sym (base_before g Contexts to link.at.number (let lt = slice_get_within Contexts link.at.number link.at.context is.cell.at in omega (arith, lt))))
           ∙ ap (λ (cs : List Context). slot g cs link.at.number link.at.context.function link.pos.0 link.state.0) (sym adds.contexts);
     }
 
-    tieable_then : (number : ℕ) → slice_get mid.blocks.contexts.items number ≡ Some to → IsTieable g mid link place moves number call.back to
+    tieable_then : (number : ℕ) → slice_get mid.blocks.contexts.items number ≡ Some to → IsTieable g mid link index moves number call.back to
     tieable_then number there = record {
       firm = adds.firm;
       at = at_then;
       low = (let w = adds.written in omega (arith, freed.low, w));
-      free = adds.dues place inside ∙ freed.free;
+      free = adds.dues index inside ∙ freed.free;
       closed = adds.closed freed.closed;
       called = adds.called freed.called;
       standing = adds.others link.at.number link.pos.0 link.state.0 freed.standing;
@@ -152,14 +152,14 @@ module _ (g : Game) (functions : ℕ) (routed : AreRouted g functions) (old : Wo
         (let more = grown_length old.store.heights mid.store.heights (size g to.function) 0 adds.heights in let t = adds.firm.known in omega (arith, more, t.cells, t.blocks.few))
         freed.firm.long.to freed.firm.callers.few
 
-    ties_then : ties_left g mid.blocks.contexts.items (slice_index mid.store.to place) ≡ ties_left g Contexts (slice_index old.store.to place)
+    ties_then : ties_left g mid.blocks.contexts.items (slice_index mid.store.to index) ≡ ties_left g Contexts (slice_index old.store.to index)
     ties_then =
-        ap (λ (cs : List Context). ties_left g cs (slice_index mid.store.to place)) adds.contexts
-        ∙ ap (λ (n : ℕ). ties_left g More n) (grown_before old.store.to mid.store.to (size g to.function) adds.to place (omega (arith, inside, freed.firm.long.to)))
-        ∙ ties_on g Contexts to (slice_index old.store.to place) (freed.firm.callers.few place inside)
+        ap (λ (cs : List Context). ties_left g cs (slice_index mid.store.to index)) adds.contexts
+        ∙ ap (λ (n : ℕ). ties_left g More n) (grown_before old.store.to mid.store.to (size g to.function) adds.to index (omega (arith, inside, freed.firm.long.to)))
+        ∙ ties_on g Contexts to (slice_index old.store.to index) (freed.firm.callers.few index inside)
 
   -- where it was there
-  tieable_now : (number : ℕ) → slice_get Contexts number ≡ Some to → IsTieable g old link place moves number call.back to
+  tieable_now : (number : ℕ) → slice_get Contexts number ≡ Some to → IsTieable g old link index moves number call.back to
   tieable_now number there = record {
     firm = freed.firm;
     at = freed.at;
@@ -173,28 +173,28 @@ module _ (g : Game) (functions : ℕ) (routed : AreRouted g functions) (old : Wo
   }
 
   module _ (mid : Work) (number : ℕ) (numbered : IsNumbered g old mid to number) where
-    pub is_tieable : IsTieable g mid link place moves number call.back to
+    pub is_tieable : IsTieable g mid link index moves number call.back to
     is_tieable = elim numbered.grows [
-      | inl same ↦ subst (λ (w : Work). slice_get w.blocks.contexts.items number ≡ Some to → IsTieable g w link place moves number call.back to) (sym same) (tieable_now number) numbered.there
+      | inl same ↦ subst (λ (w : Work). slice_get w.blocks.contexts.items number ≡ Some to → IsTieable g w link index moves number call.back to) (sym same) (tieable_now number) numbered.there
       | inr adds ↦ tieable_then mid adds number numbered.there
     ]
 
     left : work_left g mid ≡ work_left g old
     left = elim numbered.grows [ inl same ↦ ap (work_left g) same | inr adds ↦ left_then mid adds ]
 
-    ties : ties_left g mid.blocks.contexts.items (slice_index mid.store.to place) ≡ ties_left g Contexts (slice_index old.store.to place)
-    ties = elim numbered.grows [ inl same ↦ ap (λ (w : Work). ties_left g w.blocks.contexts.items (slice_index w.store.to place)) same | inr adds ↦ ties_then mid adds ]
+    ties : ties_left g mid.blocks.contexts.items (slice_index mid.store.to index) ≡ ties_left g Contexts (slice_index old.store.to index)
+    ties = elim numbered.grows [ inl same ↦ ap (λ (w : Work). ties_left g w.blocks.contexts.items (slice_index w.store.to index)) same | inr adds ↦ ties_then mid adds ]
 
     -- less is left to do
-    pub is_less : (0 < slice_index old.store.to place → 0 < moves) → (new : Work) → Finishes g mid new (set mid.store.to place (number + 1)) → work_left g new < work_left g old
+    pub is_less : (0 < slice_index old.store.to index → 0 < moves) → (new : Work) → Finishes g mid new (set mid.store.to index (number + 1)) → work_left g new < work_left g old
     is_less more new finishes =
         let promised : promised_in g (slice_get mid.blocks.contexts.items number) ≡ promised_in g (Some to) = ap (promised_in g) numbered.there in
-        let fewer = fewer_states g functions routed old link place moves freed more call is to.promise read in
-        let less = tied_less g mid new place number finishes.known finishes.to within_mid (omega (arith, promised, fewer, ties)) in
+        let fewer = fewer_states g functions routed old link index moves freed more call is to.promise read in
+        let less = tied_less g mid new index number finishes.known finishes.to within_mid (omega (arith, promised, fewer, ties)) in
         omega (arith, less, left)
       where
-        within_mid : place < length mid.store.to
+        within_mid : index < length mid.store.to
         within_mid =
             let t = is_tieable in
             let lt = slot_within g mid.blocks.contexts.items link.at.number link.at.context link.pos.0 link.state.0 t.at.is in
-            omega (arith, t.at.place, lt, t.firm.known.cells, t.firm.long.to)
+            omega (arith, t.at.index, lt, t.firm.known.cells, t.firm.long.to)

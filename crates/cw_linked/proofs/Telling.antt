@@ -15,12 +15,12 @@ use Rattle.cw_solve.proofs.Slots.{slot_within}
 use Rattle.cw_solve.proofs.Tabling.{there_at}
 use Rattle.cw_linked.specs.declared.work.Work.{Work}
 use Rattle.cw_linked.specs.Founds.{Found, AreAlike, AreRight, Waits, IsClosed, AllClosed, AllCalled, AllStanding}
-use Rattle.cw_linked.specs.Queues.{found_of, AreLong, AreSameBut, AsksForCell, AreHigh, IsLinkAt, AreDue, LowersKeys, AsksTold}
+use Rattle.cw_linked.specs.Queues.{found_of, AreLong, AreSameBut, AsksForCell, AreHigh, IsLinkAt, AreDue, LowersKeys, AsksImplied}
 use Rattle.cw_linked.specs.Steps.{with_keys, Lowers, IsBound}
-use Rattle.cw_linked.specs.Works.{Known, known_of, IsKnown, heights_of, AreUpTo, place_at, value_at}
+use Rattle.cw_linked.specs.Works.{Known, known_of, IsKnown, heights_of, AreUpTo, index_at, value_at}
 use Rattle.cw_linked.proofs.Asking.{chosen_then, chosen_else}
 use Rattle.std.proofs.lemmas.Bool.{cases_Bool as decide}
-use Rattle.cw_linked.proofs.Bounding.{place_is}
+use Rattle.cw_linked.proofs.Bounding.{index_is}
 use Rattle.cw_linked.proofs.Closing.{closed_untold, closed_asked, bound_is_lost}
 use Rattle.cw_linked.proofs.Lowering.{lowers_all_closed, lowers_all_called, lowers_all_standing}
 use Rattle.cw_linked.proofs.Working.{Keys, found_keys, is_asked, cell_lowers, cell_right}
@@ -35,25 +35,25 @@ same_dues g old new same due are k lt some =
     )
 
 -- a number that is written is no higher
-pub up_to_set : (values : List ℕ) (place v most : ℕ) → place < length values → v ≤ most → AreUpTo values most → AreUpTo (set values place v) most
-up_to_set values place v most lt le up k =
-    elim (cases_eq k place) [
-      | inl e ↦ let here : get_or (set values place v) k 0 ≡ v = ap (λ (y : ℕ). get_or (set values place v) y 0) e ∙ get_or-set_same values place v 0 lt in omega (arith, here, le)
-      | inr ne ↦ let there : get_or (set values place v) k 0 ≡ get_or values k 0 = get_or-set_other values place k v 0 ne in let old = up k in omega (arith, there, old)
+pub up_to_set : (values : List ℕ) (index v most : ℕ) → index < length values → v ≤ most → AreUpTo values most → AreUpTo (set values index v) most
+up_to_set values index v most lt le up k =
+    elim (cases_eq k index) [
+      | inl e ↦ let here : get_or (set values index v) k 0 ≡ v = ap (λ (y : ℕ). get_or (set values index v) y 0) e ∙ get_or-set_same values index v 0 lt in omega (arith, here, le)
+      | inr ne ↦ let there : get_or (set values index v) k 0 ≡ get_or values k 0 = get_or-set_other values index k v 0 ne in let old = up k in omega (arith, there, old)
     ]
 
-pub asked_up_to : (heights asked : List ℕ) (place key most : ℕ) → place < length asked → key ≤ most → AreUpTo asked most → AreUpTo (asked_with heights asked place key) most
-asked_up_to heights asked place key most lt le up =
-    elim (decide (nat_eq (slice_index heights place) 0 && (nat_eq (slice_index asked place) 0 || nat_lt key (slice_index asked place)))) [
-      | inl h ↦ subst (λ (y : List ℕ). AreUpTo y most) (sym (chosen_then _ (set asked place key) asked h)) (up_to_set asked place key most lt le up)
-      | inr h ↦ subst (λ (y : List ℕ). AreUpTo y most) (sym (chosen_else _ (set asked place key) asked h)) up
+pub asked_up_to : (heights asked : List ℕ) (index key most : ℕ) → index < length asked → key ≤ most → AreUpTo asked most → AreUpTo (asked_with heights asked index key) most
+asked_up_to heights asked index key most lt le up =
+    elim (decide (nat_eq (slice_index heights index) 0 && (nat_eq (slice_index asked index) 0 || nat_lt key (slice_index asked index)))) [
+      | inl h ↦ subst (λ (y : List ℕ). AreUpTo y most) (sym (chosen_then _ (set asked index key) asked h)) (up_to_set asked index key most lt le up)
+      | inr h ↦ subst (λ (y : List ℕ). AreUpTo y most) (sym (chosen_else _ (set asked index key) asked h)) up
     ]
 
-asked_length : (heights asked : List ℕ) (place key : ℕ) → length (asked_with heights asked place key) ≡ length asked
-asked_length heights asked place key =
-    elim (decide (nat_eq (slice_index heights place) 0 && (nat_eq (slice_index asked place) 0 || nat_lt key (slice_index asked place)))) [
-      | inl h ↦ ap (λ (y : List ℕ). length y) (chosen_then _ (set asked place key) asked h) ∙ length-set asked place key
-      | inr h ↦ ap (λ (y : List ℕ). length y) (chosen_else _ (set asked place key) asked h)
+asked_length : (heights asked : List ℕ) (index key : ℕ) → length (asked_with heights asked index key) ≡ length asked
+asked_length heights asked index key =
+    elim (decide (nat_eq (slice_index heights index) 0 && (nat_eq (slice_index asked index) 0 || nat_lt key (slice_index asked index)))) [
+      | inl h ↦ ap (λ (y : List ℕ). length y) (chosen_then _ (set asked index key) asked h) ∙ length-set asked index key
+      | inr h ↦ ap (λ (y : List ℕ). length y) (chosen_else _ (set asked index key) asked h)
     ]
 
 module _ (g : Game) (functions : ℕ) (routed : AreRouted g functions) (alike : AreAlike g) (old new : Work) (known : IsKnown g (known_of old)) where
@@ -78,12 +78,12 @@ module _ (g : Game) (functions : ℕ) (routed : AreRouted g functions) (alike : 
         (lowers_all_standing g functions routed alike Contexts below (found_of g old) _ _ lowers Rest all)
 
   -- A cell that is lost within so many moves is asked for.
-  module _ (long : AreLong old) (high : AreHigh old) (right : AreRight g Contexts (found_of g old)) (j : ℕ) (d : Context) (r x : ℕ) (is : IsCell g Contexts j d r x) (n place : ℕ)
-      (some : 0 < n) (low : n ≤ old.written + 1) (at : place ≡ slot g Contexts j d.function r x) (lost : Holds g n r x (has d.promise) ≡ false) (asks : AsksForCell old new place (2 * n)) where
-    here : place ≡ place_at g Contexts j r x
-    here = at ∙ sym (place_is g Contexts j d r x is.at)
+  module _ (long : AreLong old) (high : AreHigh old) (right : AreRight g Contexts (found_of g old)) (j : ℕ) (d : Context) (r x : ℕ) (is : IsCell g Contexts j d r x) (n index : ℕ)
+      (some : 0 < n) (low : n ≤ old.written + 1) (at : index ≡ slot g Contexts j d.function r x) (lost : Holds g n r x (has d.promise) ≡ false) (asks : AsksForCell old new index (2 * n)) where
+    here : index ≡ index_at g Contexts j r x
+    here = at ∙ sym (index_is g Contexts j d r x is.at)
 
-    inside : place < length old.store.heights
+    inside : index < length old.store.heights
     inside = omega (arith, at, slot_within g Contexts j d r x is, known.cells)
 
     twice : 0 < 2 * n
@@ -93,8 +93,8 @@ module _ (g : Game) (functions : ℕ) (routed : AreRouted g functions) (alike : 
     is_long =
         let same = ap (λ (t : Known). length t.heights) asks.others.known in
         record {
-          marks = ap (λ (ms : List Bool). length ms) asks.others.marks ∙ long.marks ∙ sym same;
-          asked = ap (λ (y : List ℕ). length y) asks.asked ∙ asked_length old.store.heights old.store.asked place (2 * n) ∙ long.asked ∙ sym same;
+          flags = ap (λ (ms : List Bool). length ms) asks.others.flags ∙ long.flags ∙ sym same;
+          asked = ap (λ (y : List ℕ). length y) asks.asked ∙ asked_length old.store.heights old.store.asked index (2 * n) ∙ long.asked ∙ sym same;
           due = ap (λ (y : List ℕ). length y) asks.due ∙ long.due ∙ sym same;
           to = ap (λ (y : List ℕ). length y) asks.others.to ∙ long.to ∙ sym same;
           waves = ap (λ (y : List ℕ). length y) asks.others.waves ∙ long.waves ∙ sym same;
@@ -102,8 +102,8 @@ module _ (g : Game) (functions : ℕ) (routed : AreRouted g functions) (alike : 
 
     is_high : AreHigh new
     is_high =
-        let few : AreUpTo (asked_with old.store.heights old.store.asked place (2 * n)) (2 * old.written + 2)
-        = asked_up_to old.store.heights old.store.asked place (2 * n) (2 * old.written + 2) (omega (arith, inside, long.asked)) (omega (arith, low)) high.asked in
+        let few : AreUpTo (asked_with old.store.heights old.store.asked index (2 * n)) (2 * old.written + 2)
+        = asked_up_to old.store.heights old.store.asked index (2 * n) (2 * old.written + 2) (omega (arith, inside, long.asked)) (omega (arith, low)) high.asked in
         record {
           heights = subst (λ (t : Known). AreUpTo t.heights t.written) (sym asks.others.known) high.heights;
           asked = subst (λ (t : Known). AreUpTo new.store.asked (2 * t.written + 2)) (sym asks.others.known) (subst (λ (y : List ℕ). AreUpTo y (2 * old.written + 2)) (sym asks.asked) few);
@@ -116,33 +116,33 @@ module _ (g : Game) (functions : ℕ) (routed : AreRouted g functions) (alike : 
       others = asks.others;
       long = is_long;
       high = is_high;
-      lowers = cell_lowers g functions routed alike old new below long j d r x place (2 * n) is here inside twice asks;
+      lowers = cell_lowers g functions routed alike old new below long j d r x index (2 * n) is here inside twice asks;
       right = subst (λ (y : Found). AreRight g Contexts y) (sym (found_keys g old new asks.others))
-          (cell_right g functions routed alike old new below long j d r x place (2 * n) is here inside twice asks right n refl lost);
+          (cell_right g functions routed alike old new below long j d r x index (2 * n) is here inside twice asks right n refl lost);
       dues = same_dues g old new asks.others asks.due;
     }
 
     pub asked_waits : (Keys g old new).height j r x ≡ 0 → Waits ((Keys g old new).asked j r x) (2 * n)
-    asked_waits = (is_asked g functions routed alike old new below long j d r x place (2 * n) is here inside twice asks).here
+    asked_waits = (is_asked g functions routed alike old new below long j d r x index (2 * n) is here inside twice asks).here
 
   -- so is one of which the taken heights tell it
-  pub told_asked : AreLong old → AreHigh old → AreRight g Contexts (found_of g old) → (at : Tabled) (p q : ℕ) → HasCell g old.blocks at p q → (within place : ℕ)
+  pub implied_asked : AreLong old → AreHigh old → AreRight g Contexts (found_of g old) → (at : Tabled) (p q : ℕ) → HasCell g old.blocks at p q → (within index : ℕ)
       → IsBound g (heights_of g (known_of old)) at.number p q at.context.promise within → is_call_in (slice_get g.spots p) ≡ false → 0 < within → within ≤ old.written + 1
-      → place ≡ slot g Contexts at.number at.context.function p q → AsksForCell old new place (2 * within) → AsksTold g old new at p q
-  told_asked long high right at p q is within place bound plain some low here asks =
+      → index ≡ slot g Contexts at.number at.context.function p q → AsksForCell old new index (2 * within) → AsksImplied g old new at p q
+  implied_asked long high right at p q is within index bound plain some low here asks =
       let lost = bound_is_lost g functions routed alike Contexts below (found_of g old) right at.number at.context p q within is plain bound some in
       record {
-        step = asked_step long high right at.number at.context p q is within place some low here lost asks;
+        step = asked_step long high right at.number at.context p q is within index some low here lost asks;
         closed = subst (λ (y : Found). IsClosed g y at.number at.context p q) (sym (found_keys g old new asks.others))
             (closed_asked g functions routed alike Contexts below (Keys g old new) at.number at.context p q within bound
-            (asked_waits long high right at.number at.context p q is within place some low here lost asks));
+            (asked_waits long high right at.number at.context p q is within index some low here lost asks));
         due = asks.due;
       }
 
 -- nothing changes
 pub nothing : (g : Game) (old : Work) → AreLong old → AreHigh old → AreRight g old.blocks.contexts.items (found_of g old) → LowersKeys g old old
 nothing g old long high right = record {
-  others = record { known = refl; to = refl; waves = refl; marks = refl; lists = refl };
+  others = record { known = refl; to = refl; waves = refl; flags = refl; lists = refl };
   long = long;
   high = high;
   lowers = record { cells = λ i c p q is lt. (lt, omega arith); links = λ i c p k call is lt. (lt, omega arith) };
@@ -151,10 +151,10 @@ nothing g old long high right = record {
 }
 
 -- nothing is told of the cell
-pub told_none : (g : Game) (functions : ℕ) (routed : AreRouted g functions) (alike : AreAlike g) (old : Work) → IsKnown g (known_of old) → AreLong old → AreHigh old
+pub implied_none : (g : Game) (functions : ℕ) (routed : AreRouted g functions) (alike : AreAlike g) (old : Work) → IsKnown g (known_of old) → AreLong old → AreHigh old
     → AreRight g old.blocks.contexts.items (found_of g old)
-    → (at : Tabled) (p q : ℕ) → (is_call_in (slice_get g.spots p) ≡ false → IsBound g (heights_of g (known_of old)) at.number p q at.context.promise 0) → AsksTold g old old at p q
-told_none g functions routed alike old known long high right at p q bound = record {
+    → (at : Tabled) (p q : ℕ) → (is_call_in (slice_get g.spots p) ≡ false → IsBound g (heights_of g (known_of old)) at.number p q at.context.promise 0) → AsksImplied g old old at p q
+implied_none g functions routed alike old known long high right at p q bound = record {
   step = nothing g old long high right;
   closed = λ none plain.
       closed_untold g functions routed alike old.blocks.contexts.items (below g functions routed alike old old known) (found_of g old) at.number at.context p q (bound plain) none plain;
@@ -162,9 +162,9 @@ told_none g functions routed alike old known long high right at p q bound = reco
 }
 
 -- a cell that is taken needn't be asked for
-pub told_taken : (g : Game) (old : Work) → AreLong old → AreHigh old → AreRight g old.blocks.contexts.items (found_of g old) → (at : Tabled) (p q height : ℕ)
-    → height ≡ heights_of g (known_of old) at.number p q → 0 < height → AsksTold g old old at p q
-told_taken g old long high right at p q height is some = record {
+pub implied_taken : (g : Game) (old : Work) → AreLong old → AreHigh old → AreRight g old.blocks.contexts.items (found_of g old) → (at : Tabled) (p q height : ℕ)
+    → height ≡ heights_of g (known_of old) at.number p q → 0 < height → AsksImplied g old old at p q
+implied_taken g old long high right at p q height is some = record {
   step = nothing g old long high right;
   closed = λ none plain n lost. let z : heights_of g (known_of old) at.number p q ≡ 0 = none in absurd (omega (arith, is, some, z));
   due = refl;
@@ -177,7 +177,7 @@ two_steps g old mid new a b = record {
     known = b.others.known ∙ a.others.known;
     to = b.others.to ∙ a.others.to;
     waves = b.others.waves ∙ a.others.waves;
-    marks = b.others.marks ∙ a.others.marks;
+    flags = b.others.flags ∙ a.others.flags;
     lists = b.others.lists ∙ a.others.lists;
   };
   long = b.long;

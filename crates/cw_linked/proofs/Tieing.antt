@@ -21,9 +21,9 @@ use Rattle.cw_linked.specs.Queues.{found_of, AreLong, AreHigh, LowersKeys, IsCel
 use Rattle.cw_linked.specs.Returns.{Returns, AsksReturn}
 use Rattle.cw_linked.specs.Steps.{IsSame, CallsBy, IsIt}
 use Rattle.cw_linked.specs.Tied.{CallsFrom}
-use Rattle.cw_linked.specs.Works.{Known, known_of, IsKnown, heights_of, place_at, value_at}
+use Rattle.cw_linked.specs.Works.{Known, known_of, IsKnown, heights_of, index_at, value_at}
 use Rattle.cw_linked.proofs.Backs.{stands_on}
-use Rattle.cw_linked.proofs.Bounding.{place_is}
+use Rattle.cw_linked.proofs.Bounding.{index_is}
 use Rattle.cw_linked.proofs.Callers.{is_tied}
 use Rattle.cw_linked.proofs.Closing.{called_none}
 use Rattle.cw_linked.proofs.Least.{link_of, back_of}
@@ -32,17 +32,17 @@ use Rattle.cw_linked.proofs.Taking.{one_call}
 use Rattle.cw_linked.proofs.Telling.{below, still_standing, still_called, nothing}
 use Rattle.cw_linked.proofs.Working.{found_keys}
 
-pub tied_callers : (old new : Work) (place number : ℕ) → AreCallers old → place < length old.store.heights → number < length old.blocks.contexts.items
+pub tied_callers : (old new : Work) (index number : ℕ) → AreCallers old → index < length old.store.heights → number < length old.blocks.contexts.items
     → length old.store.to ≡ length old.store.heights
-    → known_of new ≡ known_of old → length new.store.lists ≡ length old.store.lists → new.store.to ≡ set old.store.to place (number + 1) → AreCallers new
-tied_callers old new place number c inside few long known lists to = record {
+    → known_of new ≡ known_of old → length new.store.lists ≡ length old.store.lists → new.store.to ≡ set old.store.to index (number + 1) → AreCallers new
+tied_callers old new index number c inside few long known lists to = record {
   more = (let e = ap (λ (t : Known). length t.blocks.contexts.items) known in omega (arith, e, lists, c.more));
   few = λ k lt. subst (λ (ys : List ℕ). slice_index ys k ≤ length new.blocks.contexts.items) (sym to)
-      (subst (λ (t : Known). slice_index (set old.store.to place (number + 1)) k ≤ length t.blocks.contexts.items) (sym known)
-      (elim (cases_eq k place) [
-        | inl e ↦ let v : slice_index (set old.store.to place (number + 1)) k ≡ number + 1 = ap (slice_index (set old.store.to place (number + 1))) e
-            ∙ get_or-set_same old.store.to place (number + 1) 0 (omega (arith, inside, long)) in omega (arith, v, few)
-        | inr ne ↦ let v = get_or-set_other old.store.to place k (number + 1) 0 ne in let f = c.few k (old_length k lt) in omega (arith, v, f)
+      (subst (λ (t : Known). slice_index (set old.store.to index (number + 1)) k ≤ length t.blocks.contexts.items) (sym known)
+      (elim (cases_eq k index) [
+        | inl e ↦ let v : slice_index (set old.store.to index (number + 1)) k ≡ number + 1 = ap (slice_index (set old.store.to index (number + 1))) e
+            ∙ get_or-set_same old.store.to index (number + 1) 0 (omega (arith, inside, long)) in omega (arith, v, few)
+        | inr ne ↦ let v = get_or-set_other old.store.to index k (number + 1) 0 ne in let f = c.few k (old_length k lt) in omega (arith, v, f)
       ]));
 }
   where
@@ -51,9 +51,9 @@ tied_callers old new place number c inside few long known lists to = record {
 
 module _ (g : Game) (functions : ℕ) (routed : AreRouted g functions) (alike : AreAlike g) where
   -- A callee that isn't lost from a state has no call to ask for.
-  pub unlost_call : (w : Work) → IsKnown g (known_of w) → AreLong w → AreHigh w → AreRight g w.blocks.contexts.items (found_of g w) → (place : ℕ) (cell : Cell)
-      → heights_of g (known_of w) cell.at.number cell.pos.0 cell.state.0 ≡ 0 → AsksCaller g w w place cell
-  unlost_call w known long high right place cell none = record {
+  pub unlost_call : (w : Work) → IsKnown g (known_of w) → AreLong w → AreHigh w → AreRight g w.blocks.contexts.items (found_of g w) → (index : ℕ) (cell : Cell)
+      → heights_of g (known_of w) cell.at.number cell.pos.0 cell.state.0 ≡ 0 → AsksCaller g w w index cell
+  unlost_call w known long high right index cell none = record {
     step = nothing g w long high right;
     called = λ i c p q call is es goes at.
         called_none g functions routed alike w.blocks.contexts.items (below g functions routed alike w w known) (found_of g w) i p q call es
@@ -89,11 +89,11 @@ module _ (g : Game) (functions : ℕ) (routed : AreRouted g functions) (alike : 
     mid_known : IsKnown g (known_of mid)
     mid_known = subst (IsKnown g) unchanged known
 
-    pub one_from : (place : ℕ) (link : Cell) → IsCellAt g w place link → (cell : Cell) → slice_get Contexts cell.at.number ≡ Some cell.at.context → cell.pos.0 ≡ g.entry cell.at.context.function
-        → slice_index w.store.to place ≡ suc cell.at.number → AsksCaller g mid new place cell
+    pub one_from : (index : ℕ) (link : Cell) → IsCellAt g w index link → (cell : Cell) → slice_get Contexts cell.at.number ≡ Some cell.at.context → cell.pos.0 ≡ g.entry cell.at.context.function
+        → slice_index w.store.to index ≡ suc cell.at.number → AsksCaller g mid new index cell
         → AllCalled g Contexts (found_of g mid) (CallsFrom g link.at.number link.pos.0 link.state.0 cell.state.0)
         → AllCalled g Contexts (found_of g new) (CallsFrom g link.at.number link.pos.0 link.state.0 (cell.state.0 + 1))
-    one_from place link at cell callee entry goes asks all i c p q is =
+    one_from index link at cell callee entry goes asks all i c p q is =
         elim (later i c p q is) [
           | inl called ↦ inl called
           | inr rest ↦ elim (cases_lt cell.state.0 q) [
@@ -111,10 +111,10 @@ module _ (g : Game) (functions : ℕ) (routed : AreRouted g functions) (alike : 
             → IsCalled g (found_of g new) i p q
         asked call es same state =
             let k = class_of g call.split q in
-            let spot : place_at g Contexts i p k ≡ place_at g Contexts link.at.number link.pos.0 link.state.0
-            = ap (λ (y : ℕ). place_at g Contexts y p k) same.0 ∙ ap (λ (y : ℕ). place_at g Contexts link.at.number y k) same.1
-            ∙ ap (λ (y : ℕ). place_at g Contexts link.at.number link.pos.0 y) same.2 in
-            let here : place ≡ place_at g Contexts i p k = at.place ∙ sym (place_is g Contexts link.at.number link.at.context link.pos.0 link.state.0 at.is.at) ∙ sym spot in
+            let spot : index_at g Contexts i p k ≡ index_at g Contexts link.at.number link.pos.0 link.state.0
+            = ap (λ (y : ℕ). index_at g Contexts y p k) same.0 ∙ ap (λ (y : ℕ). index_at g Contexts link.at.number y k) same.1
+            ∙ ap (λ (y : ℕ). index_at g Contexts link.at.number link.pos.0 y) same.2 in
+            let here : index ≡ index_at g Contexts i p k = at.index ∙ sym (index_is g Contexts link.at.number link.at.context link.pos.0 link.state.0 at.is.at) ∙ sym spot in
             let value : value_at g Contexts w.store.to i p k ≡ suc cell.at.number = ap (slice_index w.store.to) (sym here) ∙ goes in
             let now : value_at g Contexts mid.store.to i p k ≡ suc cell.at.number = ap (λ (ys : List ℕ). value_at g Contexts ys i p k) step.others.to ∙ value in
             let there : value_at g mid.blocks.contexts.items mid.store.to i p k ≡ suc cell.at.number =
@@ -125,7 +125,7 @@ module _ (g : Game) (functions : ℕ) (routed : AreRouted g functions) (alike : 
             let l = step.right.linked i c p k call linked (is_tied (value_at g mid.blocks.contexts.items mid.store.to i p k) cell.at.number there) in
             let function : context call.function l.0 ≡ cell.at.context = same_Some _ _ (sym l.1 ∙ ap (slice_get Contexts) to ∙ callee) in
             let begins : g.entry call.function ≡ cell.pos.0 = ap (λ (y : Context). g.entry y.function) function ∙ sym entry in
-            asks.called i c p q call is_mid es (to, begins, state) (subst (λ (t : Known). place ≡ place_at g t.blocks.contexts.items i p k) unchanged here)
+            asks.called i c p q call is_mid es (to, begins, state) (subst (λ (t : Known). index ≡ index_at g t.blocks.contexts.items i p k) unchanged here)
 
     -- A link, state by state.
     module _ (link : Cell) (back : ℕ) (returns : Returns g link.pos.0 back) (cell : Cell) (asks : AsksReturn g mid new cell link.pos.0) (at : cell.at ≡ link.at) (pos : cell.pos.0 ≡ back) where

@@ -92,16 +92,16 @@ module _ (g : Game) (contexts : List Context) where
       ]
 
   pub changes_left : (changes : Changes) (s : Found) → AreChanges g changes → (j r x : ℕ) → ((i : ℕ) (c : Context) (p q : ℕ) → IsCell g contexts i c p q → p < length g.spots)
-      → AllClosed g contexts s (ChangesFor g j r x) → AllClosed g contexts s (AreLeft (change_pairs changes) Nothing j (list_at changes.pairs.lists (list_of g changes.marks r x)))
+      → AllClosed g contexts s (ChangesFor g j r x) → AllClosed g contexts s (AreLeft (change_pairs changes) Nothing j (list_at changes.pairs.lists (list_of g changes.flags r x)))
   changes_left changes s are j r x within all i c p q is =
       elim (all i c p q is) [
         | inl closed ↦ inl closed
         | inr rest ↦ inr (inr (rest.1.0, (are.leads p q r x (within i c p q is) is.state rest.0 rest.1.1).0))
       ]
 
-  -- none, where the position isn't marked
+  -- none, where the position isn't flagged
   pub unmarked_left : (changes : Changes) (s : Found) → AreChanges g changes → (j r x : ℕ) → ((i : ℕ) (c : Context) (p q : ℕ) → IsCell g contexts i c p q → p < length g.spots)
-      → get_or changes.marks r false ≡ false → AllClosed g contexts s (ChangesFor g j r x) → AllClosed g contexts s Nothing
+      → get_or changes.flags r false ≡ false → AllClosed g contexts s (ChangesFor g j r x) → AllClosed g contexts s Nothing
   unmarked_left changes s are j r x within unmarked all i c p q is =
       elim (all i c p q is) [
         | inl closed ↦ inl closed

@@ -11,7 +11,7 @@ use Rattle.cw_linked.specs.declared.work.Work.{Work}
 use Rattle.cw_linked.specs.Founds.{Found, AreAlike, IsLink, IsShrinking, AreRight}
 use Rattle.cw_linked.specs.Queues.{found_of, AreSameBut, AsksForCell, AsksForLink, AreLong}
 use Rattle.cw_linked.specs.Steps.{with_keys, Lowers, AsksCell, AsksLink}
-use Rattle.cw_linked.specs.Works.{Known, known_of, heights_of, value_at, place_at}
+use Rattle.cw_linked.specs.Works.{Known, known_of, heights_of, value_at, index_at}
 use Rattle.cw_linked.proofs.Asking.{asks_for_cell, asks_for_link}
 use Rattle.cw_linked.proofs.Lowering.{asks_lowers, asks_right, link_lowers, link_right}
 
@@ -50,8 +50,8 @@ module _ (g : Game) where
 module _ (g : Game) (functions : ℕ) (routed : AreRouted g functions) (alike : AreAlike g) (old new : Work)
     (below : (i : ℕ) (c : Context) → slice_get old.blocks.contexts.items i ≡ Some c → c.function < functions) (long : AreLong old) where
   -- a cell is asked for
-  module _ (j : ℕ) (d : Context) (r x place key : ℕ) (cell : IsCell g old.blocks.contexts.items j d r x) (at : place ≡ place_at g old.blocks.contexts.items j r x)
-      (within : place < length old.store.heights) (some : 0 < key) (asks : AsksForCell old new place key) where
+  module _ (j : ℕ) (d : Context) (r x index key : ℕ) (cell : IsCell g old.blocks.contexts.items j d r x) (at : index ≡ index_at g old.blocks.contexts.items j r x)
+      (within : index < length old.store.heights) (some : 0 < key) (asks : AsksForCell old new index key) where
     abbrev asked : ℕ → ℕ → ℕ → ℕ
     asked = value_at g old.blocks.contexts.items new.store.asked
 
@@ -76,8 +76,8 @@ module _ (g : Game) (functions : ℕ) (routed : AreRouted g functions) (alike : 
         (asks_right g functions routed alike old.blocks.contexts.items below (found_of g old) j d r x cell asked key is_asked right n e lost)
 
   -- a link is asked for
-  module _ (j : ℕ) (d : Context) (r x place key : ℕ) (call : Called) (link : IsLink g old.blocks.contexts.items j d r x call) (at : place ≡ place_at g old.blocks.contexts.items j r x)
-      (within : place < length old.store.heights) (some : 0 < key) (asks : AsksForLink old new place key) where
+  module _ (j : ℕ) (d : Context) (r x index key : ℕ) (call : Called) (link : IsLink g old.blocks.contexts.items j d r x call) (at : index ≡ index_at g old.blocks.contexts.items j r x)
+      (within : index < length old.store.heights) (some : 0 < key) (asks : AsksForLink old new index key) where
     abbrev due : ℕ → ℕ → ℕ → ℕ
     due = value_at g old.blocks.contexts.items new.store.due
 

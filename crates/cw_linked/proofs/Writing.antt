@@ -1,4 +1,4 @@
--- What is written at a place, as a step of what is found.
+-- What is written at an index, as a step of what is found.
 use Rattle.std.proofs.Common.{◌≡◌, ℕ, suc, ◌-◌, ◌<◌, List, not, length, set, sym, ap, ◌∙◌, arith}
 use Rattle.std.specs.Prelude.{nat_eq}
 use Rattle.std.proofs.lemmas.Bool.{ne_eqb}
@@ -8,14 +8,14 @@ use Rattle.cw_solve.specs.declared.contexts.Context.{Context}
 use Rattle.cw_solve.specs.Rounds.{IsCell}
 use Rattle.cw_linked.specs.Founds.{Found, IsLink}
 use Rattle.cw_linked.specs.Steps.{Takes, Frees, Ties}
-use Rattle.cw_linked.specs.Works.{place_at, value_at}
+use Rattle.cw_linked.specs.Works.{index_at, value_at}
 use Rattle.cw_linked.proofs.Asking.{value_here, value_other}
 
 module _ (g : Game) (contexts : List Context) (s : Found) (j : ℕ) (d : Context) (r x : ℕ) where
   -- a height, and no key
-  pub takes_written : (heights asked : List ℕ) (n : ℕ) → IsCell g contexts j d r x → place_at g contexts j r x < length heights → place_at g contexts j r x < length asked
+  pub takes_written : (heights asked : List ℕ) (n : ℕ) → IsCell g contexts j d r x → index_at g contexts j r x < length heights → index_at g contexts j r x < length asked
       → ((i p q : ℕ) → s.height i p q ≡ value_at g contexts heights i p q) → ((i p q : ℕ) → s.asked i p q ≡ value_at g contexts asked i p q)
-      → Takes g contexts s (value_at g contexts (set heights (place_at g contexts j r x) n)) (value_at g contexts (set asked (place_at g contexts j r x) 0)) j r x n
+      → Takes g contexts s (value_at g contexts (set heights (index_at g contexts j r x) n)) (value_at g contexts (set asked (index_at g contexts j r x) 0)) j r x n
   takes_written heights asked n cell within inside are_heights are_asked = record {
     here = value_here g contexts heights n j r x within;
     done = value_here g contexts asked 0 j r x inside;
@@ -25,19 +25,19 @@ module _ (g : Game) (contexts : List Context) (s : Found) (j : ℕ) (d : Context
 
   module _ (call : Called) (link : IsLink g contexts j d r x call) where
     -- no key of a link
-    pub frees_written : (due : List ℕ) → place_at g contexts j r x < length due → ((i p k : ℕ) → s.due i p k ≡ value_at g contexts due i p k)
-        → Frees g contexts s (value_at g contexts (set due (place_at g contexts j r x) 0)) j r x
+    pub frees_written : (due : List ℕ) → index_at g contexts j r x < length due → ((i p k : ℕ) → s.due i p k ≡ value_at g contexts due i p k)
+        → Frees g contexts s (value_at g contexts (set due (index_at g contexts j r x) 0)) j r x
     frees_written due within are_due = record {
       done = value_here g contexts due 0 j r x within;
       others = λ i c p k other is apart. value_other g contexts due 0 i c p k j d r x is.cell link.cell apart ∙ sym (are_due i p k);
     }
 
     -- the context of a link, and its number of moves
-    pub ties_written : (to waves : List ℕ) (callee n : ℕ) → place_at g contexts j r x < length to → place_at g contexts j r x < length waves
+    pub ties_written : (to waves : List ℕ) (callee n : ℕ) → index_at g contexts j r x < length to → index_at g contexts j r x < length waves
         → ((i p k : ℕ) → s.to i p k ≡ value_at g contexts to i p k - 1) → ((i p k : ℕ) → s.tied i p k ≡ not (nat_eq (value_at g contexts to i p k) 0))
         → ((i p k : ℕ) → s.wave i p k ≡ value_at g contexts waves i p k)
-        → Ties g contexts s (λ i p k. value_at g contexts (set to (place_at g contexts j r x) (suc callee)) i p k - 1) (value_at g contexts (set waves (place_at g contexts j r x) n))
-        (λ i p k. not (nat_eq (value_at g contexts (set to (place_at g contexts j r x) (suc callee)) i p k) 0)) j r x callee n
+        → Ties g contexts s (λ i p k. value_at g contexts (set to (index_at g contexts j r x) (suc callee)) i p k - 1) (value_at g contexts (set waves (index_at g contexts j r x) n))
+        (λ i p k. not (nat_eq (value_at g contexts (set to (index_at g contexts j r x) (suc callee)) i p k) 0)) j r x callee n
     ties_written to waves callee n within inside are_to are_tied are_waves =
         let here = value_here g contexts to (suc callee) j r x within in
         record {

@@ -4,7 +4,7 @@ use Rattle.cw_game.specs.declared.spots.Spot.{Spot}
 use Rattle.cw_game.specs.declared.spots.Spot.TheVariants.{Label, Exit}
 use Rattle.cw_game.specs.Games.{Game}
 use Rattle.cw_game.specs.Pairs.{Called, call_in}
-use Rattle.cw_links.specs.Marks.{is_marked}
+use Rattle.cw_links.specs.Flags.{is_flagged}
 use Rattle.cw_links.specs.Stores.{Stored}
 use Rattle.cw_solve.specs.declared.contexts.Context.{Context}
 use Rattle.cw_solve.specs.declared.table.Blocks.{Blocks}
@@ -16,10 +16,10 @@ use Rattle.cw_solve.specs.Tables.{is_none, HasCell}
 use Rattle.cw_linked.specs.declared.work.Work.{Work}
 use Rattle.cw_linked.specs.Calls.{AreCallers}
 use Rattle.cw_linked.specs.Founds.{class_of, IsLink, AreRight, IsClosed, Nothing, AllClosed, AllCalled, AllStanding}
-use Rattle.cw_linked.specs.Queues.{found_of, AreMarked, AreLong, AreHigh, AreDue, AreSameBut, LowersKeys}
+use Rattle.cw_linked.specs.Queues.{found_of, AreFlagged, AreLong, AreHigh, AreDue, AreSameBut, LowersKeys}
 use Rattle.cw_linked.specs.Steps.{IsIt}
 use Rattle.cw_linked.specs.Tied.{IsFirm}
-use Rattle.cw_linked.specs.Works.{Known, known_of, place_at, heights_of}
+use Rattle.cw_linked.specs.Works.{Known, known_of, index_at, heights_of}
 
 -- what is known of cells, whatever their contexts are
 pub record IsLaid (g : Game) (t : Known) : Type 0 where
@@ -28,44 +28,44 @@ pub record IsLaid (g : Game) (t : Known) : Type 0 where
   pub cells : length t.heights ≡ cells_of g t.blocks.contexts.items
   pub counted : t.written + count_by is_none t.heights ≡ length t.heights
 
--- so many places more, of which none has a height and nothing waits, and links that go nowhere
-pub record PushesPlaces (old new : Stored) (many : ℕ) : Type 0 where
+-- so many indices more, of which none has a height and nothing waits, and links that go nowhere
+pub record PushesIndices (old new : Stored) (many : ℕ) : Type 0 where
   pub heights : new.heights ≡ old.heights ++ replicate many 0
   pub asked : new.asked ≡ old.asked ++ replicate many 0
   pub due : new.due ≡ old.due ++ replicate many 0
   pub to : new.to ≡ old.to ++ replicate many 0
   pub waves : new.waves ≡ old.waves ++ replicate many 0
-  pub long : length new.marks ≡ length old.marks + many
-  pub kept : (k : ℕ) → k < length old.marks → is_marked new.marks k ≡ is_marked old.marks k
+  pub long : length new.flags ≡ length old.flags + many
+  pub kept : (k : ℕ) → k < length old.flags → is_flagged new.flags k ≡ is_flagged old.flags k
   pub lists : length old.lists ≤ length new.lists
 
--- of so many new places, for a function's positions in one state, those of links are marked
-abbrev pub MarksState : Game → (old new : List Bool) (function x many : ℕ) → Type 0
-MarksState g old new function x many =
+-- of so many new indices, for a function's positions in one state, those of links are flagged
+abbrev pub FlagsState : Game → (old new : List Bool) (function x many : ℕ) → Type 0
+FlagsState g old new function x many =
     (p : ℕ) (call : Called) → IsOf g function p → call_in (slice_get g.spots p) ≡ Some call → class_of g call.split x ≡ x
-    → p - g.entry function < many → is_marked new (length old + (p - g.entry function)) ≡ true
+    → p - g.entry function < many → is_flagged new (length old + (p - g.entry function)) ≡ true
 
--- of so many new places, for a function's pairs state by state, those of links are marked
-abbrev pub MarksLinks : Game → (old new : List Bool) (function many : ℕ) → Type 0
-MarksLinks g old new function many =
+-- of so many new indices, for a function's pairs state by state, those of links are flagged
+abbrev pub FlagsLinks : Game → (old new : List Bool) (function many : ℕ) → Type 0
+FlagsLinks g old new function many =
     (p x : ℕ) (call : Called) → IsOf g function p → call_in (slice_get g.spots p) ≡ Some call → class_of g call.split x ≡ x
-    → x * positions g function + (p - g.entry function) < many → is_marked new (length old + (x * positions g function + (p - g.entry function))) ≡ true
+    → x * positions g function + (p - g.entry function) < many → is_flagged new (length old + (x * positions g function + (p - g.entry function))) ≡ true
 
--- So many places before a position are still to be added, and then so many before the next: none, where it is a link's, which is added behind them; or one more, where it isn't.
+-- So many indices before a position are still to be added, and then so many before the next: none, where it is a link's, which is added behind them; or one more, where it isn't.
 abbrev pub PushesNext : Game → (old new : Stored) → (p x plain more : ℕ) → Type 0
 PushesNext g old new p x plain more =
-    ((more ≡ 0) × PushesPlaces old new (plain + 1) × (is_marked new.marks (length old.marks + plain) ≡ true))
+    ((more ≡ 0) × PushesIndices old new (plain + 1) × (is_flagged new.flags (length old.flags + plain) ≡ true))
     ⊎ ((more ≡ plain + 1) × (new ≡ old) × ((call : Called) → call_in (slice_get g.spots p) ≡ Some call → class_of g call.split x ≡ x → ⊥))
 
--- a function's places in one state up to a position, but for so many before it, which are no links'
+-- a function's indices in one state up to a position, but for so many before it, which are no links'
 pub record ArePushed (g : Game) (old new : Stored) (function x p plain : ℕ) : Type 0 where
   pub ahead : g.entry function + plain ≤ p
-  pub places : PushesPlaces old new (p - g.entry function - plain)
-  pub marked : (r : ℕ) (call : Called) → IsOf g function r → r + plain < p → call_in (slice_get g.spots r) ≡ Some call → class_of g call.split x ≡ x
-      → is_marked new.marks (length old.marks + (r - g.entry function)) ≡ true
+  pub indices : PushesIndices old new (p - g.entry function - plain)
+  pub flagged : (r : ℕ) (call : Called) → IsOf g function r → r + plain < p → call_in (slice_get g.spots r) ≡ Some call → class_of g call.split x ≡ x
+      → is_flagged new.flags (length old.flags + (r - g.entry function)) ≡ true
   pub rest : (r : ℕ) (call : Called) → r < p → p ≤ r + plain → call_in (slice_get g.spots r) ≡ Some call → class_of g call.split x ≡ x → ⊥
 
--- a context is added, whose cells begin at this place
+-- a context is added, whose cells begin at this index
 pub record PushesContext (old new : Blocks) (context : Context) (base : ℕ) : Type 0 where
   pub contexts : new.contexts.items ≡ old.contexts.items ++ context ∷ []
   pub bases : new.bases.items ≡ old.bases.items ++ base ∷ []
@@ -75,8 +75,8 @@ pub record Pushes (g : Game) (old new : Work) (context : Context) (many : ℕ) :
   pub contexts : new.blocks.contexts.items ≡ old.blocks.contexts.items ++ context ∷ []
   pub bases : new.blocks.bases.items ≡ old.blocks.bases.items ++ length old.store.heights ∷ []
   pub written : new.written ≡ old.written
-  pub places : PushesPlaces old.store new.store many
-  pub marked : MarksLinks g old.store.marks new.store.marks context.function many
+  pub indices : PushesIndices old.store new.store many
+  pub flagged : FlagsLinks g old.store.flags new.store.flags context.function many
   pub lists : length old.blocks.contexts.items + 1 < length new.store.lists
 
 -- what is lost begins at a label, which may be bad, and at an exit
@@ -89,9 +89,9 @@ loss_begins_in _ = false
 abbrev pub HasNoHeights : Game → Known → Tabled → Type 0
 HasNoHeights g t at = (p q : ℕ) → HasCell g t.blocks at p q → heights_of g t at.number p q ≡ 0
 
--- the place of a link of a context
+-- the index of a link of a context
 abbrev pub IsLinkOf : Game → List Context → (i : ℕ) → Context → ℕ → Type 0
-IsLinkOf g contexts i c k = (p : ℕ) × (x : ℕ) × (call : Called) × IsLink g contexts i c p x call × (k ≡ place_at g contexts i p x)
+IsLinkOf g contexts i c k = (p : ℕ) × (x : ℕ) × (call : Called) × IsLink g contexts i c p x call × (k ≡ index_at g contexts i p x)
 
 -- Pairs of a position and a state: one of them, those of a position at states before one, all of a position, those at positions before one, each.
 abbrev pub ThePair : (r y : ℕ) → ℕ → ℕ → Type 0
@@ -114,7 +114,7 @@ pub record FreesLinks (g : Game) (old new : Work) (i : ℕ) (c : Context) (These
   pub others : AreSameBut old new
   pub asked : new.store.asked ≡ old.store.asked
   pub long : length new.store.due ≡ length old.store.due
-  pub links : (p x : ℕ) (call : Called) → IsLink g old.blocks.contexts.items i c p x call → These p x → slice_index new.store.due (place_at g old.blocks.contexts.items i p x) ≡ 1
+  pub links : (p x : ℕ) (call : Called) → IsLink g old.blocks.contexts.items i c p x call → These p x → slice_index new.store.due (index_at g old.blocks.contexts.items i p x) ≡ 1
   pub rest : (k : ℕ) → (slice_index new.store.due k ≡ slice_index old.store.due k) ⊎ (IsLinkOf g old.blocks.contexts.items i c k × (slice_index new.store.due k ≡ 1))
 
 -- the cells of a context at these pairs are asked for
@@ -127,7 +127,7 @@ pub record AsksCells (g : Game) (old new : Work) (j : ℕ) (c : Context) (These 
 pub record IsOpen (g : Game) (w : Work) : Type 0 where
   pub laid : IsLaid g (known_of w)
   pub long : AreLong w
-  pub marked : AreMarked g w
+  pub flagged : AreFlagged g w
   pub high : AreHigh w
   pub callers : AreCallers w
   pub dues : AreDue g w

@@ -5,7 +5,7 @@ use Rattle.cw_certs.specs.declared.moves.Move.{Move}
 use Rattle.cw_game.specs.Games.{Game}
 use Rattle.cw_game.specs.Pairs.{Called, call_in}
 use Rattle.cw_links.specs.Lists.{Chained, list_at}
-use Rattle.cw_links.specs.Marks.{is_marked, number}
+use Rattle.cw_links.specs.Flags.{is_flagged, number}
 use Rattle.cw_product.specs.Moves.{pos_id, next_at}
 use Rattle.cw_linked.specs.declared.edges.Pair.{Pair}
 use Rattle.cw_linked.specs.declared.edges.Source.{Source}
@@ -39,58 +39,58 @@ pub record AreSourcesTo (g : Game) (sources : Chained Source) (m : ℕ) : Type 0
 abbrev pub AreLed : Game → (ℕ → ℕ → ℕ → ℕ → Type 0) → (m n : ℕ) → Type 0
 AreLed g Is m n = (p q r x : ℕ) → (p < m) ⊎ ((p ≡ m) × (q < n)) → q < g.states.count → keeps_state (slice_get g.spots p) ≡ false → Leads g p q r x → Is p q r x
 
--- the position to which a move leads is marked
+-- the position to which a move leads is flagged
 abbrev pub IsReached : List Bool → (p q r x : ℕ) → Type 0
-IsReached marks p q r x = is_marked marks r ≡ true
+IsReached flags p q r x = is_flagged flags r ≡ true
 
--- what was marked stays marked, and the position to which this move leads is marked
-pub record MarksMove (g : Game) (old new : List Bool) (p q : ℕ) (by : Move) : Type 0 where
+-- what was flagged stays flagged, and the position to which this move leads is flagged
+pub record FlagsMove (g : Game) (old new : List Bool) (p q : ℕ) (by : Move) : Type 0 where
   pub long : length new ≡ length old
-  pub keeps : (r : ℕ) → is_marked old r ≡ true → is_marked new r ≡ true
-  pub leads : (r x : ℕ) → next_at g p q by ≡ Some (r, x) → is_marked new r ≡ true
+  pub keeps : (r : ℕ) → is_flagged old r ≡ true → is_flagged new r ≡ true
+  pub leads : (r x : ℕ) → next_at g p q by ≡ Some (r, x) → is_flagged new r ≡ true
 
 -- of all moves at its position
-pub record MarksMoves (g : Game) (old new : List Bool) (p q : ℕ) : Type 0 where
+pub record FlagsMoves (g : Game) (old new : List Bool) (p q : ℕ) : Type 0 where
   pub long : length new ≡ length old
-  pub keeps : (r : ℕ) → is_marked old r ≡ true → is_marked new r ≡ true
-  pub leads : (r x : ℕ) → Leads g p q r x → is_marked new r ≡ true
+  pub keeps : (r : ℕ) → is_flagged old r ≡ true → is_flagged new r ≡ true
+  pub leads : (r x : ℕ) → Leads g p q r x → is_flagged new r ≡ true
 
--- the positions to which those before this pair lead are marked
-pub record AreReachedTo (g : Game) (marks : List Bool) (m n : ℕ) : Type 0 where
-  pub long : length marks ≡ length g.spots
-  pub leads : AreLed g (IsReached marks) m n
+-- the positions to which those before this pair lead are flagged
+pub record AreReachedTo (g : Game) (flags : List Bool) (m n : ℕ) : Type 0 where
+  pub long : length flags ≡ length g.spots
+  pub leads : AreLed g (IsReached flags) m n
 
 -- and to which all lead
-pub record AreReached (g : Game) (marks : List Bool) : Type 0 where
-  pub long : length marks ≡ length g.spots
-  pub leads : (p q r x : ℕ) → p < length g.spots → q < g.states.count → keeps_state (slice_get g.spots p) ≡ false → Leads g p q r x → is_marked marks r ≡ true
+pub record AreReached (g : Game) (flags : List Bool) : Type 0 where
+  pub long : length flags ≡ length g.spots
+  pub leads : (p q r x : ℕ) → p < length g.spots → q < g.states.count → keeps_state (slice_get g.spots p) ≡ false → Leads g p q r x → is_flagged flags r ≡ true
 
 -- the pair (p, q) is in the list of (r, x)
 abbrev pub IsListed : Game → List Bool → Chained Pair → (p q r x : ℕ) → Type 0
-IsListed g marks pairs p q r x = HasIn pairs (list_of g marks r x) (pair_of p q)
+IsListed g flags pairs p q r x = HasIn pairs (list_of g flags r x) (pair_of p q)
 
 -- what was in stays in, and a pair is in the list of the one to which this move leads
-pub record AddsMove (g : Game) (marks : List Bool) (old new : Chained Pair) (p q : ℕ) (by : Move) : Type 0 where
+pub record AddsMove (g : Game) (flags : List Bool) (old new : Chained Pair) (p q : ℕ) (by : Move) : Type 0 where
   pub lists : length new.lists ≡ length old.lists
   pub grows : length new.values ≤ length old.values + 1
   pub fine : AreFine g old → AreFine g new
   pub keeps : (l : ℕ) (pair : Pair) → HasIn old l pair → HasIn new l pair
-  pub leads : (r x : ℕ) → next_at g p q by ≡ Some (r, x) → IsListed g marks new p q r x
+  pub leads : (r x : ℕ) → next_at g p q by ≡ Some (r, x) → IsListed g flags new p q r x
 
 -- of all moves at its position
-pub record AddsMoves (g : Game) (marks : List Bool) (old new : Chained Pair) (p q : ℕ) : Type 0 where
+pub record AddsMoves (g : Game) (flags : List Bool) (old new : Chained Pair) (p q : ℕ) : Type 0 where
   pub lists : length new.lists ≡ length old.lists
   pub grows : length new.values ≤ length old.values + 2
   pub fine : AreFine g old → AreFine g new
   pub keeps : (l : ℕ) (pair : Pair) → HasIn old l pair → HasIn new l pair
-  pub leads : (r x : ℕ) → Leads g p q r x → IsListed g marks new p q r x
+  pub leads : (r x : ℕ) → Leads g p q r x → IsListed g flags new p q r x
 
 -- the pairs before this one are in
-pub record AreChangesTo (g : Game) (marks : List Bool) (pairs : Chained Pair) (m n : ℕ) : Type 0 where
-  pub lists : length pairs.lists ≡ number marks * g.states.count
+pub record AreChangesTo (g : Game) (flags : List Bool) (pairs : Chained Pair) (m n : ℕ) : Type 0 where
+  pub lists : length pairs.lists ≡ number flags * g.states.count
   pub few : length pairs.values ≤ (m * g.states.count + n) * 2
   pub fine : AreFine g pairs
-  pub leads : AreLed g (IsListed g marks pairs) m n
+  pub leads : AreLed g (IsListed g flags pairs) m n
 
 -- the positions before this one are in
 pub record AreReturnsTo (g : Game) (returns : Chained PosId) (m : ℕ) : Type 0 where

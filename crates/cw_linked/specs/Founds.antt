@@ -62,11 +62,11 @@ pub record AreRight (g : Game) (contexts : List Context) (s : Found) : Type 0 wh
       → (n : ℕ) × (s.due i p k ≡ 2 * n + 1) × (0 < n → IsShrinking g contexts s i p k call n)
 
 -- what heights tell of a context's pairs for n moves
-abbrev pub told : (ℕ → ℕ → ℕ → ℕ) → (i n : ℕ) → ℕ → ℕ → Promise → Bool
-told heights i n = λ p q e. holds_by n (heights i p q)
+abbrev pub implied : (ℕ → ℕ → ℕ → ℕ) → (i n : ℕ) → ℕ → ℕ → Promise → Bool
+implied heights i n = λ p q e. holds_by n (heights i p q)
 
 abbrev pub tells : Found → (i n : ℕ) → ℕ → ℕ → Promise → Bool
-tells s i n = told s.height i n
+tells s i n = implied s.height i n
 
 -- it waits, under no more than this key
 abbrev pub Waits : (key most : ℕ) → Type 0

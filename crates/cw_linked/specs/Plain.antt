@@ -11,7 +11,7 @@ pub record IsPlain (g : Game) (functions r : ℕ) : Type 0 where
   pub unreturned : (p : ℕ) (call : Called) → p < length g.spots → call_in (slice_get g.spots p) ≡ Some call → call.back ≡ r → ⊥
   pub unentered : (f : ℕ) → f < functions → g.entry f ≡ r → ⊥
 
--- of so many positions those that are marked are plain
+-- of so many positions those that are flagged are plain
 pub record ArePlain (g : Game) (functions positions : ℕ) (plain : List Bool) : Type 0 where
   pub long : length plain ≡ positions
   pub are : (r : ℕ) → slice_index_or plain r false ≡ true → IsPlain g functions r

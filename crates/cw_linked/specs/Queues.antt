@@ -2,7 +2,7 @@
 use Rattle.std.specs.Prelude.{◌≡◌, ℕ, ◌+◌, ◌-◌, ◌*◌, ◌<◌, ◌≤◌, List, not, true, nat_eq, length, slice_index}
 use Rattle.cw_game.specs.Games.{Game}
 use Rattle.cw_game.specs.Pairs.{Called}
-use Rattle.cw_links.specs.Marks.{is_marked}
+use Rattle.cw_links.specs.Flags.{is_flagged}
 use Rattle.cw_links.specs.Keys.{asked_with, lowered}
 use Rattle.cw_solve.specs.declared.contexts.Context.{Context}
 use Rattle.cw_solve.specs.Tabled.{Tabled}
@@ -14,7 +14,7 @@ use Rattle.cw_linked.specs.declared.work.Cell.{Cell}
 use Rattle.cw_linked.specs.declared.work.Work.{Work}
 use Rattle.cw_linked.specs.Founds.{Found, IsLink, AreRight, IsClosed, Nothing, AllClosed}
 use Rattle.cw_linked.specs.Steps.{Lowers}
-use Rattle.cw_linked.specs.Works.{known_of, place_at, value_at, heights_of, AreUpTo}
+use Rattle.cw_linked.specs.Works.{known_of, index_at, value_at, heights_of, AreUpTo}
 
 -- what is found, read off the store: a link is tied where its number isn't 0, to the context of the number before
 abbrev pub found_of : Game → Work → Found
@@ -29,7 +29,7 @@ found_of g w = record {
 
 -- each list has a number for each cell
 pub record AreLong (w : Work) : Type 0 where
-  pub marks : length w.store.marks ≡ length w.store.heights
+  pub flags : length w.store.flags ≡ length w.store.heights
   pub asked : length w.store.asked ≡ length w.store.heights
   pub due : length w.store.due ≡ length w.store.heights
   pub to : length w.store.to ≡ length w.store.heights
@@ -38,29 +38,29 @@ pub record AreLong (w : Work) : Type 0 where
 -- all but the keys of cells and of links is the same
 pub record AreSameBut (old new : Work) : Type 0 where
   pub known : known_of new ≡ known_of old
-  pub marks : new.store.marks ≡ old.store.marks
+  pub flags : new.store.flags ≡ old.store.flags
   pub to : new.store.to ≡ old.store.to
   pub waves : new.store.waves ≡ old.store.waves
   pub lists : new.store.lists ≡ old.store.lists
 
-pub record AsksForCell (old new : Work) (place key : ℕ) : Type 0 where
+pub record AsksForCell (old new : Work) (index key : ℕ) : Type 0 where
   pub others : AreSameBut old new
-  pub asked : new.store.asked ≡ asked_with old.store.heights old.store.asked place key
+  pub asked : new.store.asked ≡ asked_with old.store.heights old.store.asked index key
   pub due : new.store.due ≡ old.store.due
 
-pub record AsksForLink (old new : Work) (place key : ℕ) : Type 0 where
+pub record AsksForLink (old new : Work) (index key : ℕ) : Type 0 where
   pub others : AreSameBut old new
   pub asked : new.store.asked ≡ old.store.asked
-  pub due : new.store.due ≡ lowered old.store.due place key
+  pub due : new.store.due ≡ lowered old.store.due index key
 
--- the cell at a place
+-- the cell at an index
 pub record IsCellAt (g : Game) (w : Work) (k : ℕ) (cell : Cell) : Type 0 where
   pub is : HasCell g w.blocks cell.at cell.pos.0 cell.state.0
-  pub place : k ≡ slot g w.blocks.contexts.items cell.at.number cell.at.context.function cell.pos.0 cell.state.0
+  pub index : k ≡ slot g w.blocks.contexts.items cell.at.number cell.at.context.function cell.pos.0 cell.state.0
 
--- a context whose cells have the place among theirs
-abbrev pub IsOwner : Game → List Context → (i place : ℕ) → Type 0
-IsOwner g contexts i place = (i < length contexts) × (base g contexts i ≤ place) × (place < base g contexts (i + 1))
+-- a context whose cells have the index among theirs
+abbrev pub IsOwner : Game → List Context → (i index : ℕ) → Type 0
+IsOwner g contexts i index = (i < length contexts) × (base g contexts i ≤ index) × (index < base g contexts (i + 1))
 
 -- heights, numbers of moves and keys are no higher than so many cells have heights
 pub record AreHigh (w : Work) : Type 0 where
@@ -69,13 +69,13 @@ pub record AreHigh (w : Work) : Type 0 where
   pub due : AreUpTo w.store.due (2 * w.written + 1)
   pub waves : AreUpTo w.store.waves w.written
 
--- the place of a link
+-- the index of a link
 abbrev pub IsLinkAt : Game → List Context → ℕ → Type 0
-IsLinkAt g contexts k = (i : ℕ) × (c : Context) × (p : ℕ) × (x : ℕ) × (call : Called) × IsLink g contexts i c p x call × (k ≡ place_at g contexts i p x)
+IsLinkAt g contexts k = (i : ℕ) × (c : Context) × (p : ℕ) × (x : ℕ) × (call : Called) × IsLink g contexts i c p x call × (k ≡ index_at g contexts i p x)
 
--- each is marked
-abbrev pub AreMarked : Game → Work → Type 0
-AreMarked g w = (k : ℕ) → IsLinkAt g w.blocks.contexts.items k → is_marked w.store.marks k ≡ true
+-- each is flagged
+abbrev pub AreFlagged : Game → Work → Type 0
+AreFlagged g w = (k : ℕ) → IsLinkAt g w.blocks.contexts.items k → is_flagged w.store.flags k ≡ true
 
 -- only links wait as such, and one that goes to a context under more than 1
 abbrev pub AreDue : Game → Work → Type 0
@@ -91,7 +91,7 @@ pub record LowersKeys (g : Game) (old new : Work) : Type 0 where
   pub dues : AreDue g old → AreDue g new
 
 -- and a cell is asked for where the taken heights tell that it is lost
-pub record AsksTold (g : Game) (old new : Work) (at : Tabled) (p q : ℕ) : Type 0 where
+pub record AsksImplied (g : Game) (old new : Work) (at : Tabled) (p q : ℕ) : Type 0 where
   pub step : LowersKeys g old new
   pub closed : IsClosed g (found_of g new) at.number at.context p q
   pub due : new.store.due ≡ old.store.due

@@ -21,7 +21,7 @@ pub record AreReturns (g : Game) (returns : List (List PosId)) : Type 0 where
 abbrev pub AreFew : Work → Type 0
 AreFew w = (k : ℕ) → k < length w.store.heights → slice_index w.store.to k ≤ length w.blocks.contexts.items
 
--- the link at a place goes to a context whose promise has the state
+-- the link at an index goes to a context whose promise has the state
 abbrev pub IsPromised : Work → (k x : ℕ) → Type 0
 IsPromised w k x = (c : Context) × (0 < slice_index w.store.to k) × (slice_get w.blocks.contexts.items (slice_index w.store.to k - 1) ≡ Some c) × (has c.promise x ≡ true)
 

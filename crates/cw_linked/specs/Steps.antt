@@ -9,7 +9,7 @@ use Rattle.cw_product.specs.MovesAt.{first_move, second_move}
 use Rattle.cw_solve.specs.declared.contexts.Context.{Context}
 use Rattle.cw_solve.specs.Contexts.{promise_at, IsSetOf}
 use Rattle.cw_solve.specs.Rounds.{IsCell, IsAsked, holds_by}
-use Rattle.cw_linked.specs.Founds.{Found, class_of, IsLink, IsFresh, IsStanding, told, Waits}
+use Rattle.cw_linked.specs.Founds.{Found, class_of, IsLink, IsFresh, IsStanding, implied, Waits}
 
 -- two triples of a context, a position and a state
 abbrev pub IsSame : (i p q j r x : ℕ) → Type 0
@@ -112,7 +112,7 @@ IsIt j r x i p k = IsSame i p k j r x
 
 -- The number of moves within which the taken heights tell that a pair is lost, 0 where they don't: it says of n + 1 moves what they say of n.
 abbrev pub IsBound : Game → (ℕ → ℕ → ℕ → ℕ) → (i p q promise bound : ℕ) → Type 0
-IsBound g heights i p q promise bound = (n : ℕ) → holds_by (suc n) bound ≡ holds_in g (told heights i n) p q (has promise) (slice_get g.spots p)
+IsBound g heights i p q promise bound = (n : ℕ) → holds_by (suc n) bound ≡ holds_in g (implied heights i n) p q (has promise) (slice_get g.spots p)
 
 -- A context is added.
 

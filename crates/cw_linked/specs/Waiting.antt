@@ -5,7 +5,7 @@ use Rattle.cw_game.specs.declared.spots.Spot.TheVariants.{Visit, Step, Branch}
 use Rattle.cw_game.specs.Games.{Game}
 use Rattle.cw_links.specs.Flat.{row_at}
 use Rattle.cw_links.specs.Lists.{Chained, list_at}
-use Rattle.cw_links.specs.Marks.{is_marked, number, rank}
+use Rattle.cw_links.specs.Flags.{is_flagged, number, rank}
 use Rattle.cw_product.specs.Moves.{pos_id}
 use Rattle.cw_linked.specs.declared.edges.Pair.{Pair}
 use Rattle.cw_linked.specs.declared.edges.Changes.{Changes}
@@ -20,9 +20,9 @@ use Rattle.cw_linked.specs.Steps.{Leads, WaitsFor}
 abbrev pub pair_of : (p q : ℕ) → Pair
 pair_of p q = record { pos = record { 0 = p }; state = record { 0 = q } }
 
--- the number of the list of a pair whose position is marked: those of a position stand together, behind those of the marked positions before it
+-- the number of the list of a pair whose position is flagged: those of a position stand together, behind those of the flagged positions before it
 abbrev pub list_of : Game → List Bool → (p q : ℕ) → ℕ
-list_of g marks p q = rank marks p * g.states.count + q
+list_of g flags p q = rank flags p * g.states.count + q
 
 -- a link of a list has a value
 abbrev pub HasIn : {T : Type 0} → Chained T → ℕ → T → Type 0
@@ -52,14 +52,14 @@ pub record AreSources (g : Game) (sources : List (List Source)) : Type 0 where
   pub steps : (r : ℕ) (source : Source) → Contains (row_at sources r) source → IsStepTo g source r
   pub leads : (p q r x : ℕ) → p < length g.spots → keeps_state (slice_get g.spots p) ≡ true → Leads g p q r x → Contains (row_at sources r) (source_at g p)
 
--- the pair (p, q) is in the list of (r, x), and r is marked
+-- the pair (p, q) is in the list of (r, x), and r is flagged
 abbrev pub IsChange : Game → Changes → (p q r x : ℕ) → Type 0
-IsChange g changes p q r x = HasIn changes.pairs (list_of g changes.marks r x) (pair_of p q) × (is_marked changes.marks r ≡ true)
+IsChange g changes p q r x = HasIn changes.pairs (list_of g changes.flags r x) (pair_of p q) × (is_flagged changes.flags r ≡ true)
 
--- For each pair at a marked position a list. That of a pair has the pairs at the other positions from which a move leads there, and all positions to which one leads are marked.
+-- For each pair at a flagged position a list. That of a pair has the pairs at the other positions from which a move leads there, and all positions to which one leads are flagged.
 pub record AreChanges (g : Game) (changes : Changes) : Type 0 where
-  pub lists : length changes.pairs.lists ≡ number changes.marks * g.states.count
-  pub marks : length changes.marks ≡ length g.spots
+  pub lists : length changes.pairs.lists ≡ number changes.flags * g.states.count
+  pub flags : length changes.flags ≡ length g.spots
   pub fine : (edge : ℕ) (pair : Pair) → slice_get changes.pairs.values edge ≡ Some pair → (pair.pos.0 < length g.spots) × (pair.state.0 < g.states.count)
   pub leads : (p q r x : ℕ) → p < length g.spots → q < g.states.count → keeps_state (slice_get g.spots p) ≡ false → Leads g p q r x → IsChange g changes p q r x
 

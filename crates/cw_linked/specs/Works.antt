@@ -1,4 +1,4 @@
--- Working definitions: what is known of contexts, positions and states, by place.
+-- Working definitions: what is known of contexts, positions and states, by index.
 use Rattle.std.specs.Prelude.{◌≡◌, ℕ, ◌+◌, ◌≤◌, List, Option, Some, None, length, slice_get, slice_index, count_by}
 use Rattle.cw_core.specs.declared.ids.PosId.{PosId}
 use Rattle.cw_core.specs.declared.ids.StateId.{StateId}
@@ -36,11 +36,11 @@ abbrev pub function_at : List Context → ℕ → ℕ
 function_at contexts i = function_in (slice_get contexts i)
 
 -- what stands in a list of cells
-abbrev pub place_at : Game → List Context → (i p q : ℕ) → ℕ
-place_at g contexts i p q = slot g contexts i (function_at contexts i) p q
+abbrev pub index_at : Game → List Context → (i p q : ℕ) → ℕ
+index_at g contexts i p q = slot g contexts i (function_at contexts i) p q
 
 abbrev pub value_at : Game → List Context → List ℕ → (i p q : ℕ) → ℕ
-value_at g contexts values i p q = slice_index values (place_at g contexts i p q)
+value_at g contexts values i p q = slice_index values (index_at g contexts i p q)
 
 abbrev pub heights_of : Game → Known → (i p q : ℕ) → ℕ
 heights_of g t = value_at g t.blocks.contexts.items t.heights

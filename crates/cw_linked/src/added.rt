@@ -6,12 +6,12 @@ ghost use Rattle.cw_product.specs.Routed.{AreRouted, IsOf};
 ghost use Rattle.cw_solve.specs.Contexts.{size};
 ghost use Rattle.cw_solve.specs.Tables.{IsTabled, HasCell, AreTabled};
 ghost use Rattle.cw_linked.specs.Added.{ThePair, AllOf, Each, FreesLinks, Pushes, IsOpen, AddsContext};
-ghost use Rattle.cw_linked.specs.Queues.{AreMarked, AreLong};
+ghost use Rattle.cw_linked.specs.Queues.{AreFlagged, AreLong};
 ghost use Rattle.cw_linked.specs.Works.{known_of, IsKnown};
 
 use crate::asked::ask_all;
 use crate::calls::{class_at, is_call, is_same};
-use crate::room::{push, push_places};
+use crate::room::{push, push_indices};
 use crate::work::{Work, ask_link};
 use cw_core::{NoMemory, PosId, StateId};
 use cw_product::Game;
@@ -31,15 +31,15 @@ fn free_link(
     requires known { IsKnown (game_of game.now) (known_of work.old) }
     requires cell { HasCell (game_of game.now) work.old.blocks at.now pos.0 state.0 }
     requires long { AreLong work.old }
-    requires marked { AreMarked (game_of game.now) work.old }
+    requires flagged { AreFlagged (game_of game.now) work.old }
     ensures { OnOk result (FreesLinks (game_of game.now) work.old work.new at.now.number at.now.context (ThePair pos.0 state.0)) }
 {
     match class_at(game, pos, state) {
         None => Ok(()),
         Some(class) => {
             if is_same(class, state) {
-                let place = slot(game, &work.blocks, at, pos, state);
-                ask_link(work, place, 1)?;
+                let index = slot(game, &work.blocks, at, pos, state);
+                ask_link(work, index, 1)?;
                 Ok(())
             } else {
                 Ok(())
@@ -55,7 +55,7 @@ fn free_links(game: &Game, work: &mut Work, at: &Tabled, pos: PosId) -> Result<(
     requires tabled { IsTabled work.old.blocks at.now }
     requires of { IsOf (game_of game.now) at.now.context.function pos.0 }
     requires long { AreLong work.old }
-    requires marked { AreMarked (game_of game.now) work.old }
+    requires flagged { AreFlagged (game_of game.now) work.old }
     ensures { OnOk result (FreesLinks (game_of game.now) work.old work.new at.now.number at.now.context (AllOf pos.0)) }
 {
     if !is_call(game, pos) {
@@ -73,7 +73,7 @@ fn free_all(game: &Game, work: &mut Work, at: &Tabled) -> Result<(), NoMemory>
     requires known { IsKnown (game_of game.now) (known_of work.old) }
     requires tabled { IsTabled work.old.blocks at.now }
     requires long { AreLong work.old }
-    requires marked { AreMarked (game_of game.now) work.old }
+    requires flagged { AreFlagged (game_of game.now) work.old }
     ensures { OnOk result (FreesLinks (game_of game.now) work.old work.new at.now.number at.now.context Each) }
 {
     let function = at.function();
@@ -83,7 +83,7 @@ fn free_all(game: &Game, work: &mut Work, at: &Tabled) -> Result<(), NoMemory>
     Ok(())
 }
 
-/// Adds a context and its places, of which nothing waits.
+/// Adds a context and its indices, of which nothing waits.
 fn enlarge(alloc: Global, game: &Game, work: &mut Work, context: &Context) -> Result<(), NoMemory>
     requires routed { AreRouted (game_of game.now) (length game.now.graph.parts.items) }
     requires kept { IsOpen (game_of game.now) work.old }
@@ -91,9 +91,9 @@ fn enlarge(alloc: Global, game: &Game, work: &mut Work, context: &Context) -> Re
     ensures { OnOk result (Pushes (game_of game.now) work.old work.new context.now (size (game_of game.now) context.now.function)) }
 {
     let lists = work.blocks.contexts.len() as u32 + 2;
-    let base = work.store.places() as u32;
+    let base = work.store.indices() as u32;
     work.store.reach(alloc, lists)?;
-    push_places(game, &mut work.store, context.function)?;
+    push_indices(game, &mut work.store, context.function)?;
     push(&mut work.blocks, *context, base)?;
     Ok(())
 }

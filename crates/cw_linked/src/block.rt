@@ -14,8 +14,8 @@ use cw_core::{PosId, StateId};
 use cw_product::Game;
 use cw_solve::table::{Blocks, Tabled, positions};
 
-/// Where the cells of a context stand: the place of the first one, the first position of its function, and how many positions
-/// it has. To ask the game for these takes as long as all else that finds the place of a cell, so it is asked once for all
+/// Where the cells of a context stand: the index of the first one, the first position of its function, and how many positions
+/// it has. To ask the game for these takes as long as all else that finds the index of a cell, so it is asked once for all
 /// cells that are looked at together.
 #[derive(Drop)]
 pub(crate) struct Block {
@@ -72,9 +72,9 @@ pub(crate) fn is_in(game: &Game, blocks: &Blocks, at: &Tabled, block: &Block, po
     pos.0 - block.first < block.many
 }
 
-/// The place of a cell.
+/// The index of a cell.
 #[inline(always)]
-pub(crate) fn place_in(
+pub(crate) fn index_in(
     game: &Game,
     blocks: &Blocks,
     at: &Tabled,

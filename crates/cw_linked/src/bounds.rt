@@ -10,12 +10,12 @@ ghost use Rattle.cw_product.specs.Routed.{AreRouted};
 ghost use Rattle.cw_solve.specs.Rounds.{holds_by};
 ghost use Rattle.cw_solve.specs.Tables.{IsTabled, HasCell};
 ghost use Rattle.cw_linked.specs.Blocks.{IsBlock};
-ghost use Rattle.cw_linked.specs.Founds.{told};
+ghost use Rattle.cw_linked.specs.Founds.{implied};
 ghost use Rattle.cw_linked.specs.Queues.{AreLong};
 ghost use Rattle.cw_linked.specs.Steps.{IsBound};
 ghost use Rattle.cw_linked.specs.Works.{known_of, IsKnown, heights_of, AreUpTo};
 
-use crate::block::{Block, place_in};
+use crate::block::{Block, index_in};
 use crate::work::Work;
 use cw_certs::Move;
 use cw_core::{PosId, StateId};
@@ -41,8 +41,8 @@ pub(crate) fn height_in(
     ensures is { result ≡ heights_of (game_of game.now) (known_of work.now) at.now.number pos.0 state.0 }
     ensures most { (most : ℕ) → AreUpTo work.now.store.heights most → result ≤ most }
 {
-    let place = place_in(game, &work.blocks, at, block, pos, state);
-    work.store.height(place)
+    let index = index_in(game, &work.blocks, at, block, pos, state);
+    work.store.height(index)
 }
 
 /// The height of the pair to which a move leads that keeps the state, where it is known to which position.
@@ -64,7 +64,7 @@ fn height_to(
     requires block { IsBlock (game_of game.now) work.now.blocks at.now block.now }
     requires leads { next_at (game_of game.now) pos.0 state.0 by ≡ Some (to, state.0) }
     requires high { AreUpTo work.now.store.heights 4194304 }
-    ensures tells { (n : ℕ) → holds_by n result ≡ holds_after (told (heights_of (game_of game.now) (known_of work.now)) at.now.number n)
+    ensures tells { (n : ℕ) → holds_by n result ≡ holds_after (implied (heights_of (game_of game.now) (known_of work.now)) at.now.number n)
         (has at.now.context.promise) (next_at (game_of game.now) pos.0 state.0 by) }
     ensures high { result ≤ 4194304 }
     ensures most { (most : ℕ) → AreUpTo work.now.store.heights most → result ≤ most }
@@ -91,7 +91,7 @@ fn height_after(
     requires cell { HasCell (game_of game.now) work.now.blocks at.now pos.0 state.0 }
     requires block { IsBlock (game_of game.now) work.now.blocks at.now block.now }
     requires high { AreUpTo work.now.store.heights 4194304 }
-    ensures tells { (n : ℕ) → holds_by n result ≡ holds_after (told (heights_of (game_of game.now) (known_of work.now)) at.now.number n)
+    ensures tells { (n : ℕ) → holds_by n result ≡ holds_after (implied (heights_of (game_of game.now) (known_of work.now)) at.now.number n)
         (has at.now.context.promise) (next_at (game_of game.now) pos.0 state.0 by) }
     ensures high { result ≤ 4194304 }
     ensures most { (most : ℕ) → AreUpTo work.now.store.heights most → result ≤ most }
@@ -154,7 +154,7 @@ fn step_bound(
     requires step { slice_get (game_of game.now).spots pos.0 ≡ Some (Spot.Step next) }
     requires high { AreUpTo work.now.store.heights 4194304 }
     ensures tells { (n : ℕ) → holds_by (suc n) result ≡ holds_by_moves (game_of game.now)
-        (told (heights_of (game_of game.now) (known_of work.now)) at.now.number n) pos.0 state.0 (has at.now.context.promise) (slice_get (game_of game.now).spots pos.0) }
+        (implied (heights_of (game_of game.now) (known_of work.now)) at.now.number n) pos.0 state.0 (has at.now.context.promise) (slice_get (game_of game.now).spots pos.0) }
     ensures high { (most : ℕ) → AreUpTo work.now.store.heights most → result ≤ most + 1 }
 {
     one_more(height_to(game, work, at, block, pos, state, Move::On, next))
@@ -178,7 +178,7 @@ fn visit_bound(
     requires visit { weavers_in (slice_get (game_of game.now).spots pos.0) ≡ true }
     requires high { AreUpTo work.now.store.heights 4194304 }
     ensures tells { (n : ℕ) → holds_by (suc n) result ≡ holds_by_moves (game_of game.now)
-        (told (heights_of (game_of game.now) (known_of work.now)) at.now.number n) pos.0 state.0 (has at.now.context.promise) (slice_get (game_of game.now).spots pos.0) }
+        (implied (heights_of (game_of game.now) (known_of work.now)) at.now.number n) pos.0 state.0 (has at.now.context.promise) (slice_get (game_of game.now).spots pos.0) }
     ensures high { (most : ℕ) → AreUpTo work.now.store.heights most → result ≤ most + 1 }
 {
     let skip = height_to(game, work, at, block, pos, state, Move::Skip, pos.0 + 2);
@@ -206,7 +206,7 @@ fn branch_bound(
     requires branch { slice_get (game_of game.now).spots pos.0 ≡ Some (Spot.Branch left right) }
     requires high { AreUpTo work.now.store.heights 4194304 }
     ensures tells { (n : ℕ) → holds_by (suc n) result ≡ holds_by_moves (game_of game.now)
-        (told (heights_of (game_of game.now) (known_of work.now)) at.now.number n) pos.0 state.0 (has at.now.context.promise) (slice_get (game_of game.now).spots pos.0) }
+        (implied (heights_of (game_of game.now) (known_of work.now)) at.now.number n) pos.0 state.0 (has at.now.context.promise) (slice_get (game_of game.now).spots pos.0) }
     ensures high { (most : ℕ) → AreUpTo work.now.store.heights most → result ≤ most + 1 }
 {
     let first = height_to(game, work, at, block, pos, state, Move::Left, left);
@@ -234,7 +234,7 @@ fn moves_bound(
     requires spot { Some spot ≡ slice_get (game_of game.now).spots pos.0 }
     requires high { AreUpTo work.now.store.heights 4194304 }
     ensures tells { (n : ℕ) → holds_by (suc n) result ≡ holds_by_moves (game_of game.now)
-        (told (heights_of (game_of game.now) (known_of work.now)) at.now.number n) pos.0 state.0 (has at.now.context.promise) (slice_get (game_of game.now).spots pos.0) }
+        (implied (heights_of (game_of game.now) (known_of work.now)) at.now.number n) pos.0 state.0 (has at.now.context.promise) (slice_get (game_of game.now).spots pos.0) }
     ensures high { (most : ℕ) → AreUpTo work.now.store.heights most → result ≤ most + 1 }
 {
     let after = |by: Move| height_after(game, work, at, block, pos, state, by);
@@ -284,7 +284,7 @@ pub(crate) fn bound(
     requires cell { HasCell (game_of game.now) work.now.blocks at.now pos.0 state.0 }
     requires block { IsBlock (game_of game.now) work.now.blocks at.now block.now }
     requires high { AreUpTo work.now.store.heights 4194304 }
-    ensures told { is_call_in (slice_get (game_of game.now).spots pos.0) ≡ false
+    ensures implied { is_call_in (slice_get (game_of game.now).spots pos.0) ≡ false
         → IsBound (game_of game.now) (heights_of (game_of game.now) (known_of work.now)) at.now.number pos.0 state.0 at.now.context.promise result }
     ensures call { is_call_in (slice_get (game_of game.now).spots pos.0) ≡ true → result ≡ 0 }
     ensures high { (most : ℕ) → AreUpTo work.now.store.heights most → result ≤ most + 1 }

@@ -8,7 +8,7 @@ ghost use Rattle.cw_product.specs.Routed.{AreRouted};
 ghost use Rattle.cw_solve.specs.Tables.{HasCell};
 ghost use Rattle.cw_linked.specs.Calls.{AreCallers, AsksCaller, AsksCallers};
 ghost use Rattle.cw_linked.specs.Founds.{class_of, AreRight, AllCalled};
-ghost use Rattle.cw_linked.specs.Queues.{found_of, AreMarked, AreLong, AreHigh};
+ghost use Rattle.cw_linked.specs.Queues.{found_of, AreFlagged, AreLong, AreHigh};
 ghost use Rattle.cw_linked.specs.Steps.{CallsThere};
 ghost use Rattle.cw_linked.specs.Works.{known_of, IsKnown, heights_of, cell_of};
 
@@ -53,7 +53,7 @@ pub(crate) fn is_same(a: StateId, b: StateId) -> bool
     a.0 == b.0
 }
 
-/// The greater of the number of moves of the link at a place and a height.
+/// The greater of the number of moves of the link at an index and a height.
 fn greater(work: &Work, link: usize, height: u32) -> u32
     requires long { AreLong work.now }
     requires within { link < length work.now.store.heights }
@@ -65,7 +65,7 @@ fn greater(work: &Work, link: usize, height: u32) -> u32
     if moves < height { height } else { moves }
 }
 
-/// Whether the link at a place goes to a context.
+/// Whether the link at an index goes to a context.
 fn goes_to(work: &Work, link: usize, at: &Tabled) -> bool
     requires long { AreLong work.now }
     requires within { link < length work.now.store.heights }
@@ -108,10 +108,10 @@ fn ask_linked(
         None => Ok(()),
         Some(class) => {
             if is_same(class, caller.state) {
-                let place = slot(game, &work.blocks, &caller.at, caller.pos, state);
+                let index = slot(game, &work.blocks, &caller.at, caller.pos, state);
                 let most = greater(work, link, height);
                 let within = most + 1;
-                ask_cell(work, place, within)?;
+                ask_cell(work, index, within)?;
                 Ok(())
             } else {
                 Ok(())
@@ -164,7 +164,7 @@ pub(crate) fn ask_callers(
     requires taken { heights_of (game_of game.now) (known_of work.old) cell.now.at.number cell.now.pos.0 cell.now.state.0 ≡ height }
     requires some { 0 < height }
     requires callers { AreCallers work.old }
-    requires marked { AreMarked (game_of game.now) work.old }
+    requires flagged { AreFlagged (game_of game.now) work.old }
     requires long { AreLong work.old }
     requires high { AreHigh work.old }
     requires right { AreRight (game_of game.now) work.old.blocks.contexts.items (found_of (game_of game.now) work.old) }
@@ -174,8 +174,8 @@ pub(crate) fn ask_callers(
 {
     let mut next = work.store.first(cell.at.number() as u32 + 1);
     'walk: while let Some(link) = next {
-        let place = work.store.place(link);
-        ask_call(game, work, &cell.at, cell.pos, cell.state, height, place)?;
+        let index = work.store.index(link);
+        ask_call(game, work, &cell.at, cell.pos, cell.state, height, index)?;
         next = work.store.next(link);
     }
     Ok(())

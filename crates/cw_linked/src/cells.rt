@@ -9,7 +9,7 @@ ghost use Rattle.cw_linked.specs.Calls.{AreCallers, AsksCallers};
 ghost use Rattle.cw_linked.specs.Founds.{AreRight, AllCalled};
 ghost use Rattle.cw_linked.specs.Plain.{ArePlain};
 ghost use Rattle.cw_linked.specs.Popped.{IsTaken, Finishes};
-ghost use Rattle.cw_linked.specs.Queues.{found_of, AreMarked, AreLong, AreHigh};
+ghost use Rattle.cw_linked.specs.Queues.{found_of, AreFlagged, AreLong, AreHigh};
 ghost use Rattle.cw_linked.specs.Returns.{AreReturns};
 ghost use Rattle.cw_linked.specs.Steps.{CallsThere};
 ghost use Rattle.cw_linked.specs.Waiting.{AreWaits};
@@ -41,7 +41,7 @@ fn ask_entry(
     requires taken { heights_of (game_of game.now) (known_of work.old) cell.now.at.number cell.now.pos.0 cell.now.state.0 ≡ height }
     requires some { 0 < height }
     requires callers { AreCallers work.old }
-    requires marked { AreMarked (game_of game.now) work.old }
+    requires flagged { AreFlagged (game_of game.now) work.old }
     requires long { AreLong work.old }
     requires high { AreHigh work.old }
     requires right { AreRight (game_of game.now) work.old.blocks.contexts.items (found_of (game_of game.now) work.old) }

@@ -1,13 +1,13 @@
 //! What waits for a pair, and which calls return to a position, the same in all contexts.
 
 ghost use Rattle.std.specs.Prelude.{◌≡◌, ℕ, ◌<◌, ◌≤◌, ◌+◌, ◌*◌, true, Some, min, length, slice_get, OnOk, IfOk};
-ghost use Rattle.cw_links.specs.Marks.{is_marked, number};
+ghost use Rattle.cw_links.specs.Flags.{is_flagged, number};
 ghost use Rattle.cw_product.specs.Product.{game_of};
 ghost use Rattle.cw_product.specs.Moves.{IsPosition, IsState, next_at};
 ghost use Rattle.cw_product.specs.MovesAt.{first_move, second_move};
 ghost use Rattle.cw_product.specs.Routed.{AreRouted};
 ghost use Rattle.cw_solve.specs.Rounds.{positions};
-ghost use Rattle.cw_linked.specs.Edges.{AddsSource, MarksMove, MarksMoves, AddsMove, AddsMoves, AreSourcesTo, AreReached, AreReachedTo, AreChangesTo, AreReturnsTo};
+ghost use Rattle.cw_linked.specs.Edges.{AddsSource, FlagsMove, FlagsMoves, AddsMove, AddsMoves, AreSourcesTo, AreReached, AreReachedTo, AreChangesTo, AreReturnsTo};
 ghost use Rattle.cw_linked.specs.Plain.{IsPlain, ArePlain};
 ghost use Rattle.cw_linked.specs.Returns.{AreReturns};
 ghost use Rattle.cw_linked.specs.Runs.{AreRuns};
@@ -19,7 +19,7 @@ use crate::waiting::list_of;
 use cw_certs::Move;
 use cw_core::{NoMemory, PosId, StateId};
 use cw_game::Spot;
-use cw_links::{Chains, Marks, Rows};
+use cw_links::{Chains, Flags, Rows};
 use cw_product::{Game, Turn};
 use cw_solve::table::positions;
 use std::alloc::Global;
@@ -39,10 +39,10 @@ pub(crate) struct Source {
 }
 
 /// For each pair those at positions that may change the state, from which a move leads there. Only the positions to which such a move
-/// leads are marked, and only their pairs have a list.
+/// leads are flagged, and only their pairs have a list.
 #[derive(Drop)]
 pub(crate) struct Changes {
-    pub marks: Marks,
+    pub flags: Flags,
     pub pairs: Chains<Pair>,
 }
 
@@ -151,22 +151,22 @@ fn make_sources(alloc: Global, game: &Game) -> Result<Rows<Source>, NoMemory>
     Ok(rows)
 }
 
-/// Marks the position to which a move leads, if it leads to one.
-fn mark_move(game: &Game, marks: &mut [bool], pos: PosId, state: StateId, by: Move)
+/// Flags the position to which a move leads, if it leads to one.
+fn flag_move(game: &Game, flags: &mut [bool], pos: PosId, state: StateId, by: Move)
     requires position { IsPosition (game_of game.now) pos.0 }
     requires state { IsState (game_of game.now) state.0 }
-    requires long { length marks.old ≡ length (game_of game.now).spots }
-    ensures { MarksMove (game_of game.now) marks.old marks.new pos.0 state.0 by }
+    requires long { length flags.old ≡ length (game_of game.now).spots }
+    ensures { FlagsMove (game_of game.now) flags.old flags.new pos.0 state.0 by }
 {
     if let Some((to, _)) = game.next(pos, state, by) {
-        marks[to.0 as usize] = true;
+        flags[to.0 as usize] = true;
     }
 }
 
-/// Marks the positions to which the moves from a pair lead.
-fn mark_moves(
+/// Flags the positions to which the moves from a pair lead.
+fn flag_moves(
     game: &Game,
-    marks: &mut [bool],
+    flags: &mut [bool],
     pos: PosId,
     state: StateId,
     moves: &(Move, Option<Move>),
@@ -175,66 +175,66 @@ fn mark_moves(
     requires state { IsState (game_of game.now) state.0 }
     requires first { moves.now.0 ≡ first_move (slice_get (game_of game.now).spots pos.0) }
     requires second { moves.now.1 ≡ second_move (slice_get (game_of game.now).spots pos.0) }
-    requires long { length marks.old ≡ length (game_of game.now).spots }
-    ensures { MarksMoves (game_of game.now) marks.old marks.new pos.0 state.0 }
+    requires long { length flags.old ≡ length (game_of game.now).spots }
+    ensures { FlagsMoves (game_of game.now) flags.old flags.new pos.0 state.0 }
 {
-    mark_move(game, marks, pos, state, moves.0);
+    flag_move(game, flags, pos, state, moves.0);
     if let Some(by) = moves.1 {
-        mark_move(game, marks, pos, state, by);
+        flag_move(game, flags, pos, state, by);
     }
 }
 
-/// Marks the positions to which the moves of a position lead that may change the state.
-fn mark_pairs(game: &Game, marks: &mut [bool], pos: PosId)
+/// Flags the positions to which the moves of a position lead that may change the state.
+fn flag_pairs(game: &Game, flags: &mut [bool], pos: PosId)
     requires position { IsPosition (game_of game.now) pos.0 }
-    requires before { AreReachedTo (game_of game.now) marks.old pos.0 0 }
-    ensures { AreReachedTo (game_of game.now) marks.new (pos.0 + 1) 0 }
+    requires before { AreReachedTo (game_of game.now) flags.old pos.0 0 }
+    ensures { AreReachedTo (game_of game.now) flags.new (pos.0 + 1) 0 }
 {
     if keeps(game, pos) {
         return;
     }
     let moves = game.moves(pos);
     for q in 0..game.states() {
-        mark_moves(game, marks, pos, StateId(q), &moves);
+        flag_moves(game, flags, pos, StateId(q), &moves);
     }
 }
 
-/// Marks the positions to which a move leads that may change the state.
-fn mark_all(game: &Game, marks: &mut [bool])
-    requires { length marks.old ≡ length (game_of game.now).spots }
-    ensures { AreReached (game_of game.now) marks.new }
+/// Flags the positions to which a move leads that may change the state.
+fn flag_all(game: &Game, flags: &mut [bool])
+    requires { length flags.old ≡ length (game_of game.now).spots }
+    ensures { AreReached (game_of game.now) flags.new }
 {
     for p in 0..game.positions() {
-        mark_pairs(game, marks, PosId(p));
+        flag_pairs(game, flags, PosId(p));
     }
 }
 
-/// The marks, with how many come before a place.
-fn ranked(alloc: Global, marks: &[bool]) -> Result<Marks, NoMemory>
-    requires { length marks.now ≤ 1048576 }
-    ensures { IfOk result (λ all. all ≡ marks.now) }
+/// The flags, with how many come before an index.
+fn ranked(alloc: Global, flags: &[bool]) -> Result<Flags, NoMemory>
+    requires { length flags.now ≤ 1048576 }
+    ensures { IfOk result (λ all. all ≡ flags.now) }
 {
-    let mut all = Marks::make(alloc);
-    for mark in marks {
-        all.push(*mark)?;
+    let mut all = Flags::make(alloc);
+    for flag in flags {
+        all.push(*flag)?;
     }
     Ok(all)
 }
 
-/// Marks of the positions to which a move leads that may change the state.
-fn make_marks(alloc: Global, game: &Game) -> Result<Marks, NoMemory>
+/// Flags of the positions to which a move leads that may change the state.
+fn make_flags(alloc: Global, game: &Game) -> Result<Flags, NoMemory>
     requires routed { AreRouted (game_of game.now) (length game.now.graph.parts.items) }
     ensures { IfOk result (AreReached (game_of game.now)) }
 {
     let mut reached = vec![in alloc; false; game.positions() as usize]?;
-    mark_all(game, &mut reached);
+    flag_all(game, &mut reached);
     ranked(alloc, &reached)
 }
 
 /// Puts a pair into the list of the one to which a move leads, if there is one.
 fn add_move(
     game: &Game,
-    marks: &Marks,
+    flags: &Flags,
     pairs: &mut Chains<Pair>,
     pos: PosId,
     state: StateId,
@@ -243,14 +243,14 @@ fn add_move(
     requires routed { AreRouted (game_of game.now) (length game.now.graph.parts.items) }
     requires position { IsPosition (game_of game.now) pos.0 }
     requires state { IsState (game_of game.now) state.0 }
-    requires long { length marks.now ≡ length (game_of game.now).spots }
-    requires marked { (r x : ℕ) → next_at (game_of game.now) pos.0 state.0 by ≡ Some (r, x) → is_marked marks.now r ≡ true }
-    requires lists { length pairs.old.lists ≡ number marks.now * (game_of game.now).states.count }
+    requires long { length flags.now ≡ length (game_of game.now).spots }
+    requires flagged { (r x : ℕ) → next_at (game_of game.now) pos.0 state.0 by ≡ Some (r, x) → is_flagged flags.now r ≡ true }
+    requires lists { length pairs.old.lists ≡ number flags.now * (game_of game.now).states.count }
     requires few { length pairs.old.values ≤ 16777216 }
-    ensures { OnOk result (AddsMove (game_of game.now) marks.now pairs.old pairs.new pos.0 state.0 by) }
+    ensures { OnOk result (AddsMove (game_of game.now) flags.now pairs.old pairs.new pos.0 state.0 by) }
 {
     if let Some((to, then)) = game.next(pos, state, by) {
-        let list = list_of(game, marks, to, then);
+        let list = list_of(game, flags, to, then);
         pairs.push_front(list, Pair { pos, state })?;
     }
     Ok(())
@@ -259,7 +259,7 @@ fn add_move(
 /// Puts a pair into the lists of those to which its moves lead.
 fn add_moves(
     game: &Game,
-    marks: &Marks,
+    flags: &Flags,
     pairs: &mut Chains<Pair>,
     pos: PosId,
     state: StateId,
@@ -270,17 +270,17 @@ fn add_moves(
     requires state { IsState (game_of game.now) state.0 }
     requires first { moves.now.0 ≡ first_move (slice_get (game_of game.now).spots pos.0) }
     requires second { moves.now.1 ≡ second_move (slice_get (game_of game.now).spots pos.0) }
-    requires long { length marks.now ≡ length (game_of game.now).spots }
-    requires marked { (r x : ℕ) → Leads (game_of game.now) pos.0 state.0 r x → is_marked marks.now r ≡ true }
-    requires lists { length pairs.old.lists ≡ number marks.now * (game_of game.now).states.count }
+    requires long { length flags.now ≡ length (game_of game.now).spots }
+    requires flagged { (r x : ℕ) → Leads (game_of game.now) pos.0 state.0 r x → is_flagged flags.now r ≡ true }
+    requires lists { length pairs.old.lists ≡ number flags.now * (game_of game.now).states.count }
     requires few { length pairs.old.values ≤ 16777200 }
-    ensures { OnOk result (AddsMoves (game_of game.now) marks.now pairs.old pairs.new pos.0 state.0) }
+    ensures { OnOk result (AddsMoves (game_of game.now) flags.now pairs.old pairs.new pos.0 state.0) }
 {
-    add_move(game, marks, pairs, pos, state, moves.0)?;
+    add_move(game, flags, pairs, pos, state, moves.0)?;
     match moves.1 {
         None => Ok(()),
         Some(by) => {
-            add_move(game, marks, pairs, pos, state, by)?;
+            add_move(game, flags, pairs, pos, state, by)?;
             Ok(())
         }
     }
@@ -289,36 +289,36 @@ fn add_moves(
 /// Puts the pairs of a position that may change the state into the lists of those to which their moves lead.
 fn add_pairs(
     game: &Game,
-    marks: &Marks,
+    flags: &Flags,
     pairs: &mut Chains<Pair>,
     pos: PosId,
 ) -> Result<(), NoMemory>
     requires routed { AreRouted (game_of game.now) (length game.now.graph.parts.items) }
     requires position { IsPosition (game_of game.now) pos.0 }
-    requires marked { AreReached (game_of game.now) marks.now }
-    requires before { AreChangesTo (game_of game.now) marks.now pairs.old pos.0 0 }
-    ensures { OnOk result (AreChangesTo (game_of game.now) marks.now pairs.new (pos.0 + 1) 0) }
+    requires flagged { AreReached (game_of game.now) flags.now }
+    requires before { AreChangesTo (game_of game.now) flags.now pairs.old pos.0 0 }
+    ensures { OnOk result (AreChangesTo (game_of game.now) flags.now pairs.new (pos.0 + 1) 0) }
 {
     if keeps(game, pos) {
         return Ok(());
     }
     let moves = game.moves(pos);
     for q in 0..game.states() {
-        add_moves(game, marks, pairs, pos, StateId(q), &moves)?;
+        add_moves(game, flags, pairs, pos, StateId(q), &moves)?;
     }
     Ok(())
 }
 
-/// For each pair at a marked position those at positions that may change the state, from which a move leads there.
-fn make_pairs(alloc: Global, game: &Game, marks: &Marks) -> Result<Chains<Pair>, NoMemory>
+/// For each pair at a flagged position those at positions that may change the state, from which a move leads there.
+fn make_pairs(alloc: Global, game: &Game, flags: &Flags) -> Result<Chains<Pair>, NoMemory>
     requires routed { AreRouted (game_of game.now) (length game.now.graph.parts.items) }
-    requires marked { AreReached (game_of game.now) marks.now }
-    ensures { IfOk result (λ pairs. AreChanges (game_of game.now) (record { marks = marks.now; pairs = pairs })) }
+    requires flagged { AreReached (game_of game.now) flags.now }
+    ensures { IfOk result (λ pairs. AreChanges (game_of game.now) (record { flags = flags.now; pairs = pairs })) }
 {
-    let lists = marks.marked() * u32::from(game.states());
+    let lists = flags.flagged() * u32::from(game.states());
     let mut pairs = Chains::make(alloc, lists)?;
     for p in 0..game.positions() {
-        add_pairs(game, marks, &mut pairs, PosId(p))?;
+        add_pairs(game, flags, &mut pairs, PosId(p))?;
     }
     Ok(pairs)
 }
@@ -328,9 +328,9 @@ fn make_changes(alloc: Global, game: &Game) -> Result<Changes, NoMemory>
     requires routed { AreRouted (game_of game.now) (length game.now.graph.parts.items) }
     ensures { IfOk result (AreChanges (game_of game.now)) }
 {
-    let marks = make_marks(alloc, game)?;
-    let pairs = make_pairs(alloc, game, &marks)?;
-    Ok(Changes { marks, pairs })
+    let flags = make_flags(alloc, game)?;
+    let pairs = make_pairs(alloc, game, &flags)?;
+    Ok(Changes { flags, pairs })
 }
 
 /// Puts a position into the list of the one to which it returns, if a call stands there.
@@ -372,7 +372,7 @@ fn is_bare(game: &Game, changes: &Changes, returns: &Rows<PosId>, pos: PosId) ->
     ensures { result ≡ true → IsPlain (game_of game.now) 0 pos.0 }
 {
     let _ = game;
-    if changes.marks.is_marked(pos.0 as usize) {
+    if changes.flags.is_flagged(pos.0 as usize) {
         return false;
     }
     returns.row(pos.0).is_empty()

@@ -51,29 +51,29 @@ pub(crate) fn no_home(game: &Game, blocks: &Blocks) -> Home
     }
 }
 
-/// Whether a place is among those of the context's cells.
+/// Whether an index is among those of the context's cells.
 #[inline(always)]
-fn is_home(home: &Home, place: usize) -> bool
-    ensures { IsTrue result → (home.now.block.base ≤ place) × (place < home.now.past) }
+fn is_home(home: &Home, index: usize) -> bool
+    ensures { IsTrue result → (home.now.block.base ≤ index) × (index < home.now.past) }
 {
-    if place < home.block.base as usize {
+    if index < home.block.base as usize {
         return false;
     }
-    place < home.past as usize
+    index < home.past as usize
 }
 
-/// Where the cells of the context stand that has a place. A context is looked at first.
+/// Where the cells of the context stand that has an index. A context is looked at first.
 #[inline(always)]
-fn home_of(game: &Game, runs: &[Divisor], blocks: &Blocks, near: usize, place: usize) -> Home
+fn home_of(game: &Game, runs: &[Divisor], blocks: &Blocks, near: usize, index: usize) -> Home
     requires routed { AreRouted (game_of game.now) (length game.now.graph.parts.items) }
     requires runs { AreRuns (game_of game.now) (length game.now.graph.parts.items) runs.now }
     requires blocks { AreBlocks (game_of game.now) blocks.now }
-    requires within { place < cells_of (game_of game.now) blocks.now.contexts.items }
+    requires within { index < cells_of (game_of game.now) blocks.now.contexts.items }
     ensures home { IsHomeOf (game_of game.now) blocks.now.contexts.items result }
-    ensures from { result.block.base ≤ place }
-    ensures before { place < result.past }
+    ensures from { result.block.base ≤ index }
+    ensures before { index < result.past }
 {
-    let at = numbered(game, blocks, owner_near(game, blocks, near, place));
+    let at = numbered(game, blocks, owner_near(game, blocks, near, index));
     let block = block_by(game, runs, blocks, &at);
     let run = &runs[at.function() as usize];
     let past = block.base + block.many * game.states() as u32;
@@ -89,60 +89,60 @@ fn home_of(game: &Game, runs: &[Divisor], blocks: &Blocks, near: usize, place: u
     }
 }
 
-/// Has the context near that has a place, where it isn't near yet.
+/// Has the context near that has an index, where it isn't near yet.
 #[inline(never)]
-fn change_home(game: &Game, runs: &[Divisor], blocks: &Blocks, home: &mut Home, place: usize)
+fn change_home(game: &Game, runs: &[Divisor], blocks: &Blocks, home: &mut Home, index: usize)
     requires routed { AreRouted (game_of game.now) (length game.now.graph.parts.items) }
     requires runs { AreRuns (game_of game.now) (length game.now.graph.parts.items) runs.now }
     requires blocks { AreBlocks (game_of game.now) blocks.now }
-    requires within { place < cells_of (game_of game.now) blocks.now.contexts.items }
+    requires within { index < cells_of (game_of game.now) blocks.now.contexts.items }
     ensures home { IsHomeOf (game_of game.now) blocks.now.contexts.items home.new }
-    ensures from { home.new.block.base ≤ place }
-    ensures before { place < home.new.past }
+    ensures from { home.new.block.base ≤ index }
+    ensures before { index < home.new.past }
 {
-    *home = home_of(game, runs, blocks, home.cell.at.number(), place);
+    *home = home_of(game, runs, blocks, home.cell.at.number(), index);
 }
 
-/// Has the context near that has a place.
+/// Has the context near that has an index.
 #[inline(always)]
 pub(crate) fn approach(
     game: &Game,
     runs: &[Divisor],
     blocks: &Blocks,
     home: &mut Home,
-    place: usize,
+    index: usize,
 )
     requires routed { AreRouted (game_of game.now) (length game.now.graph.parts.items) }
     requires runs { AreRuns (game_of game.now) (length game.now.graph.parts.items) runs.now }
     requires blocks { AreBlocks (game_of game.now) blocks.now }
-    requires within { place < cells_of (game_of game.now) blocks.now.contexts.items }
+    requires within { index < cells_of (game_of game.now) blocks.now.contexts.items }
     requires home { IsHome (game_of game.now) blocks.now.contexts.items home.old }
     ensures home { IsHomeOf (game_of game.now) blocks.now.contexts.items home.new }
-    ensures from { home.new.block.base ≤ place }
-    ensures before { place < home.new.past }
+    ensures from { home.new.block.base ≤ index }
+    ensures before { index < home.new.past }
 {
-    if is_home(home, place) {
+    if is_home(home, index) {
         return;
     }
-    change_home(game, runs, blocks, home, place);
+    change_home(game, runs, blocks, home, index);
 }
 
-/// Looks at the cell at a place of the context that is near, which stays as it is.
+/// Looks at the cell at an index of the context that is near, which stays as it is.
 #[inline(always)]
-pub(crate) fn look_at(game: &Game, work: &Work, home: &mut Home, place: usize)
+pub(crate) fn look_at(game: &Game, work: &Work, home: &mut Home, index: usize)
     requires routed { AreRouted (game_of game.now) (length game.now.graph.parts.items) }
     requires known { IsKnown (game_of game.now) (known_of work.now) }
-    requires within { place < length work.now.store.heights }
+    requires within { index < length work.now.store.heights }
     requires home { IsHomeOf (game_of game.now) work.now.blocks.contexts.items home.old }
-    requires from { home.old.block.base ≤ place }
-    requires before { place < home.old.past }
+    requires from { home.old.block.base ≤ index }
+    requires before { index < home.old.past }
     ensures home { IsHomeOf (game_of game.now) work.now.blocks.contexts.items home.new }
-    ensures cell { IsCellAt (game_of game.now) work.now place home.new.cell }
+    ensures cell { IsCellAt (game_of game.now) work.now index home.new.cell }
     ensures block { IsBlock (game_of game.now) work.now.blocks home.new.cell.at home.new.block }
 {
     let _ = game;
     let _ = work;
-    let row = place as u32 - home.block.base;
+    let row = index as u32 - home.block.base;
     let state = home.run.quotient(row);
     let pos = home.block.first + (row - state * home.run.by());
     let state = state as u16;

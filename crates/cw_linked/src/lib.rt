@@ -10,13 +10,13 @@ mod cells;
 mod divisor;
 mod edges;
 mod home;
+mod implied;
 mod links;
 mod popped;
 mod returns;
 mod room;
 mod solver;
 mod ties;
-mod told;
 mod waiting;
 mod work;
 

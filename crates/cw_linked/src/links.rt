@@ -16,7 +16,7 @@ use cw_core::NoMemory;
 use cw_core::limits::CELLS;
 use cw_product::{Game, Turn};
 use cw_solve::table::{numbered, size};
-use cw_solve::{Context, Places};
+use cw_solve::{Context, Indices};
 use std::alloc::Global;
 
 /// What comes of a link that is taken.
@@ -27,12 +27,12 @@ pub(crate) enum Stepped {
     TooMany(Context),
 }
 
-/// Adds a context, to the places too.
-fn add_placed(
+/// Adds a context, to the indices too.
+fn add_indexed(
     alloc: Global,
     game: &Game,
     work: &mut Work,
-    places: &mut Places,
+    indices: &mut Indices,
     context: Context,
 ) -> Result<(), NoMemory>
     requires routed { AreRouted (game_of game.now) (length game.now.graph.parts.items) }
@@ -42,7 +42,7 @@ fn add_placed(
 {
     let function = context.function;
     add(alloc, game, work, context)?;
-    places.push(function)?;
+    indices.push(function)?;
     Ok(())
 }
 
@@ -51,7 +51,7 @@ fn number_of(
     alloc: Global,
     game: &Game,
     work: &mut Work,
-    places: &mut Places,
+    indices: &mut Indices,
     context: &Context,
 ) -> Result<Option<usize>, NoMemory>
     requires routed { AreRouted (game_of game.now) (length game.now.graph.parts.items) }
@@ -59,32 +59,32 @@ fn number_of(
     requires needed { IsNeeded (game_of game.now) context.now }
     ensures { IfOk result (λ number. NumbersContext (game_of game.now) work.old work.new context.now number) }
 {
-    match places.place_of(&work.blocks.contexts, context.function, &context.promise) {
+    match indices.index_of(&work.blocks.contexts, context.function, &context.promise) {
         Some(number) => Ok(Some(number)),
         None => {
             let number = work.blocks.contexts.len();
-            if work.store.places() as u32 + size(game, context.function) > CELLS as u32 {
+            if work.store.indices() as u32 + size(game, context.function) > CELLS as u32 {
                 return Ok(None);
             }
-            add_placed(alloc, game, work, places, *context)?;
+            add_indexed(alloc, game, work, indices, *context)?;
             Ok(Some(number))
         }
     }
 }
 
-/// Takes the link at a place, for so many moves.
+/// Takes the link at an index, for so many moves.
 pub(crate) fn take_link(
     alloc: Global,
     game: &Game,
     work: &mut Work,
-    places: &mut Places,
-    place: usize,
+    indices: &mut Indices,
+    index: usize,
     link: &Cell,
     moves: u32,
 ) -> Result<Stepped, NoMemory>
     requires routed { AreRouted (game_of game.now) (length game.now.graph.parts.items) }
-    requires freed { IsFreed (game_of game.now) work.old link.now place moves }
-    requires some { 0 < slice_index work.old.store.to place → 0 < moves }
+    requires freed { IsFreed (game_of game.now) work.old link.now index moves }
+    requires some { 0 < slice_index work.old.store.to index → 0 < moves }
     ensures { IfOk result (λ stepped. TakesLink (game_of game.now) work.old work.new stepped) }
 {
     let Turn::Call {
@@ -99,10 +99,10 @@ pub(crate) fn take_link(
         function: callee,
         promise: promise_of(game, work, link, back, split, moves),
     };
-    let Some(number) = number_of(alloc, game, work, places, &context)? else {
+    let Some(number) = number_of(alloc, game, work, indices, &context)? else {
         return Ok(Stepped::TooMany(context));
     };
     let to = numbered(game, &work.blocks, number);
-    tie_link(game, work, place, link, back, moves, &to)?;
+    tie_link(game, work, index, link, back, moves, &to)?;
     Ok(Stepped::More)
 }

@@ -11,9 +11,9 @@ use cw_links::Popped as Taken;
 #[derive(Drop)]
 pub(crate) enum Popped {
     Nothing,
-    /// The cell at a place, with its height.
+    /// The cell at an index, with its height.
     Cell(usize, u32),
-    /// The link at a place, with its number of moves.
+    /// The link at an index, with its number of moves.
     Link(usize, u32),
 }
 
@@ -25,10 +25,10 @@ pub(crate) fn pop(work: &mut Work) -> Popped
 {
     match work.store.pop() {
         Taken::Nothing => Popped::Nothing,
-        Taken::Cell(place, key) => {
+        Taken::Cell(index, key) => {
             work.written += 1;
-            Popped::Cell(place, key / 2)
+            Popped::Cell(index, key / 2)
         }
-        Taken::Link(place, key) => Popped::Link(place, key / 2),
+        Taken::Link(index, key) => Popped::Link(index, key / 2),
     }
 }

@@ -6,7 +6,7 @@ ghost use Rattle.cw_product.specs.Moves.{IsPosition};
 ghost use Rattle.cw_product.specs.Routed.{AreRouted, IsOf};
 ghost use Rattle.cw_solve.specs.Tables.{HasCell};
 ghost use Rattle.cw_linked.specs.Founds.{AreRight, AllStanding};
-ghost use Rattle.cw_linked.specs.Queues.{found_of, AreMarked, AreLong, AreHigh};
+ghost use Rattle.cw_linked.specs.Queues.{found_of, AreFlagged, AreLong, AreHigh};
 ghost use Rattle.cw_linked.specs.Returns.{AreReturns, AreFew, IsPromised, Returns, AsksReturn, AsksReturns};
 ghost use Rattle.cw_linked.specs.Steps.{ReturnsThere};
 ghost use Rattle.cw_linked.specs.Works.{known_of, IsKnown, heights_of, cell_of};
@@ -19,7 +19,7 @@ use cw_links::Rows;
 use cw_product::{Game, Turn};
 use cw_solve::table::{Tabled, slot};
 
-/// Whether the link at a place goes to a context whose promise has the state.
+/// Whether the link at an index goes to a context whose promise has the state.
 fn is_promised(work: &Work, link: usize, state: StateId) -> bool
     requires long { AreLong work.now }
     requires within { link < length work.now.store.heights }
@@ -68,7 +68,7 @@ fn ask_own(
     requires of { IsOf (game_of game.now) at.now.context.function pos.0 }
     requires returns { Returns (game_of game.now) pos.0 back.0 }
     requires few { AreFew work.old }
-    requires marked { AreMarked (game_of game.now) work.old }
+    requires flagged { AreFlagged (game_of game.now) work.old }
     requires long { AreLong work.old }
     requires high { AreHigh work.old }
     requires right { AreRight (game_of game.now) work.old.blocks.contexts.items (found_of (game_of game.now) work.old) }
@@ -105,7 +105,7 @@ pub(crate) fn ask_return(
     requires some { 0 < height }
     requires position { IsPosition (game_of game.now) pos.0 }
     requires few { AreFew work.old }
-    requires marked { AreMarked (game_of game.now) work.old }
+    requires flagged { AreFlagged (game_of game.now) work.old }
     requires long { AreLong work.old }
     requires high { AreHigh work.old }
     requires right { AreRight (game_of game.now) work.old.blocks.contexts.items (found_of (game_of game.now) work.old) }
@@ -137,7 +137,7 @@ pub(crate) fn ask_returns(
     requires taken { heights_of (game_of game.now) (known_of work.old) cell.now.at.number cell.now.pos.0 cell.now.state.0 ≡ height }
     requires some { 0 < height }
     requires few { AreFew work.old }
-    requires marked { AreMarked (game_of game.now) work.old }
+    requires flagged { AreFlagged (game_of game.now) work.old }
     requires long { AreLong work.old }
     requires high { AreHigh work.old }
     requires right { AreRight (game_of game.now) work.old.blocks.contexts.items (found_of (game_of game.now) work.old) }

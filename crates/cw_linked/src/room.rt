@@ -7,7 +7,7 @@ ghost use Rattle.cw_product.specs.Moves.{IsPosition, IsState};
 ghost use Rattle.cw_solve.specs.Contexts.{size};
 ghost use Rattle.cw_solve.specs.Rounds.{positions};
 ghost use Rattle.cw_product.specs.Routed.{IsThere, AreRouted, IsOf};
-ghost use Rattle.cw_linked.specs.Added.{PushesPlaces, PushesNext, PushesContext, MarksState, MarksLinks};
+ghost use Rattle.cw_linked.specs.Added.{PushesIndices, PushesNext, PushesContext, FlagsState, FlagsLinks};
 ghost use Rattle.cw_linked.specs.Founds.{class_of};
 
 use crate::calls::{class_at, is_call};
@@ -30,7 +30,7 @@ fn is_link(game: &Game, pos: PosId, state: StateId) -> bool
     }
 }
 
-/// Adds the link of a position, where one stands there, behind so many places before it that are none. How many places are still
+/// Adds the link of a position, where one stands there, behind so many indices before it that are none. How many indices are still
 /// to be added then.
 fn push_next(
     game: &Game,
@@ -41,7 +41,7 @@ fn push_next(
 ) -> Result<u32, NoMemory>
     requires position { IsPosition (game_of game.now) pos.0 }
     requires state { IsState (game_of game.now) state.0 }
-    requires few { length store.old.marks + (plain + 1) ≤ 4194304 }
+    requires few { length store.old.flags + (plain + 1) ≤ 4194304 }
     ensures { IfOk result (λ more. PushesNext (game_of game.now) store.old store.new pos.0 state.0 plain more) }
 {
     if is_link(game, pos, state) {
@@ -53,14 +53,14 @@ fn push_next(
     }
 }
 
-/// Adds the places of a function's positions in one state, of which nothing waits.
+/// Adds the indices of a function's positions in one state, of which nothing waits.
 fn push_state(game: &Game, store: &mut Store, function: u16, state: StateId) -> Result<(), NoMemory>
     requires routed { AreRouted (game_of game.now) (length game.now.graph.parts.items) }
     requires there { IsThere (game_of game.now) (length game.now.graph.parts.items) function }
     requires state { IsState (game_of game.now) state.0 }
-    requires few { length store.old.marks + positions (game_of game.now) function ≤ 4194304 }
-    ensures places { OnOk result (PushesPlaces store.old store.new (positions (game_of game.now) function)) }
-    ensures marked { OnOk result (MarksState (game_of game.now) store.old.marks store.new.marks function state.0 (positions (game_of game.now) function)) }
+    requires few { length store.old.flags + positions (game_of game.now) function ≤ 4194304 }
+    ensures indices { OnOk result (PushesIndices store.old store.new (positions (game_of game.now) function)) }
+    ensures flagged { OnOk result (FlagsState (game_of game.now) store.old.flags store.new.flags function state.0 (positions (game_of game.now) function)) }
 {
     let mut plain = 0;
     for p in game.entry(function).0..game.exit(function).0 + 1 {
@@ -84,27 +84,27 @@ fn has_calls(game: &Game, function: u16) -> bool
     false
 }
 
-/// Adds the places of a function without calls, of which nothing waits and none is a link.
+/// Adds the indices of a function without calls, of which nothing waits and none is a link.
 fn push_plain(game: &Game, store: &mut Store, function: u16) -> Result<(), NoMemory>
     requires routed { AreRouted (game_of game.now) (length game.now.graph.parts.items) }
     requires there { IsThere (game_of game.now) (length game.now.graph.parts.items) function }
-    requires few { length store.old.marks + size (game_of game.now) function ≤ 4194304 }
+    requires few { length store.old.flags + size (game_of game.now) function ≤ 4194304 }
     requires plain { (p : ℕ) → IsOf (game_of game.now) function p → is_call_in (slice_get (game_of game.now).spots p) ≡ false }
-    ensures places { OnOk result (PushesPlaces store.old store.new (size (game_of game.now) function)) }
-    ensures marked { OnOk result (MarksLinks (game_of game.now) store.old.marks store.new.marks function (size (game_of game.now) function)) }
+    ensures indices { OnOk result (PushesIndices store.old store.new (size (game_of game.now) function)) }
+    ensures flagged { OnOk result (FlagsLinks (game_of game.now) store.old.flags store.new.flags function (size (game_of game.now) function)) }
 {
     let many = size(game, function);
     store.push_plain(many)?;
     Ok(())
 }
 
-/// Adds the places of a function state by state, of which nothing waits.
+/// Adds the indices of a function state by state, of which nothing waits.
 fn push_states(game: &Game, store: &mut Store, function: u16) -> Result<(), NoMemory>
     requires routed { AreRouted (game_of game.now) (length game.now.graph.parts.items) }
     requires there { IsThere (game_of game.now) (length game.now.graph.parts.items) function }
-    requires few { length store.old.marks + size (game_of game.now) function ≤ 4194304 }
-    ensures places { OnOk result (PushesPlaces store.old store.new (size (game_of game.now) function)) }
-    ensures marked { OnOk result (MarksLinks (game_of game.now) store.old.marks store.new.marks function (size (game_of game.now) function)) }
+    requires few { length store.old.flags + size (game_of game.now) function ≤ 4194304 }
+    ensures indices { OnOk result (PushesIndices store.old store.new (size (game_of game.now) function)) }
+    ensures flagged { OnOk result (FlagsLinks (game_of game.now) store.old.flags store.new.flags function (size (game_of game.now) function)) }
 {
     for x in 0..game.states() {
         push_state(game, store, function, StateId(x))?;
@@ -112,13 +112,13 @@ fn push_states(game: &Game, store: &mut Store, function: u16) -> Result<(), NoMe
     Ok(())
 }
 
-/// Adds the places of a function, of which nothing waits.
-pub(crate) fn push_places(game: &Game, store: &mut Store, function: u16) -> Result<(), NoMemory>
+/// Adds the indices of a function, of which nothing waits.
+pub(crate) fn push_indices(game: &Game, store: &mut Store, function: u16) -> Result<(), NoMemory>
     requires routed { AreRouted (game_of game.now) (length game.now.graph.parts.items) }
     requires there { IsThere (game_of game.now) (length game.now.graph.parts.items) function }
-    requires few { length store.old.marks + size (game_of game.now) function ≤ 4194304 }
-    ensures places { OnOk result (PushesPlaces store.old store.new (size (game_of game.now) function)) }
-    ensures marked { OnOk result (MarksLinks (game_of game.now) store.old.marks store.new.marks function (size (game_of game.now) function)) }
+    requires few { length store.old.flags + size (game_of game.now) function ≤ 4194304 }
+    ensures indices { OnOk result (PushesIndices store.old store.new (size (game_of game.now) function)) }
+    ensures flagged { OnOk result (FlagsLinks (game_of game.now) store.old.flags store.new.flags function (size (game_of game.now) function)) }
 {
     if has_calls(game, function) {
         return push_states(game, store, function);
@@ -126,7 +126,7 @@ pub(crate) fn push_places(game: &Game, store: &mut Store, function: u16) -> Resu
     push_plain(game, store, function)
 }
 
-/// Adds a context whose cells begin at this place.
+/// Adds a context whose cells begin at this index.
 pub(crate) fn push(blocks: &mut Blocks, context: Context, base: u32) -> Result<(), NoMemory>
     ensures { OnOk result (PushesContext blocks.old blocks.new context base) }
 {

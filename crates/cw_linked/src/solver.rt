@@ -29,10 +29,10 @@ use cw_core::NoMemory;
 use cw_links::Store;
 use cw_product::Game;
 use cw_solve::table::{Blocks, Table, main_context};
-use cw_solve::{Context, Places, SolveFault, Solved};
+use cw_solve::{Context, Indices, SolveFault, Solved};
 use std::alloc::{AllocError, Global};
 
-/// Asks for what waits for the cell at a place, which has this height now. Its context is near from then on, and maybe it was
+/// Asks for what waits for the cell at an index, which has this height now. Its context is near from then on, and maybe it was
 /// before.
 #[inline(always)]
 fn finish_at(
@@ -40,7 +40,7 @@ fn finish_at(
     edges: &Edges,
     work: &mut Work,
     home: &mut Home,
-    place: usize,
+    index: usize,
     height: u32,
 ) -> Result<(), NoMemory>
     requires routed { AreRouted (game_of game.now) (length game.now.graph.parts.items) }
@@ -49,43 +49,43 @@ fn finish_at(
     requires plain { ArePlain (game_of game.now) (min (length game.now.graph.parts.items) 65536) (length (game_of game.now).spots) edges.now.plain.items }
     requires runs { AreRuns (game_of game.now) (length game.now.graph.parts.items) edges.now.runs.items }
     requires known { IsKnown (game_of game.now) (known_of work.old) }
-    requires within { place < length work.old.store.heights }
-    requires taken { IsTakenAt (game_of game.now) work.old place height }
+    requires within { index < length work.old.store.heights }
+    requires taken { IsTakenAt (game_of game.now) work.old index height }
     requires home { IsHome (game_of game.now) work.old.blocks.contexts.items home.old }
     ensures finishes { OnOk result (Finishes (game_of game.now) work.old work.new work.old.store.to) }
     ensures home { IsHome (game_of game.now) work.old.blocks.contexts.items home.new }
 {
-    approach(game, &edges.runs, &work.blocks, home, place);
-    look_at(game, work, home, place);
+    approach(game, &edges.runs, &work.blocks, home, index);
+    look_at(game, work, home, index);
     finish(game, edges, work, &home.cell, &home.block, height)?;
     Ok(())
 }
 
-/// Takes the link at a place, for so many moves. Its context is the first to be looked at then, but where its cells stand is asked
-/// anew. The places have each context that is added.
+/// Takes the link at an index, for so many moves. Its context is the first to be looked at then, but where its cells stand is asked
+/// anew. The indices have each context that is added.
 #[inline(never)]
 fn tie_at(
     alloc: Global,
     game: &Game,
     edges: &Edges,
     work: &mut Work,
-    places: &mut Places,
+    indices: &mut Indices,
     home: &mut Home,
-    place: usize,
+    index: usize,
     moves: u32,
 ) -> Result<Stepped, NoMemory>
     requires routed { AreRouted (game_of game.now) (length game.now.graph.parts.items) }
     requires runs { AreRuns (game_of game.now) (length game.now.graph.parts.items) edges.now.runs.items }
     requires known { IsKnown (game_of game.now) (known_of work.old) }
-    requires within { place < length work.old.store.heights }
-    requires freed { IsFreedAt (game_of game.now) work.old place moves }
-    requires some { 0 < slice_index work.old.store.to place → 0 < moves }
+    requires within { index < length work.old.store.heights }
+    requires freed { IsFreedAt (game_of game.now) work.old index moves }
+    requires some { 0 < slice_index work.old.store.to index → 0 < moves }
     ensures takes { IfOk result (λ stepped. TakesLink (game_of game.now) work.old work.new stepped) }
     ensures home { home.new.past ≡ 0 }
 {
-    let link = cell_by(game, &edges.runs, work, home.cell.at.number(), place);
+    let link = cell_by(game, &edges.runs, work, home.cell.at.number(), index);
     home.past = 0;
-    let stepped = take_link(alloc, game, work, places, place, &link, moves)?;
+    let stepped = take_link(alloc, game, work, indices, index, &link, moves)?;
     home.cell = link;
     Ok(stepped)
 }
@@ -97,7 +97,7 @@ fn steps(
     game: &Game,
     edges: &Edges,
     work: &mut Work,
-    places: &mut Places,
+    indices: &mut Indices,
 ) -> Result<Option<Context>, NoMemory>
     requires routed { AreRouted (game_of game.now) (length game.now.graph.parts.items) }
     requires waits { AreWaits (game_of game.now) edges.now.waits }
@@ -111,11 +111,11 @@ fn steps(
     'steps: loop {
         match pop(work) {
             Popped::Nothing => return Ok(None),
-            Popped::Cell(place, height) => {
-                finish_at(game, edges, work, &mut home, place, height)?;
+            Popped::Cell(index, height) => {
+                finish_at(game, edges, work, &mut home, index, height)?;
             }
-            Popped::Link(place, moves) => {
-                match tie_at(alloc, game, edges, work, places, &mut home, place, moves)? {
+            Popped::Link(index, moves) => {
+                match tie_at(alloc, game, edges, work, indices, &mut home, index, moves)? {
                     Stepped::More => {}
                     Stepped::TooMany(context) => return Ok(Some(context)),
                 }
@@ -152,15 +152,15 @@ fn begun(alloc: Global, game: &Game) -> Result<Work, NoMemory>
 fn solve_work(
     alloc: Global,
     game: &Game,
-    places: &mut Places,
+    indices: &mut Indices,
 ) -> Result<(Work, Option<Context>), NoMemory>
     requires routed { AreRouted (game_of game.now) (length game.now.graph.parts.items) }
     ensures { IfOk result (λ end. Ends (game_of game.now) (known_of end.0) end.1) }
 {
     let edges = Edges::make(alloc, game)?;
     let mut work = begun(alloc, game)?;
-    places.push(game.main())?;
-    let more = steps(alloc, game, &edges, &mut work, places)?;
+    indices.push(game.main())?;
+    let more = steps(alloc, game, &edges, &mut work, indices)?;
     Ok((work, more))
 }
 
@@ -187,13 +187,13 @@ fn table_of(work: Work) -> Table
 }
 
 /// The table of a game.
-fn solve_table(alloc: Global, game: &Game, places: &mut Places) -> Result<Table, SolveFault>
+fn solve_table(alloc: Global, game: &Game, indices: &mut Indices) -> Result<Table, SolveFault>
     requires routed { AreRouted (game_of game.now) (length game.now.graph.parts.items) }
     ensures table { IfOk result (λ t. IsTable (game_of game.now) t) }
     ensures done { IfOk result (λ t. IsDone (game_of game.now) t) }
     ensures cause { IfErr result (λ fault. IsCause (game_of game.now) fault) }
 {
-    let Ok((work, more)) = solve_work(alloc, game, places) else {
+    let Ok((work, more)) = solve_work(alloc, game, indices) else {
         return Err(SolveFault::NoMemory);
     };
     match more {
@@ -218,7 +218,7 @@ pub fn solve<'g>(alloc: Global, game: &'g Game<'g>) -> Result<Solved<'g>, SolveF
     ensures few { IfOk result (λ s. cells_of (game_of game.now) s.contexts ≤ 4194304) }
     ensures cause { IfErr result (λ fault. IsCause (game_of game.now) fault) }
 {
-    let mut places = Places::make(alloc);
-    let table = solve_table(alloc, game, &mut places)?;
-    Ok(Solved::of(game, table, places))
+    let mut indices = Indices::make(alloc);
+    let table = solve_table(alloc, game, &mut indices)?;
+    Ok(Solved::of(game, table, indices))
 }

@@ -3,7 +3,7 @@
 ghost use Rattle.std.specs.Prelude.{◌≡◌, ◌+◌, ◌<◌, ◌≤◌, suc, true, length, slice_index, slice_set, OnOk};
 ghost use Rattle.cw_game.specs.Games.{returned};
 ghost use Rattle.cw_game.specs.Pairs.{kept_at};
-ghost use Rattle.cw_links.specs.Marks.{is_marked};
+ghost use Rattle.cw_links.specs.Flags.{is_flagged};
 ghost use Rattle.cw_product.specs.Product.{game_of};
 ghost use Rattle.cw_product.specs.Moves.{IsPosition};
 ghost use Rattle.cw_product.specs.Routed.{AreRouted, IsOf};
@@ -13,7 +13,7 @@ ghost use Rattle.cw_solve.specs.Tables.{IsTabled, HasCell};
 ghost use Rattle.cw_linked.specs.Calls.{AreCallers, AsksCaller};
 ghost use Rattle.cw_linked.specs.Founds.{AreRight, AllCalled, AllStanding, IsTied};
 ghost use Rattle.cw_linked.specs.Popped.{Finishes};
-ghost use Rattle.cw_linked.specs.Queues.{found_of, AreMarked, AreLong, AreHigh, IsCellAt};
+ghost use Rattle.cw_linked.specs.Queues.{found_of, AreFlagged, AreLong, AreHigh, IsCellAt};
 ghost use Rattle.cw_linked.specs.Returns.{AreFew, Returns, AsksReturn};
 ghost use Rattle.cw_linked.specs.Steps.{CallsBy, IsIt};
 ghost use Rattle.cw_linked.specs.Tied.{IsTieable, TiesLink, AsksCalls, AsksAgain};
@@ -76,18 +76,18 @@ pub(crate) fn promise_of(
     set
 }
 
-/// Ties the link at a place to a context, with a promise for so many moves.
-fn tie(work: &mut Work, place: usize, callee: &Tabled, moves: u32)
+/// Ties the link at an index to a context, with a promise for so many moves.
+fn tie(work: &mut Work, index: usize, callee: &Tabled, moves: u32)
     requires long { AreLong work.old }
     requires callers { AreCallers work.old }
     requires few { length work.old.store.heights ≤ 4194304 }
-    requires within { place < length work.old.store.heights }
-    requires marked { is_marked work.old.store.marks place ≡ true }
+    requires within { index < length work.old.store.heights }
+    requires flagged { is_flagged work.old.store.flags index ≡ true }
     requires contexts { length work.old.blocks.contexts.items ≤ 4194304 }
     requires number { callee.now.number < length work.old.blocks.contexts.items }
-    ensures { TiesLink work.old work.new place callee.now.number moves }
+    ensures { TiesLink work.old work.new index callee.now.number moves }
 {
-    work.store.tie(place, callee.number() as u32 + 1, moves);
+    work.store.tie(index, callee.number() as u32 + 1, moves);
 }
 
 /// Asks for the call of a link, if the callee is lost from the cell's state.
@@ -97,23 +97,23 @@ fn ask_lost(
     at: &Tabled,
     pos: PosId,
     state: StateId,
-    place: usize,
+    index: usize,
 ) -> Result<(), NoMemory>
     requires routed { AreRouted (game_of game.now) (length game.now.graph.parts.items) }
     requires known { IsKnown (game_of game.now) (known_of work.old) }
     requires cell { HasCell (game_of game.now) work.old.blocks at.now pos.0 state.0 }
     requires entry { pos.0 ≡ (game_of game.now).entry at.now.context.function }
-    requires within { place < length work.old.store.heights }
+    requires within { index < length work.old.store.heights }
     requires long { AreLong work.old }
     requires high { AreHigh work.old }
     requires right { AreRight (game_of game.now) work.old.blocks.contexts.items (found_of (game_of game.now) work.old) }
-    ensures { OnOk result (AsksCaller (game_of game.now) work.old work.new place (cell_of at.now pos state)) }
+    ensures { OnOk result (AsksCaller (game_of game.now) work.old work.new index (cell_of at.now pos state)) }
 {
     let height = height_at(game, work, at, pos, state);
     if height == 0 {
         return Ok(());
     }
-    ask_call(game, work, at, pos, state, height, place)?;
+    ask_call(game, work, at, pos, state, height, index)?;
     Ok(())
 }
 
@@ -121,15 +121,15 @@ fn ask_lost(
 fn ask_calls(
     game: &Game,
     work: &mut Work,
-    place: usize,
+    index: usize,
     link: &Cell,
     callee: &Tabled,
 ) -> Result<(), NoMemory>
     requires routed { AreRouted (game_of game.now) (length game.now.graph.parts.items) }
     requires known { IsKnown (game_of game.now) (known_of work.old) }
-    requires at { IsCellAt (game_of game.now) work.old place link.now }
+    requires at { IsCellAt (game_of game.now) work.old index link.now }
     requires callee { IsTabled work.old.blocks callee.now }
-    requires goes { slice_index work.old.store.to place ≡ suc callee.now.number }
+    requires goes { slice_index work.old.store.to index ≡ suc callee.now.number }
     requires long { AreLong work.old }
     requires high { AreHigh work.old }
     requires right { AreRight (game_of game.now) work.old.blocks.contexts.items (found_of (game_of game.now) work.old) }
@@ -139,7 +139,7 @@ fn ask_calls(
 {
     let entry = game.entry(callee.function());
     for q in 0..game.states() {
-        ask_lost(game, work, callee, entry, StateId(q), place)?;
+        ask_lost(game, work, callee, entry, StateId(q), index)?;
     }
     Ok(())
 }
@@ -158,7 +158,7 @@ fn ask_back(
     requires cell { HasCell (game_of game.now) work.old.blocks at.now back.0 state.0 }
     requires position { IsPosition (game_of game.now) pos.0 }
     requires few { AreFew work.old }
-    requires marked { AreMarked (game_of game.now) work.old }
+    requires flagged { AreFlagged (game_of game.now) work.old }
     requires long { AreLong work.old }
     requires high { AreHigh work.old }
     requires right { AreRight (game_of game.now) work.old.blocks.contexts.items (found_of (game_of game.now) work.old) }
@@ -181,7 +181,7 @@ fn ask_again(game: &Game, work: &mut Work, link: &Cell, back: PosId) -> Result<(
     requires returns { Returns (game_of game.now) link.now.pos.0 back.0 }
     requires tied { IsTied (found_of (game_of game.now) work.old) link.now.at.number link.now.pos.0 link.now.state.0 }
     requires few { AreFew work.old }
-    requires marked { AreMarked (game_of game.now) work.old }
+    requires flagged { AreFlagged (game_of game.now) work.old }
     requires long { AreLong work.old }
     requires high { AreHigh work.old }
     requires right { AreRight (game_of game.now) work.old.blocks.contexts.items (found_of (game_of game.now) work.old) }
@@ -199,18 +199,18 @@ fn ask_again(game: &Game, work: &mut Work, link: &Cell, back: PosId) -> Result<(
 pub(crate) fn tie_link(
     game: &Game,
     work: &mut Work,
-    place: usize,
+    index: usize,
     link: &Cell,
     back: PosId,
     moves: u32,
     callee: &Tabled,
 ) -> Result<(), NoMemory>
     requires routed { AreRouted (game_of game.now) (length game.now.graph.parts.items) }
-    requires tieable { IsTieable (game_of game.now) work.old link.now place moves callee.now.number back.0 callee.now.context }
-    ensures { OnOk result (Finishes (game_of game.now) work.old work.new (slice_set work.old.store.to place (callee.now.number + 1))) }
+    requires tieable { IsTieable (game_of game.now) work.old link.now index moves callee.now.number back.0 callee.now.context }
+    ensures { OnOk result (Finishes (game_of game.now) work.old work.new (slice_set work.old.store.to index (callee.now.number + 1))) }
 {
-    tie(work, place, callee, moves);
-    ask_calls(game, work, place, link, callee)?;
+    tie(work, index, callee, moves);
+    ask_calls(game, work, index, link, callee)?;
     ask_again(game, work, link, back)?;
     Ok(())
 }

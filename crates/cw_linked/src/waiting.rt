@@ -1,7 +1,7 @@
 //! Pairs that wait for a cell are asked for.
 
 ghost use Rattle.std.specs.Prelude.{◌≡◌, ◌<◌, ◌*◌, ◌↔◌, IsTrue, true, length, OnOk};
-ghost use Rattle.cw_links.specs.Marks.{is_marked, number};
+ghost use Rattle.cw_links.specs.Flags.{is_flagged, number};
 ghost use Rattle.cw_product.specs.Product.{game_of};
 ghost use Rattle.cw_product.specs.Moves.{IsState};
 ghost use Rattle.cw_product.specs.Routed.{AreRouted, IsOf};
@@ -15,23 +15,23 @@ ghost use Rattle.cw_linked.specs.Waiting.{pair_of, list_of, IsStepTo, AreSources
 
 use crate::block::{Block, is_in};
 use crate::edges::{Changes, Pair, Source};
-use crate::told::{ask_before, ask_told};
+use crate::implied::{ask_before, ask_implied};
 use crate::work::{Cell, Work};
 use cw_core::{NoMemory, PosId, StateId};
-use cw_links::{Marks, Rows};
+use cw_links::{Flags, Rows};
 use cw_product::Game;
 use cw_solve::table::Tabled;
 
-/// The number of the list of a pair whose position is marked.
-pub(crate) fn list_of(game: &Game, marks: &Marks, pos: PosId, state: StateId) -> u32
+/// The number of the list of a pair whose position is flagged.
+pub(crate) fn list_of(game: &Game, flags: &Flags, pos: PosId, state: StateId) -> u32
     requires routed { AreRouted (game_of game.now) (length game.now.graph.parts.items) }
-    requires long { length marks.now ≡ length (game_of game.now).spots }
-    requires marked { is_marked marks.now pos.0 ≡ true }
+    requires long { length flags.now ≡ length (game_of game.now).spots }
+    requires flagged { is_flagged flags.now pos.0 ≡ true }
     requires state { IsState (game_of game.now) state.0 }
-    ensures is { result ≡ list_of (game_of game.now) marks.now pos.0 state.0 }
-    ensures within { result < number marks.now * (game_of game.now).states.count }
+    ensures is { result ≡ list_of (game_of game.now) flags.now pos.0 state.0 }
+    ensures within { result < number flags.now * (game_of game.now).states.count }
 {
-    marks.rank(pos.0 as usize) * u32::from(game.states()) + u32::from(state.0)
+    flags.rank(pos.0 as usize) * u32::from(game.states()) + u32::from(state.0)
 }
 
 /// Whether the position is one of the context's function.
@@ -62,7 +62,7 @@ fn ask_pair(
     ensures { OnOk result (AsksPair (game_of game.now) work.old work.new cell.now pair) }
 {
     if is_in(game, &work.blocks, &cell.at, block, pair.pos) {
-        ask_told(game, work, &cell.at, block, pair.pos, pair.state)?;
+        ask_implied(game, work, &cell.at, block, pair.pos, pair.state)?;
         Ok(())
     } else {
         Ok(())
@@ -152,10 +152,10 @@ pub(crate) fn ask_changes(
         (ChangesFor (game_of game.now) cell.now.at.number cell.now.pos.0 cell.now.state.0) }
     ensures { OnOk result (AsksWaiting (game_of game.now) work.old work.new) }
 {
-    if !changes.marks.is_marked(cell.pos.0 as usize) {
+    if !changes.flags.is_flagged(cell.pos.0 as usize) {
         return Ok(());
     }
-    let list = list_of(game, &changes.marks, cell.pos, cell.state);
+    let list = list_of(game, &changes.flags, cell.pos, cell.state);
     let mut next = changes.pairs.first(list);
     'walk: while let Some(edge) = next {
         ask_pair(game, work, cell, block, *changes.pairs.get(edge))?;

@@ -1,7 +1,7 @@
 //! What the solver has found so far, and what waits.
 
 ghost use Rattle.std.specs.Prelude.{◌≡◌, ◌*◌, ◌<◌, ◌≤◌, true, length, IsTrue, OnOk};
-ghost use Rattle.cw_links.specs.Marks.{is_marked};
+ghost use Rattle.cw_links.specs.Flags.{is_flagged};
 ghost use Rattle.cw_product.specs.Product.{game_of};
 ghost use Rattle.cw_product.specs.Routed.{AreRouted};
 ghost use Rattle.cw_solve.specs.Contexts.{cells_of};
@@ -17,8 +17,8 @@ use cw_links::Store;
 use cw_product::Game;
 use cw_solve::table::{Blocks, Tabled, numbered, positions};
 
-/// The contexts that are there; and by each cell's place the height that is taken, 0 where none is, and the key under which the cell
-/// waits, 0 where it doesn't. A link, a call of a context with a class of states, has the place of its call and the state that
+/// The contexts that are there; and by each cell's index the height that is taken, 0 where none is, and the key under which the cell
+/// waits, 0 where it doesn't. A link, a call of a context with a class of states, has the index of its call and the state that
 /// stands for the class. It has the number of the context to which it goes plus 1, 0 where it isn't tied; the number of moves
 /// for which it promises; and its key. A cell of height n waits under 2 * n, a link whose promise shrinks for n moves
 /// under 2 * n + 1.
@@ -39,59 +39,59 @@ pub(crate) struct Cell {
     pub state: StateId,
 }
 
-/// The number of the context that has a place among those of its cells: the last one that begins at or before it.
-fn owner(game: &Game, blocks: &Blocks, place: usize) -> usize
+/// The number of the context that has an index among those of its cells: the last one that begins at or before it.
+fn owner(game: &Game, blocks: &Blocks, index: usize) -> usize
     requires blocks { AreBlocks (game_of game.now) blocks.now }
-    requires within { place < cells_of (game_of game.now) blocks.now.contexts.items }
-    ensures { IsOwner (game_of game.now) blocks.now.contexts.items result place }
+    requires within { index < cells_of (game_of game.now) blocks.now.contexts.items }
+    ensures { IsOwner (game_of game.now) blocks.now.contexts.items result index }
 {
-    let place = place as u32;
-    blocks.bases.partition_point(|base| *base <= place) - 1
+    let index = index as u32;
+    blocks.bases.partition_point(|base| *base <= index) - 1
 }
 
-/// Whether a context has a place among those of its cells.
-fn has_place(game: &Game, blocks: &Blocks, number: usize, place: usize) -> bool
+/// Whether a context has an index among those of its cells.
+fn has_index(game: &Game, blocks: &Blocks, number: usize, index: usize) -> bool
     requires blocks { AreBlocks (game_of game.now) blocks.now }
-    requires within { place < cells_of (game_of game.now) blocks.now.contexts.items }
-    ensures { IsTrue result → IsOwner (game_of game.now) blocks.now.contexts.items number place }
+    requires within { index < cells_of (game_of game.now) blocks.now.contexts.items }
+    ensures { IsTrue result → IsOwner (game_of game.now) blocks.now.contexts.items number index }
 {
-    let place = place as u32;
+    let index = index as u32;
     match blocks.bases.get(number) {
         None => false,
         Some(base) => {
-            *base <= place
+            *base <= index
                 && match blocks.bases.get(number + 1) {
                     None => true,
-                    Some(next) => place < *next,
+                    Some(next) => index < *next,
                 }
         }
     }
 }
 
 /// The same as `owner`. A context is looked at first: mostly the one whose cell was taken before has this one too.
-pub(crate) fn owner_near(game: &Game, blocks: &Blocks, near: usize, place: usize) -> usize
+pub(crate) fn owner_near(game: &Game, blocks: &Blocks, near: usize, index: usize) -> usize
     requires blocks { AreBlocks (game_of game.now) blocks.now }
-    requires within { place < cells_of (game_of game.now) blocks.now.contexts.items }
-    ensures { IsOwner (game_of game.now) blocks.now.contexts.items result place }
+    requires within { index < cells_of (game_of game.now) blocks.now.contexts.items }
+    ensures { IsOwner (game_of game.now) blocks.now.contexts.items result index }
 {
-    if has_place(game, blocks, near, place) {
+    if has_index(game, blocks, near, index) {
         near
     } else {
-        owner(game, blocks, place)
+        owner(game, blocks, index)
     }
 }
 
-/// The cell at a place of a context's cells, whose function has so many positions.
-fn cell_in(game: &Game, work: &Work, place: usize, at: Tabled, run: &Divisor) -> Cell
+/// The cell at an index of a context's cells, whose function has so many positions.
+fn cell_in(game: &Game, work: &Work, index: usize, at: Tabled, run: &Divisor) -> Cell
     requires routed { AreRouted (game_of game.now) (length game.now.graph.parts.items) }
     requires known { IsKnown (game_of game.now) (known_of work.now) }
-    requires within { place < length work.now.store.heights }
+    requires within { index < length work.now.store.heights }
     requires there { IsTabled work.now.blocks at }
-    requires owner { IsOwner (game_of game.now) work.now.blocks.contexts.items at.number place }
+    requires owner { IsOwner (game_of game.now) work.now.blocks.contexts.items at.number index }
     requires run { run.now ≡ positions (game_of game.now) at.context.function }
-    ensures { IsCellAt (game_of game.now) work.now place result }
+    ensures { IsCellAt (game_of game.now) work.now index result }
 {
-    let row = place as u32 - work.blocks.bases[at.number()];
+    let row = index as u32 - work.blocks.bases[at.number()];
     let entry = game.entry(at.function()).0;
     let state = run.quotient(row);
     Cell {
@@ -101,54 +101,54 @@ fn cell_in(game: &Game, work: &Work, place: usize, at: Tabled, run: &Divisor) ->
     }
 }
 
-/// The cell at a place.
-pub(crate) fn cell_at(game: &Game, work: &Work, place: usize) -> Cell
+/// The cell at an index.
+pub(crate) fn cell_at(game: &Game, work: &Work, index: usize) -> Cell
     requires routed { AreRouted (game_of game.now) (length game.now.graph.parts.items) }
     requires known { IsKnown (game_of game.now) (known_of work.now) }
-    requires within { place < length work.now.store.heights }
-    ensures { IsCellAt (game_of game.now) work.now place result }
+    requires within { index < length work.now.store.heights }
+    ensures { IsCellAt (game_of game.now) work.now index result }
 {
-    let at = numbered(game, &work.blocks, owner(game, &work.blocks, place));
+    let at = numbered(game, &work.blocks, owner(game, &work.blocks, index));
     let run = Divisor::of(positions(game, at.function()));
-    cell_in(game, work, place, at, &run)
+    cell_in(game, work, index, at, &run)
 }
 
-/// The cell at a place, where the numbers of positions of functions are known, and maybe a context that has it.
-pub(crate) fn cell_by(game: &Game, runs: &[Divisor], work: &Work, near: usize, place: usize) -> Cell
+/// The cell at an index, where the numbers of positions of functions are known, and maybe a context that has it.
+pub(crate) fn cell_by(game: &Game, runs: &[Divisor], work: &Work, near: usize, index: usize) -> Cell
     requires routed { AreRouted (game_of game.now) (length game.now.graph.parts.items) }
     requires runs { AreRuns (game_of game.now) (length game.now.graph.parts.items) runs.now }
     requires known { IsKnown (game_of game.now) (known_of work.now) }
-    requires within { place < length work.now.store.heights }
-    ensures { IsCellAt (game_of game.now) work.now place result }
+    requires within { index < length work.now.store.heights }
+    ensures { IsCellAt (game_of game.now) work.now index result }
 {
     let at = numbered(
         game,
         &work.blocks,
-        owner_near(game, &work.blocks, near, place),
+        owner_near(game, &work.blocks, near, index),
     );
     let run = &runs[at.function() as usize];
-    cell_in(game, work, place, at, run)
+    cell_in(game, work, index, at, run)
 }
 
 /// Has the cell wait for a height, unless it has one or waits for a lower one.
 #[inline(always)]
-pub(crate) fn ask_cell(work: &mut Work, place: usize, height: u32) -> Result<(), NoMemory>
+pub(crate) fn ask_cell(work: &mut Work, index: usize, height: u32) -> Result<(), NoMemory>
     requires long { AreLong work.old }
-    requires within { place < length work.old.store.heights }
+    requires within { index < length work.old.store.heights }
     requires some { 0 < height }
     requires few { height ≤ 2147483647 }
-    ensures { OnOk result (AsksForCell work.old work.new place (2 * height)) }
+    ensures { OnOk result (AsksForCell work.old work.new index (2 * height)) }
 {
-    work.store.ask_cell(place, height)?;
+    work.store.ask_cell(index, height)?;
     Ok(())
 }
 
 /// Has the link wait under a key, unless it waits under a lower one.
-pub(crate) fn ask_link(work: &mut Work, place: usize, key: u32) -> Result<(), NoMemory>
-    requires marked { is_marked work.old.store.marks place ≡ true }
+pub(crate) fn ask_link(work: &mut Work, index: usize, key: u32) -> Result<(), NoMemory>
+    requires flagged { is_flagged work.old.store.flags index ≡ true }
     requires some { 0 < key }
-    ensures { OnOk result (AsksForLink work.old work.new place key) }
+    ensures { OnOk result (AsksForLink work.old work.new index key) }
 {
-    work.store.ask_link(place, key)?;
+    work.store.ask_link(index, key)?;
     Ok(())
 }

@@ -8,7 +8,7 @@ use Rattle.cw_links.specs.Lists.{list_at, without, with_front, AreApart}
 use Rattle.cw_links.specs.Rows.{has, Once}
 use Rattle.cw_links.specs.Heights.{height_at}
 use Rattle.cw_links.proofs.NodeRows.{less, has-less_same, has-less_other, has-less_within, has_tail, has-append, apart-append, Once-append_right}
-use Rattle.cw_links.proofs.Moves.{contains_from_has, has_place}
+use Rattle.cw_links.proofs.Moves.{contains_from_has, has_index}
 use Rattle.cw_lemmas.proofs.Truths.{cond_true as true_either}
 
 -- lengths
@@ -35,7 +35,7 @@ list_at-with_front_other ls l c h ne = get_or-set_other ls l h _ [] ne
 -- members
 
 has_from_contains : (xs : List ℕ) (y : ℕ) → Contains xs y → has xs y ≡ true
-has_from_contains xs y h = ap (λ w. has xs w) (sym h.2) ∙ has_place xs h.0 y h.1
+has_from_contains xs y h = ap (λ w. has xs w) (sym h.2) ∙ has_index xs h.0 y h.1
 
 pub Contains-without : (ls : List (List ℕ)) (c h y : ℕ) → Contains (list_at (without ls c) h) y → Contains (list_at ls h) y × (y ≢ c)
 Contains-without ls c h y k =

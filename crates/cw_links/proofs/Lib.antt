@@ -15,7 +15,7 @@ pub mod Spreads
 pub mod Blocks
 mod Bits
 pub mod Plain
-pub mod CellWords
+pub mod CellNumbers
 pub mod Queueing
 pub mod Linking
 pub mod Spreading

@@ -420,13 +420,13 @@ Below-concat n (xs ∷ ms) y b h = ⊎_elim
     (λ i. Below-concat n ms y b.1 (sym (rw i at (has-append xs (concat ms) y)) ∙ h))
     (cases_Bool (has xs y))
 
-pub has_place : (xs : List ℕ) (k d : ℕ) → k < length xs → has xs (get_or xs k d) ≡ true
-has_place [] k d l = absurd (omega (arith, l))
-has_place (x ∷ xs) zero d l = rw (eq-eqb x x refl) refl
-has_place (x ∷ xs) (suc k) d l = has_more x xs (get_or xs k d) (has_place xs k d (omega (arith, l)))
+pub has_index : (xs : List ℕ) (k d : ℕ) → k < length xs → has xs (get_or xs k d) ≡ true
+has_index [] k d l = absurd (omega (arith, l))
+has_index (x ∷ xs) zero d l = rw (eq-eqb x x refl) refl
+has_index (x ∷ xs) (suc k) d l = has_more x xs (get_or xs k d) (has_index xs k d (omega (arith, l)))
 
 pub apart : (f n b : List ℕ) (ls : List (List ℕ)) → AreLinks f n b ls → AreApart ls (length n)
 apart f n b ls a = record {
-  known = λ k d l. Below-concat (length n) ls (get_or (concat ls) k d) a.below (has_place (concat ls) k d l);
+  known = λ k d l. Below-concat (length n) ls (get_or (concat ls) k d) a.below (has_index (concat ls) k d l);
   once = IsDistinct-from_Once (concat ls) (Once-concat ls 0 a.once);
 }

@@ -1,155 +1,155 @@
--- How many places before a place are marked.
+-- How many indices before an index are flagged.
 use Rattle.std.proofs.Common.{◌≡◌, ℕ, zero, suc, ◌+◌, ◌-◌, ◌<◌, ◌≤◌, Bool, true, false, cond, List, [], ◌∷◌, ◌++◌, length, take, get_or, refl, sym, ap, ◌∙◌, subst, arith, inl, inr}
 use Rattle.std.proofs.lemmas.Bool.{cases_order, cases_lt, false≢true}
 use Rattle.std.proofs.lemmas.List.{take_all, take-append-le, get_or_past, length-take}
 use Rattle.std.proofs.lemmas.List.Sums.{sum_by-cons, sum_by-append, sum_by_more, sum_by-take-le, count_by-le-length}
-use Rattle.cw_links.specs.Marks.{number, rank}
+use Rattle.cw_links.specs.Flags.{number, rank}
 
--- ---- the number of marks
+-- ---- the number of flags
 pub number-none : number [] ≡ 0
 unfolding number
 number-none = refl
 
-pub number-cons : (mark : Bool) (marks : List Bool) → number (mark ∷ marks) ≡ cond mark 1 0 + number marks
+pub number-cons : (flag : Bool) (flags : List Bool) → number (flag ∷ flags) ≡ cond flag 1 0 + number flags
 unfolding number
-number-cons mark marks = sum_by-cons (λ (m : Bool). cond m 1 0) mark marks
+number-cons flag flags = sum_by-cons (λ (m : Bool). cond m 1 0) flag flags
 
-pub number-append : (marks more : List Bool) → number (marks ++ more) ≡ number marks + number more
+pub number-append : (flags more : List Bool) → number (flags ++ more) ≡ number flags + number more
 unfolding number
-number-append marks more = sum_by-append (λ (m : Bool). cond m 1 0) marks more
+number-append flags more = sum_by-append (λ (m : Bool). cond m 1 0) flags more
 
-pub number_push : (marks : List Bool) (mark : Bool) → number (marks ++ mark ∷ []) ≡ number marks + cond mark 1 0
-number_push marks mark = number-append marks (mark ∷ []) ∙ ap (λ (n : ℕ). number marks + n) (number-cons mark []
-    ∙ ap (λ (n : ℕ). cond mark 1 0 + n) number-none ∙ omega arith)
+pub number_push : (flags : List Bool) (flag : Bool) → number (flags ++ flag ∷ []) ≡ number flags + cond flag 1 0
+number_push flags flag = number-append flags (flag ∷ []) ∙ ap (λ (n : ℕ). number flags + n) (number-cons flag []
+    ∙ ap (λ (n : ℕ). cond flag 1 0 + n) number-none ∙ omega arith)
 
-pub number-le : (marks : List Bool) → number marks ≤ length marks
+pub number-le : (flags : List Bool) → number flags ≤ length flags
 unfolding number
-number-le marks = count_by-le-length (λ (m : Bool). m) marks
+number-le flags = count_by-le-length (λ (m : Bool). m) flags
 
--- ---- the rank of a place
-pub rank-zero : (marks : List Bool) → rank marks 0 ≡ 0
+-- ---- the rank of an index
+pub rank-zero : (flags : List Bool) → rank flags 0 ≡ 0
 unfolding rank
-rank-zero marks = number-none
+rank-zero flags = number-none
 
-pub rank-cons : (mark : Bool) (marks : List Bool) (place : ℕ) → rank (mark ∷ marks) (suc place) ≡ cond mark 1 0 + rank marks place
+pub rank-cons : (flag : Bool) (flags : List Bool) (index : ℕ) → rank (flag ∷ flags) (suc index) ≡ cond flag 1 0 + rank flags index
 unfolding rank
-rank-cons mark marks place = number-cons mark (take place marks)
+rank-cons flag flags index = number-cons flag (take index flags)
 
-pub rank_cons_marked : (marks : List Bool) (place : ℕ) → rank (true ∷ marks) (suc place) ≡ suc (rank marks place)
-rank_cons_marked marks place = omega (arith, rank-cons true marks place)
+pub rank_cons_flagged : (flags : List Bool) (index : ℕ) → rank (true ∷ flags) (suc index) ≡ suc (rank flags index)
+rank_cons_flagged flags index = omega (arith, rank-cons true flags index)
 
-pub rank_cons_not_marked : (marks : List Bool) (place : ℕ) → rank (false ∷ marks) (suc place) ≡ rank marks place
-rank_cons_not_marked marks place = omega (arith, rank-cons false marks place)
+pub rank_cons_not_flagged : (flags : List Bool) (index : ℕ) → rank (false ∷ flags) (suc index) ≡ rank flags index
+rank_cons_not_flagged flags index = omega (arith, rank-cons false flags index)
 
--- the next place has one more before it where this one is marked
-pub rank_more : (marks : List Bool) (place : ℕ) → place < length marks → rank marks (place + 1) ≡ rank marks place + cond (get_or marks place false) 1 0
+-- the next index has one more before it where this one is flagged
+pub rank_more : (flags : List Bool) (index : ℕ) → index < length flags → rank flags (index + 1) ≡ rank flags index + cond (get_or flags index false) 1 0
 unfolding rank number
-rank_more marks place h = sum_by_more (λ (m : Bool). cond m 1 0) marks place false h
+rank_more flags index h = sum_by_more (λ (m : Bool). cond m 1 0) flags index false h
 
-pub rank_all : (marks : List Bool) (place : ℕ) → length marks ≤ place → rank marks place ≡ number marks
+pub rank_all : (flags : List Bool) (index : ℕ) → length flags ≤ index → rank flags index ≡ number flags
 unfolding rank
-rank_all marks place h = ap number (take_all place marks h)
+rank_all flags index h = ap number (take_all index flags h)
 
-pub rank-le : (marks : List Bool) (place : ℕ) → rank marks place ≤ number marks
+pub rank-le : (flags : List Bool) (index : ℕ) → rank flags index ≤ number flags
 unfolding rank number
-rank-le marks place = sum_by-take-le (λ (m : Bool). cond m 1 0) marks place
+rank-le flags index = sum_by-take-le (λ (m : Bool). cond m 1 0) flags index
 
-pub rank-le_place : (marks : List Bool) (place : ℕ) → rank marks place ≤ place
+pub rank-le_index : (flags : List Bool) (index : ℕ) → rank flags index ≤ index
 unfolding rank
-rank-le_place marks place = omega (arith, number-le (take place marks), length-take place marks)
+rank-le_index flags index = omega (arith, number-le (take index flags), length-take index flags)
 
--- a place that is marked is one of the list
-pub marked_within : (marks : List Bool) (place : ℕ) → get_or marks place false ≡ true → place < length marks
-marked_within marks place marked =
-    elim (cases_lt place (length marks)) [
+-- an index that is flagged is one of the list
+pub flagged_within : (flags : List Bool) (index : ℕ) → get_or flags index false ≡ true → index < length flags
+flagged_within flags index flagged =
+    elim (cases_lt index (length flags)) [
       | inl lt ↦ lt
-      | inr le ↦ absurd (false≢true (sym (get_or_past marks place false le) ∙ marked))
+      | inr le ↦ absurd (false≢true (sym (get_or_past flags index false le) ∙ flagged))
     ]
 
-pub rank_marked : (marks : List Bool) (place : ℕ) → get_or marks place false ≡ true → rank marks (place + 1) ≡ rank marks place + 1
-rank_marked marks place marked = rank_more marks place (marked_within marks place marked) ∙ rw marked refl
+pub rank_flagged : (flags : List Bool) (index : ℕ) → get_or flags index false ≡ true → rank flags (index + 1) ≡ rank flags index + 1
+rank_flagged flags index flagged = rank_more flags index (flagged_within flags index flagged) ∙ rw flagged refl
 
-pub rank_not_marked : (marks : List Bool) (place : ℕ) → get_or marks place false ≡ false → rank marks (place + 1) ≡ rank marks place
-rank_not_marked marks place not_marked =
-    elim (cases_lt place (length marks)) [
-      | inl lt ↦ rank_more marks place lt ∙ rw not_marked (omega arith)
-      | inr le ↦ rank_all marks (place + 1) (omega (arith, le)) ∙ sym (rank_all marks place le)
+pub rank_not_flagged : (flags : List Bool) (index : ℕ) → get_or flags index false ≡ false → rank flags (index + 1) ≡ rank flags index
+rank_not_flagged flags index not_flagged =
+    elim (cases_lt index (length flags)) [
+      | inl lt ↦ rank_more flags index lt ∙ rw not_flagged (omega arith)
+      | inr le ↦ rank_all flags (index + 1) (omega (arith, le)) ∙ sym (rank_all flags index le)
     ]
 
--- the next place has one more before it at most
-pub rank_step : (marks : List Bool) (place : ℕ) → rank marks (place + 1) ≤ rank marks place + 1
-rank_step marks place = at (get_or marks place false) refl
+-- the next index has one more before it at most
+pub rank_step : (flags : List Bool) (index : ℕ) → rank flags (index + 1) ≤ rank flags index + 1
+rank_step flags index = at (get_or flags index false) refl
   where
-    at : (mark : Bool) → get_or marks place false ≡ mark → rank marks (place + 1) ≤ rank marks place + 1
-    at true is = omega (arith, rank_marked marks place is)
-    at false is = omega (arith, rank_not_marked marks place is)
+    at : (flag : Bool) → get_or flags index false ≡ flag → rank flags (index + 1) ≤ rank flags index + 1
+    at true is = omega (arith, rank_flagged flags index is)
+    at false is = omega (arith, rank_not_flagged flags index is)
 
--- later places have no lower rank
-pub rank-monotone : (marks : List Bool) (a b : ℕ) → a ≤ b → rank marks a ≤ rank marks b
-rank-monotone marks a b le = subst (λ (n : ℕ). rank marks a ≤ rank marks n) (omega (arith, le)) (further (b - a))
+-- later indices have no lower rank
+pub rank-monotone : (flags : List Bool) (a b : ℕ) → a ≤ b → rank flags a ≤ rank flags b
+rank-monotone flags a b le = subst (λ (n : ℕ). rank flags a ≤ rank flags n) (omega (arith, le)) (further (b - a))
   where
-    step : (place : ℕ) → rank marks place ≤ rank marks (place + 1)
-    step place =
-        elim (cases_lt place (length marks)) [
-          | inl lt ↦ omega (arith, rank_more marks place lt)
-          | inr le ↦ omega (arith, rank_all marks (place + 1) (omega (arith, le)), rank_all marks place le)
+    step : (index : ℕ) → rank flags index ≤ rank flags (index + 1)
+    step index =
+        elim (cases_lt index (length flags)) [
+          | inl lt ↦ omega (arith, rank_more flags index lt)
+          | inr le ↦ omega (arith, rank_all flags (index + 1) (omega (arith, le)), rank_all flags index le)
         ]
 
-    further : (n : ℕ) → rank marks a ≤ rank marks (a + n)
+    further : (n : ℕ) → rank flags a ≤ rank flags (a + n)
     further zero =
         let e : a + 0 ≡ a = omega arith in
-        omega (arith, ap (rank marks) e)
+        omega (arith, ap (rank flags) e)
     further (suc n) =
         let e : a + suc n ≡ a + n + 1 = omega arith in
-        omega (arith, ap (rank marks) e, further n, step (a + n))
+        omega (arith, ap (rank flags) e, further n, step (a + n))
 
--- the rank of a marked place is below the number of marks
-pub rank_below : (marks : List Bool) (place : ℕ) → get_or marks place false ≡ true → rank marks place < number marks
-rank_below marks place marked = omega (arith, rank_marked marks place marked, rank-le marks (place + 1))
+-- the rank of a flagged index is below the number of flags
+pub rank_below : (flags : List Bool) (index : ℕ) → get_or flags index false ≡ true → rank flags index < number flags
+rank_below flags index flagged = omega (arith, rank_flagged flags index flagged, rank-le flags (index + 1))
 
--- and lower than that of each later place
-pub rank_rises : (marks : List Bool) (a b : ℕ) → get_or marks a false ≡ true → a < b → rank marks a < rank marks b
-rank_rises marks a b marked lt = omega (arith, rank_marked marks a marked, rank-monotone marks (a + 1) b (omega (arith, lt)))
+-- and lower than that of each later index
+pub rank_rises : (flags : List Bool) (a b : ℕ) → get_or flags a false ≡ true → a < b → rank flags a < rank flags b
+rank_rises flags a b flagged lt = omega (arith, rank_flagged flags a flagged, rank-monotone flags (a + 1) b (omega (arith, lt)))
 
--- so marked places with the same rank are the same
-pub same_from_rank : (marks : List Bool) (a b : ℕ) → get_or marks a false ≡ true → get_or marks b false ≡ true → rank marks a ≡ rank marks b → a ≡ b
-same_from_rank marks a b marked marked' same =
+-- so flagged indices with the same rank are the same
+pub same_from_rank : (flags : List Bool) (a b : ℕ) → get_or flags a false ≡ true → get_or flags b false ≡ true → rank flags a ≡ rank flags b → a ≡ b
+same_from_rank flags a b flagged flagged' same =
     elim (cases_order a b) [
       | inl e ↦ e
-      | inr (inl lt) ↦ absurd (omega (arith, same, rank_rises marks a b marked lt))
-      | inr (inr lt) ↦ absurd (omega (arith, same, rank_rises marks b a marked' lt))
+      | inr (inl lt) ↦ absurd (omega (arith, same, rank_rises flags a b flagged lt))
+      | inr (inr lt) ↦ absurd (omega (arith, same, rank_rises flags b a flagged' lt))
     ]
 
--- a place is marked if the next one has a higher rank
-pub marked_from_rank : (marks : List Bool) (place : ℕ) → rank marks place < rank marks (place + 1) → get_or marks place false ≡ true
-marked_from_rank marks place rises = at (get_or marks place false) refl
+-- an index is flagged if the next one has a higher rank
+pub flagged_from_rank : (flags : List Bool) (index : ℕ) → rank flags index < rank flags (index + 1) → get_or flags index false ≡ true
+flagged_from_rank flags index rises = at (get_or flags index false) refl
   where
-    at : (mark : Bool) → get_or marks place false ≡ mark → get_or marks place false ≡ true
+    at : (flag : Bool) → get_or flags index false ≡ flag → get_or flags index false ≡ true
     at true is = is
-    at false is = absurd (omega (arith, rises, rank_not_marked marks place is))
+    at false is = absurd (omega (arith, rises, rank_not_flagged flags index is))
 
--- ---- with further marks at the end
-pub rank-append : (marks more : List Bool) (place : ℕ) → place ≤ length marks → rank (marks ++ more) place ≡ rank marks place
+-- ---- with further flags at the end
+pub rank-append : (flags more : List Bool) (index : ℕ) → index ≤ length flags → rank (flags ++ more) index ≡ rank flags index
 unfolding rank
-rank-append marks more place h = ap number (take-append-le place marks more h)
+rank-append flags more index h = ap number (take-append-le index flags more h)
 
-pub rank-append_right : (marks more : List Bool) (place : ℕ) → rank (marks ++ more) (length marks + place) ≡ number marks + rank more place
-rank-append_right [] more place =
-    let e : 0 + place ≡ place = omega arith in
+pub rank-append_right : (flags more : List Bool) (index : ℕ) → rank (flags ++ more) (length flags + index) ≡ number flags + rank more index
+rank-append_right [] more index =
+    let e : 0 + index ≡ index = omega arith in
     ap (rank more) e ∙ omega (arith, number-none)
-rank-append_right (mark ∷ marks) more place =
-    let e : suc (length marks) + place ≡ suc (length marks + place) = omega arith in
-    ap (rank (mark ∷ (marks ++ more))) e ∙ rank-cons mark (marks ++ more) (length marks + place)
-    ∙ omega (arith, number-cons mark marks, rank-append_right marks more place)
+rank-append_right (flag ∷ flags) more index =
+    let e : suc (length flags) + index ≡ suc (length flags + index) = omega arith in
+    ap (rank (flag ∷ (flags ++ more))) e ∙ rank-cons flag (flags ++ more) (length flags + index)
+    ∙ omega (arith, number-cons flag flags, rank-append_right flags more index)
 
--- ---- the marked places
--- each number below that of the marks is the rank of a marked place
-pub place_with_rank : (marks : List Bool) (n : ℕ) → n < number marks → (place : ℕ) × (get_or marks place false ≡ true) × (rank marks place ≡ n)
-place_with_rank [] n h = absurd (omega (arith, h, number-none))
-place_with_rank (true ∷ marks) zero h = (0, refl, rank-zero (true ∷ marks))
-place_with_rank (true ∷ marks) (suc n) h =
-    let later = place_with_rank marks n (omega (arith, h, number-cons true marks)) in
-    (suc later.0, later.1, rank_cons_marked marks later.0 ∙ ap suc later.2)
-place_with_rank (false ∷ marks) n h =
-    let later = place_with_rank marks n (omega (arith, h, number-cons false marks)) in
-    (suc later.0, later.1, rank_cons_not_marked marks later.0 ∙ later.2)
+-- ---- the flagged indices
+-- each number below that of the flags is the rank of a flagged index
+pub index_with_rank : (flags : List Bool) (n : ℕ) → n < number flags → (index : ℕ) × (get_or flags index false ≡ true) × (rank flags index ≡ n)
+index_with_rank [] n h = absurd (omega (arith, h, number-none))
+index_with_rank (true ∷ flags) zero h = (0, refl, rank-zero (true ∷ flags))
+index_with_rank (true ∷ flags) (suc n) h =
+    let later = index_with_rank flags n (omega (arith, h, number-cons true flags)) in
+    (suc later.0, later.1, rank_cons_flagged flags later.0 ∙ ap suc later.2)
+index_with_rank (false ∷ flags) n h =
+    let later = index_with_rank flags n (omega (arith, h, number-cons false flags)) in
+    (suc later.0, later.1, rank_cons_not_flagged flags later.0 ∙ later.2)

@@ -32,13 +32,13 @@ pub record AreQueued (asked due : List ℕ) (stacks : List (List ℕ)) : Type 0 
   pub few_links : length due ≤ 4194304
   pub waiting : AreWaiting asked due stacks
 
--- the keys with this one at a place, unless a lower one stands there
-abbrev pub lowered : (keys : List ℕ) (place key : ℕ) → List ℕ
-lowered keys place key = if nat_eq (slice_index keys place) 0 || nat_lt key (slice_index keys place) then slice_set keys place key else keys
+-- the keys with this one at an index, unless a lower one stands there
+abbrev pub lowered : (keys : List ℕ) (index key : ℕ) → List ℕ
+lowered keys index key = if nat_eq (slice_index keys index) 0 || nat_lt key (slice_index keys index) then slice_set keys index key else keys
 
--- the keys with this one at a place, unless the cell has a height or a lower key stands there
-abbrev pub asked_with : (heights asked : List ℕ) (place key : ℕ) → List ℕ
-asked_with heights asked place key = if may_wait (slice_index heights place) (slice_index asked place) key then slice_set asked place key else asked
+-- the keys with this one at an index, unless the cell has a height or a lower key stands there
+abbrev pub asked_with : (heights asked : List ℕ) (index key : ℕ) → List ℕ
+asked_with heights asked index key = if may_wait (slice_index heights index) (slice_index asked index) key then slice_set asked index key else asked
 
 -- no key of a cell or a link is below this one, but for those that don't wait
 pub record AreFrom (asked due : List ℕ) (key : ℕ) : Type 0 where

@@ -4,8 +4,8 @@ pub mod Heights
 pub mod Rows
 pub mod Queues
 pub mod Nearest
-pub mod Marks
-pub mod Words
+pub mod Flags
+pub mod Limbs
 pub mod Blocks
 pub mod Cells
 pub mod Keys

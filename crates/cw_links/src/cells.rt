@@ -1,4 +1,4 @@
-//! Cells in a word each, which has a cell's height or the key under which it waits.
+//! Cells in a number each, which has a cell's height or the key under which it waits.
 
 ghost use Rattle.std.specs.Prelude.{◌≡◌, ◌+◌, ◌*◌, ◌<◌, ◌≤◌, [], ◌++◌, length, map, replicate, slice_index, slice_set, OnOk};
 ghost use Rattle.cw_links.specs.Cells.{height_in, key_in, may_wait};
@@ -10,11 +10,11 @@ use std::marker::Model;
 /// Cells by number, each of which has a height, or waits for one, or neither.
 ///
 /// Contracts see the list of heights and that of keys, 0 where there is none, and how many more cells have their memory already. A
-/// cell that has a height doesn't wait any more, so one word serves for both: it is 2 * n while the cell waits for the height n,
+/// cell that has a height doesn't wait any more, so one number serves for both: it is 2 * n while the cell waits for the height n,
 /// which is its key, and 2 * n + 1 from then on.
 #[derive(Drop)]
 pub(crate) struct Cells {
-    words: Vec<u32>,
+    numbers: Vec<u32>,
 }
 
 impl Model for Cells {
@@ -23,7 +23,7 @@ impl Model for Cells {
 
     ghost Value = { Celled };
 
-    ghost view = { λ c. record { heights = map height_in c.words.items; asked = map key_in c.words.items; spare = vec_capacity c.words - vec_len c.words } };
+    ghost view = { λ c. record { heights = map height_in c.numbers.items; asked = map key_in c.numbers.items; spare = vec_capacity c.numbers - vec_len c.numbers } };
 }
 
 impl Cells {
@@ -33,7 +33,7 @@ impl Cells {
         ensures asked { result.asked ≡ [] }
     {
         Cells {
-            words: Vec::new(alloc),
+            numbers: Vec::new(alloc),
         }
     }
 
@@ -43,7 +43,7 @@ impl Cells {
         requires { cell < length self.now.asked }
         ensures { result ≡ slice_index self.now.heights cell }
     {
-        height_in(self.words[cell])
+        height_in(self.numbers[cell])
     }
 
     /// The key under which a cell waits, 0 where it doesn't.
@@ -52,7 +52,7 @@ impl Cells {
         requires { cell < length self.now.asked }
         ensures { result ≡ slice_index self.now.asked cell }
     {
-        key_in(self.words[cell])
+        key_in(self.numbers[cell])
     }
 
     /// Whether a cell may wait under a key: it has no height, and doesn't wait yet, or waits under a greater key.
@@ -61,7 +61,7 @@ impl Cells {
         requires { cell < length self.now.asked }
         ensures { result ≡ may_wait (slice_index self.now.heights cell) (slice_index self.now.asked cell) key }
     {
-        may_wait(self.words[cell], key)
+        may_wait(self.numbers[cell], key)
     }
 
     /// Has a cell that has no height wait for one, under twice that.
@@ -73,7 +73,7 @@ impl Cells {
         ensures heights { self.new.heights ≡ self.old.heights }
         ensures asked { self.new.asked ≡ slice_set self.old.asked cell (2 * height) }
     {
-        self.words[cell] = 2 * height;
+        self.numbers[cell] = 2 * height;
     }
 
     /// Gives a cell its height, and it doesn't wait any more.
@@ -84,7 +84,7 @@ impl Cells {
         ensures heights { self.new.heights ≡ slice_set self.old.heights cell height }
         ensures asked { self.new.asked ≡ slice_set self.old.asked cell 0 }
     {
-        self.words[cell] = 2 * height + 1;
+        self.numbers[cell] = 2 * height + 1;
     }
 
     /// Takes the memory of so many more cells. The one error is want of memory; cells stay as they are.
@@ -93,7 +93,7 @@ impl Cells {
         ensures heights { self.new.heights ≡ self.old.heights }
         ensures asked { self.new.asked ≡ self.old.asked }
     {
-        self.words.reserve(more)?;
+        self.numbers.reserve(more)?;
         Ok(())
     }
 
@@ -105,49 +105,49 @@ impl Cells {
         ensures asked { self.new.asked ≡ self.old.asked ++ replicate many 0 }
     {
         // There is room, so this is not refused.
-        let cells = self.words.len() + many;
-        let _ = self.words.resize(cells, 0);
+        let cells = self.numbers.len() + many;
+        let _ = self.numbers.resize(cells, 0);
     }
 
     /// The heights. It takes no memory.
     pub(crate) fn into_heights(self) -> Vec<u32>
         ensures { result.items ≡ self.heights }
     {
-        let Cells { mut words } = self;
-        into_heights(words.as_mut_slice());
-        words
+        let Cells { mut numbers } = self;
+        into_heights(numbers.as_mut_slice());
+        numbers
     }
 }
 
-/// The height that a word tells, 0 where it tells none.
+/// The height that a number tells, 0 where it tells none.
 #[inline(always)]
-fn height_in(word: u32) -> u32
-    ensures { result ≡ height_in word }
+fn height_in(number: u32) -> u32
+    ensures { result ≡ height_in number }
 {
-    if word % 2 == 0 { 0 } else { word / 2 }
+    if number % 2 == 0 { 0 } else { number / 2 }
 }
 
-/// The key that a word tells, 0 where it tells none.
+/// The key that a number tells, 0 where it tells none.
 #[inline(always)]
-fn key_in(word: u32) -> u32
-    ensures { result ≡ key_in word }
+fn key_in(number: u32) -> u32
+    ensures { result ≡ key_in number }
 {
-    if word % 2 == 0 { word } else { 0 }
+    if number % 2 == 0 { number } else { 0 }
 }
 
-/// Whether a cell with this word may wait under a key. As 0 does, 1 tells neither a height nor a key.
+/// Whether a cell with this number may wait under a key. As 0 does, 1 tells neither a height nor a key.
 #[inline(always)]
-fn may_wait(word: u32, key: u32) -> bool
-    ensures { result ≡ may_wait (height_in word) (key_in word) key }
+fn may_wait(number: u32, key: u32) -> bool
+    ensures { result ≡ may_wait (height_in number) (key_in number) key }
 {
-    word <= 1 || (word % 2 == 0 && key < word)
+    number <= 1 || (number % 2 == 0 && key < number)
 }
 
-/// Makes each word the height that it tells.
-fn into_heights(words: &mut [u32])
-    ensures { words.new ≡ map height_in words.old }
+/// Makes each number the height that it tells.
+fn into_heights(numbers: &mut [u32])
+    ensures { numbers.new ≡ map height_in numbers.old }
 {
-    for word in words.iter_mut() {
-        *word = height_in(*word);
+    for number in numbers.iter_mut() {
+        *number = height_in(*number);
     }
 }

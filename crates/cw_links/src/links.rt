@@ -7,10 +7,10 @@ use cw_core::NoMemory;
 use std::alloc::Global;
 use std::marker::Model;
 
-/// In the place of a cell's number: no cell follows.
+/// In place of a cell's number: no cell follows.
 const NONE: u32 = u32::MAX;
 
-/// In the place of a node's number: the cell stands in no list.
+/// In place of a node's number: the cell stands in no list.
 const OUT: u64 = u64::MAX;
 
 /// Nodes below this number are cells; from it on they are the heads of the lists, in order.

@@ -1,12 +1,12 @@
-//! Heights and keys of the cells of places, and of the few places that are links their keys, where they go and for how long.
+//! Heights and keys of the cells of indices, and of the few indices that are links their keys, where they go and for how long.
 
 ghost use Rattle.std.specs.Prelude.{◌≡◌, ℕ, List, true, ◌+◌, ◌*◌, ◌<◌, ◌≤◌, [], ◌∷◌, ◌++◌, length, slice_get, slice_index, Contains, OnOk, OnErr, IfOk, IfSome, vec_len, vec_capacity};
 ghost use Rattle.cw_links.specs.Lists.{list_at, AreApart};
-ghost use Rattle.cw_links.specs.Marks.{is_marked, number, rank};
+ghost use Rattle.cw_links.specs.Flags.{is_flagged, number, rank};
 ghost use Rattle.cw_links.specs.Keys.{asked_with, lowered};
-ghost use Rattle.cw_links.specs.Stores.{IsBlank, IsKnown, IsAt, Pushes, PushesPlain, PopsPlace, Ties, with_asked, with_due, with_lists};
+ghost use Rattle.cw_links.specs.Stores.{IsBlank, IsKnown, IsAt, Pushes, PushesPlain, PopsIndex, Ties, with_asked, with_due, with_lists};
 
-use crate::Marks;
+use crate::Flags;
 use crate::callers::Callers;
 use crate::keys::Keys;
 use crate::popped::Popped;
@@ -14,14 +14,14 @@ use cw_core::NoMemory;
 use std::alloc::Global;
 use std::marker::Model;
 
-/// What a solver keeps by places. Each place has a cell, which has a height, waits for one or neither, and few have a link beside it.
+/// What a solver keeps by indices. Each index has a cell, which has a height, waits for one or neither, and few have a link beside it.
 ///
-/// Contracts see the marks of the places that are links, and a list for each of what is kept, as long as there are places: `heights`
+/// Contracts see the flags of the indices that are links, and a list for each of what is kept, as long as there are indices: `heights`
 /// and `asked` have the heights and the keys of cells; `due`, `to` and `waves` have the keys of links, the lists in which they stand,
-/// and their numbers of moves, 0 at all other places. In `lists` a link has the number of its rank among the links.
+/// and their numbers of moves, 0 at all other indices. In `lists` a link has the number of its rank among the links.
 #[derive(Drop)]
 pub struct Store {
-    marks: Marks,
+    flags: Flags,
     keys: Keys,
     callers: Callers,
     waves: Vec<u32>,
@@ -32,119 +32,119 @@ impl Model for Store {
 
     ghost Value = { Stored };
 
-    ghost view = { λ s. stored s.marks s.keys s.callers s.waves.items };
+    ghost view = { λ s. stored s.flags s.keys s.callers s.waves.items };
 
-    ghost invariant = { λ s. AreStored s.marks s.keys s.callers s.waves.items };
+    ghost invariant = { λ s. AreStored s.flags s.keys s.callers s.waves.items };
 }
 
 impl Store {
-    /// No places, and two lists.
+    /// No indices, and two lists.
     pub fn make(alloc: Global) -> Result<Store, NoMemory>
         ensures { IfOk result IsBlank }
     {
         Ok(Store {
-            marks: Marks::make(alloc),
+            flags: Flags::make(alloc),
             keys: Keys::make(alloc)?,
             callers: Callers::make(alloc)?,
             waves: Vec::new(alloc),
         })
     }
 
-    /// How many places there are.
+    /// How many indices there are.
     #[inline(always)]
-    pub fn places(&self) -> usize
-        ensures { result ≡ length self.now.marks }
+    pub fn indices(&self) -> usize
+        ensures { result ≡ length self.now.flags }
     {
-        self.marks.len()
+        self.flags.len()
     }
 
-    /// The height of the cell at a place, 0 where it has none.
+    /// The height of the cell at an index, 0 where it has none.
     #[inline(always)]
-    pub fn height(&self, place: usize) -> u32
-        requires { place < length self.now.marks }
-        ensures { result ≡ slice_index self.now.heights place }
+    pub fn height(&self, index: usize) -> u32
+        requires { index < length self.now.flags }
+        ensures { result ≡ slice_index self.now.heights index }
     {
-        self.keys.height(place)
+        self.keys.height(index)
     }
 
-    /// The key of the link at a place.
-    pub fn due(&self, place: usize) -> u32
-        requires { place < length self.now.marks }
-        ensures { result ≡ slice_index self.now.due place }
+    /// The key of the link at an index.
+    pub fn due(&self, index: usize) -> u32
+        requires { index < length self.now.flags }
+        ensures { result ≡ slice_index self.now.due index }
     {
-        if self.marks.is_marked(place) {
-            self.keys.due(self.marks.rank(place) as usize)
+        if self.flags.is_flagged(index) {
+            self.keys.due(self.flags.rank(index) as usize)
         } else {
             0
         }
     }
 
-    /// The number of the list in which the link at a place stands.
-    pub fn to(&self, place: usize) -> u32
-        requires { place < length self.now.marks }
-        ensures { result ≡ slice_index self.now.to place }
+    /// The number of the list in which the link at an index stands.
+    pub fn to(&self, index: usize) -> u32
+        requires { index < length self.now.flags }
+        ensures { result ≡ slice_index self.now.to index }
     {
-        if self.marks.is_marked(place) {
-            self.callers.to(self.marks.rank(place) as usize)
+        if self.flags.is_flagged(index) {
+            self.callers.to(self.flags.rank(index) as usize)
         } else {
             0
         }
     }
 
-    /// The number of moves of the link at a place.
-    pub fn wave(&self, place: usize) -> u32
-        requires { place < length self.now.marks }
-        ensures { result ≡ slice_index self.now.waves place }
+    /// The number of moves of the link at an index.
+    pub fn wave(&self, index: usize) -> u32
+        requires { index < length self.now.flags }
+        ensures { result ≡ slice_index self.now.waves index }
     {
-        if self.marks.is_marked(place) {
-            self.waves[self.marks.rank(place) as usize]
+        if self.flags.is_flagged(index) {
+            self.waves[self.flags.rank(index) as usize]
         } else {
             0
         }
     }
 
-    /// Has the cell at a place wait for a height, under twice that, unless it has a height or waits for a lower one. The one error is
+    /// Has the cell at an index wait for a height, under twice that, unless it has a height or waits for a lower one. The one error is
     /// want of memory, which changes nothing.
     #[inline(always)]
-    pub fn ask_cell(&mut self, place: usize, height: u32) -> Result<(), NoMemory>
-        requires within { place < length self.old.marks }
+    pub fn ask_cell(&mut self, index: usize, height: u32) -> Result<(), NoMemory>
+        requires within { index < length self.old.flags }
         requires some { 0 < height }
         requires few { height ≤ 2147483647 }
-        ensures asked { OnOk result (self.new ≡ with_asked self.old (asked_with self.old.heights self.old.asked place (2 * height))) }
+        ensures asked { OnOk result (self.new ≡ with_asked self.old (asked_with self.old.heights self.old.asked index (2 * height))) }
         ensures refused { OnErr result (self.new ≡ self.old) }
     {
-        self.keys.ask_cell(place, height)?;
+        self.keys.ask_cell(index, height)?;
         Ok(())
     }
 
-    /// Has the link at a place wait under a key, unless it waits under a lower one. The one error is want of memory, which changes
+    /// Has the link at an index wait under a key, unless it waits under a lower one. The one error is want of memory, which changes
     /// nothing.
-    pub fn ask_link(&mut self, place: usize, key: u32) -> Result<(), NoMemory>
-        requires marked { is_marked self.old.marks place ≡ true }
+    pub fn ask_link(&mut self, index: usize, key: u32) -> Result<(), NoMemory>
+        requires flagged { is_flagged self.old.flags index ≡ true }
         requires some { 0 < key }
-        ensures asked { OnOk result (self.new ≡ with_due self.old (lowered self.old.due place key)) }
+        ensures asked { OnOk result (self.new ≡ with_due self.old (lowered self.old.due index key)) }
         ensures refused { OnErr result (self.new ≡ self.old) }
     {
-        let link = self.marks.rank(place) as usize;
+        let link = self.flags.rank(index) as usize;
         self.keys.ask_link(link, key)?;
         Ok(())
     }
 
-    /// Takes what waits under the least key; of a cell and of a link it has the place. A cell has half its key as its height then.
+    /// Takes what waits under the least key; of a cell and of a link it has the index. A cell has half its key as its height then.
     pub fn pop(&mut self) -> Popped
-        ensures { PopsPlace self.old self.new result }
+        ensures { PopsIndex self.old self.new result }
     {
         let popped = self.keys.pop();
-        at_place(&self.marks, popped)
+        at_index(&self.flags, popped)
     }
 
-    /// Puts the link at a place into a list, with a number of moves.
-    pub fn tie(&mut self, place: usize, list: u32, moves: u32)
-        requires marked { is_marked self.old.marks place ≡ true }
+    /// Puts the link at an index into a list, with a number of moves.
+    pub fn tie(&mut self, index: usize, list: u32, moves: u32)
+        requires flagged { is_flagged self.old.flags index ≡ true }
         requires list { list < length self.old.lists }
-        ensures { Ties self.old self.new place list moves }
+        ensures { Ties self.old self.new index list moves }
     {
-        let link = self.marks.rank(place) as usize;
+        let link = self.flags.rank(index) as usize;
         self.callers.tie(link, list);
         self.waves[link] = moves;
     }
@@ -160,35 +160,35 @@ impl Store {
         Ok(())
     }
 
-    /// Adds a place, which is a link or not. Its cell has no height, its cell and its link don't wait, and the link stands in the list 0.
+    /// Adds an index, which is a link or not. Its cell has no height, its cell and its link don't wait, and the link stands in the list 0.
     /// The one error is want of memory, which changes nothing.
-    pub fn push(&mut self, mark: bool) -> Result<(), NoMemory>
-        requires few { length self.old.marks < 4194304 }
-        ensures pushed { OnOk result (Pushes self.old self.new mark) }
+    pub fn push(&mut self, flag: bool) -> Result<(), NoMemory>
+        requires few { length self.old.flags < 4194304 }
+        ensures pushed { OnOk result (Pushes self.old self.new flag) }
         ensures refused { OnErr result (self.new ≡ self.old) }
     {
-        if mark {
+        if flag {
             self.push_link()
         } else {
             self.push_plain(1)
         }
     }
 
-    /// Adds so many places, of which none is a link, has a height or waits. The one error is want of memory, which changes nothing.
+    /// Adds so many indices, of which none is a link, has a height or waits. The one error is want of memory, which changes nothing.
     pub fn push_plain(&mut self, many: u32) -> Result<(), NoMemory>
-        requires few { length self.old.marks + many ≤ 4194304 }
+        requires few { length self.old.flags + many ≤ 4194304 }
         ensures pushed { OnOk result (PushesPlain self.old self.new many) }
         ensures refused { OnErr result (self.new ≡ self.old) }
     {
         self.keys.reserve_cells(many as usize)?;
-        self.marks.push_plain(many)?;
+        self.flags.push_plain(many)?;
         self.keys.push_cells(many as usize);
         Ok(())
     }
 
-    /// Adds a place that is a link, as `push` does.
+    /// Adds an index that is a link, as `push` does.
     fn push_link(&mut self) -> Result<(), NoMemory>
-        requires few { length self.old.marks < 4194304 }
+        requires few { length self.old.flags < 4194304 }
         ensures pushed { OnOk result (Pushes self.old self.new true) }
         ensures refused { OnErr result (self.new ≡ self.old) }
     {
@@ -196,7 +196,7 @@ impl Store {
         self.keys.reserve_link()?;
         self.callers.reserve()?;
         self.waves.reserve(1)?;
-        self.marks.push(true)?;
+        self.flags.push(true)?;
         self.keys.push_cells(1);
         add_link(&mut self.keys, &mut self.callers, &mut self.waves);
         Ok(())
@@ -206,39 +206,39 @@ impl Store {
     pub fn first(&self, list: u32) -> Option<u32>
         requires { list < length self.now.lists }
         ensures first { result ≡ slice_get (list_at self.now.lists list) 0 }
-        ensures known { IfSome result (λ link. link < number self.now.marks) }
-        ensures apart { AreApart self.now.lists (number self.now.marks) }
-        ensures there { (place : ℕ) → is_marked self.now.marks place ≡ true
-            → Contains (list_at self.now.lists (slice_index self.now.to place)) (rank self.now.marks place) }
+        ensures known { IfSome result (λ link. link < number self.now.flags) }
+        ensures apart { AreApart self.now.lists (number self.now.flags) }
+        ensures there { (index : ℕ) → is_flagged self.now.flags index ≡ true
+            → Contains (list_at self.now.lists (slice_index self.now.to index)) (rank self.now.flags index) }
     {
         self.callers.first(list)
     }
 
     /// The link after this one in its list; None where it is the last.
     pub fn next(&self, link: u32) -> Option<u32>
-        requires { link < number self.now.marks }
+        requires { link < number self.now.flags }
         ensures within { (list : ℕ) (front back : List ℕ) → list_at self.now.lists list ≡ front ++ link ∷ back → result ≡ slice_get back 0 }
-        ensures known { IfSome result (λ next. next < number self.now.marks) }
-        ensures apart { AreApart self.now.lists (number self.now.marks) }
+        ensures known { IfSome result (λ next. next < number self.now.flags) }
+        ensures apart { AreApart self.now.lists (number self.now.flags) }
     {
         self.callers.next(link)
     }
 
-    /// The place of a link. It halves the places at each step.
-    pub fn place(&self, link: u32) -> usize
-        requires { link < number self.now.marks }
-        ensures marked { is_marked self.now.marks result ≡ true }
-        ensures rank { rank self.now.marks result ≡ link }
+    /// The index of a link. It halves the indices at each step.
+    pub fn index(&self, link: u32) -> usize
+        requires { link < number self.now.flags }
+        ensures flagged { is_flagged self.now.flags result ≡ true }
+        ensures rank { rank self.now.flags result ≡ link }
     {
-        self.marks.place(link)
+        self.flags.index(link)
     }
 
-    /// The heights of the cells by place. It takes no memory.
+    /// The heights of the cells by index. It takes no memory.
     pub fn into_heights(self) -> Vec<u32>
         ensures { result.items ≡ self.heights }
     {
         let Store {
-            marks: _,
+            flags: _,
             keys,
             callers: _,
             waves: _,
@@ -247,26 +247,26 @@ impl Store {
     }
 }
 
-/// The place of a link.
-fn place_of(marks: &Marks, link: usize) -> usize
-    requires few { length marks.now ≤ 4194304 }
-    requires known { link < number marks.now }
-    ensures marked { is_marked marks.now result ≡ true }
-    ensures rank { rank marks.now result ≡ link }
+/// The index of a link.
+fn index_of(flags: &Flags, link: usize) -> usize
+    requires few { length flags.now ≤ 4194304 }
+    requires known { link < number flags.now }
+    ensures flagged { is_flagged flags.now result ≡ true }
+    ensures rank { rank flags.now result ≡ link }
 {
-    marks.place(link as u32)
+    flags.index(link as u32)
 }
 
-/// What is taken, with the place in the stead of a link's number.
-fn at_place(marks: &Marks, popped: Popped) -> Popped
-    requires few { length marks.now ≤ 4194304 }
-    requires known { IsKnown marks.now popped }
-    ensures { IsAt marks.now popped result }
+/// What is taken, with the index in the stead of a link's number.
+fn at_index(flags: &Flags, popped: Popped) -> Popped
+    requires few { length flags.now ≤ 4194304 }
+    requires known { IsKnown flags.now popped }
+    ensures { IsAt flags.now popped result }
 {
     match popped {
         Popped::Nothing => Popped::Nothing,
-        Popped::Cell(place, key) => Popped::Cell(place, key),
-        Popped::Link(link, key) => Popped::Link(place_of(marks, link), key),
+        Popped::Cell(index, key) => Popped::Cell(index, key),
+        Popped::Link(link, key) => Popped::Link(index_of(flags, link), key),
     }
 }
 

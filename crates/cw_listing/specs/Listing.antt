@@ -13,34 +13,34 @@ use Rattle.cw_points.specs.declared.graph.Graph.{Graph}
 use Rattle.cw_points.specs.Walks.{number_of}
 use Rattle.cw_resolve.specs.Held.{name_in}
 
--- words, each after one space
+-- fields, each after one space
 abbrev pub spaced : List (List ℕ) → List ℕ
-spaced words = flat_map (λ word. codes " " ++ word) words
+spaced fields = flat_map (λ field. codes " " ++ field) fields
 
--- a mark and the words behind it; nothing where there are no words
-abbrev pub marked : List ℕ → List (List ℕ) → List ℕ
-marked mark [] = []
-marked mark (word ∷ words) = mark ++ spaced (word ∷ words)
+-- a head and the fields behind it; nothing where there are no fields
+abbrev pub headed : List ℕ → List (List ℕ) → List ℕ
+headed head [] = []
+headed head (field ∷ fields) = head ++ spaced (field ∷ fields)
 
 -- the points to which a point leads, the left one first
 abbrev pub successors : List (Option PointId) → List ℕ
 successors next = filter_map number_of next
 
 -- what stands at a point, with its name
-abbrev pub kind : (functions labels descriptors : List (List ℕ)) → Point → List ℕ
-kind functions labels descriptors Entry = codes "entry"
-kind functions labels descriptors Step = codes "step"
-kind functions labels descriptors Branch = codes "branch"
-kind functions labels descriptors (Label l) = codes "label " ++ name_in labels l
-kind functions labels descriptors (Open d) = codes "open " ++ name_in descriptors d
-kind functions labels descriptors (Close d) = codes "close " ++ name_in descriptors d
-kind functions labels descriptors (Call f) = codes "call " ++ name_in functions f
-kind functions labels descriptors Exit = codes "exit"
+abbrev pub point_text : (functions labels descriptors : List (List ℕ)) → Point → List ℕ
+point_text functions labels descriptors Entry = codes "entry"
+point_text functions labels descriptors Step = codes "step"
+point_text functions labels descriptors Branch = codes "branch"
+point_text functions labels descriptors (Label l) = codes "label " ++ name_in labels l
+point_text functions labels descriptors (Open d) = codes "open " ++ name_in descriptors d
+point_text functions labels descriptors (Close d) = codes "close " ++ name_in descriptors d
+point_text functions labels descriptors (Call f) = codes "call " ++ name_in functions f
+point_text functions labels descriptors Exit = codes "exit"
 
 -- `NUMBER FUNCTION KIND`, and where it has successors ` -> LEFT RIGHT`
 abbrev pub point_line : (functions labels descriptors : List (List ℕ)) → ℕ → Node → List ℕ
 point_line functions labels descriptors number node =
-    line (decimal number ++ codes " " ++ name_in functions node.function ++ codes " " ++ kind functions labels descriptors node.point ++ marked (codes " ->") (map decimal (successors node.next)))
+    line (decimal number ++ codes " " ++ name_in functions node.function ++ codes " " ++ point_text functions labels descriptors node.point ++ headed (codes " ->") (map decimal (successors node.next)))
 
 -- the numbers of a function's entry and exit, each after one space
 abbrev pub ends : Part → List ℕ
@@ -49,7 +49,7 @@ ends part = codes " " ++ decimal part.entry.0 ++ codes " " ++ decimal part.exit.
 -- `function NAME FIRST LAST`, and where it calls functions ` calls NAME NAME`
 abbrev pub function_line : (functions calls : List (List ℕ)) → ℕ → Part → List ℕ
 function_line functions calls number part =
-    line (codes "function " ++ name_in functions number ++ ends part ++ marked (codes " calls") (map (name_in functions) (unwrap_or (slice_get calls number) [])))
+    line (codes "function " ++ name_in functions number ++ ends part ++ headed (codes " calls") (map (name_in functions) (unwrap_or (slice_get calls number) [])))
 
 -- The names are those of the functions, the labels and the descriptors by their numbers; `calls` has, for each function by its number,
 -- the numbers of the functions that it calls.

@@ -6,7 +6,7 @@ ghost use Rattle.std.specs.List.{list_any};
 ghost use Rattle.cw_io.specs.Written.{Follows};
 ghost use Rattle.cw_text.specs.RowLines.{numbered};
 ghost use Rattle.cw_resolve.specs.Held.{lists, name_in};
-ghost use Rattle.cw_listing.specs.Listing.{spaced, marked, successors, kind, ends, point_line, function_line, graph_text};
+ghost use Rattle.cw_listing.specs.Listing.{spaced, headed, successors, point_text, ends, point_line, function_line, graph_text};
 
 use cw_core::PointId;
 use cw_io::{Sink, Writer};
@@ -47,7 +47,7 @@ fn calls_of(calls: &[Vec<u16>], function: usize) -> &[u16]
 /// Appends ` calls` and the name of each of these functions, where there are any.
 fn put_calls<S: Sink>(names: &[Vec<u8>], callees: &[u16], writer: &mut Writer<S>, out: &mut S)
     requires follows { Follows S.taken S.faults S.refused writer.old out.old }
-    ensures text { writer.new.text ≡ writer.old.text ++ marked (codes " calls") (map (name_in (lists names.now)) callees.now) }
+    ensures text { writer.new.text ≡ writer.old.text ++ headed (codes " calls") (map (name_in (lists names.now)) callees.now) }
     ensures begun { writer.new.begun ≡ writer.old.begun }
     ensures follows { Follows S.taken S.faults S.refused writer.new out.new }
 {
@@ -112,27 +112,27 @@ fn put_functions<S: Sink>(
     }
 }
 
-/// Appends a name behind a word.
+/// Appends a name behind a field.
 fn put_named<S: Sink>(
-    word: &[u8],
+    field: &[u8],
     names: &[Vec<u8>],
     number: usize,
     writer: &mut Writer<S>,
     out: &mut S,
 )
     requires follows { Follows S.taken S.faults S.refused writer.old out.old }
-    ensures text { writer.new.text ≡ writer.old.text ++ (word.now ++ name_in (lists names.now) number) }
+    ensures text { writer.new.text ≡ writer.old.text ++ (field.now ++ name_in (lists names.now) number) }
     ensures begun { writer.new.begun ≡ writer.old.begun }
     ensures follows { Follows S.taken S.faults S.refused writer.new out.new }
 {
-    writer.put(word, out);
+    writer.put(field, out);
     writer.put(name_in(names, number), out);
 }
 
 /// Appends what stands at a point, with its name.
-fn put_kind<S: Sink>(names: Names, point: Point, writer: &mut Writer<S>, out: &mut S)
+fn put_point_text<S: Sink>(names: Names, point: Point, writer: &mut Writer<S>, out: &mut S)
     requires follows { Follows S.taken S.faults S.refused writer.old out.old }
-    ensures text { writer.new.text ≡ writer.old.text ++ kind (lists names.entry.functions.now) (lists names.entry.labels.now) (lists names.entry.descriptors.now) point }
+    ensures text { writer.new.text ≡ writer.old.text ++ point_text (lists names.entry.functions.now) (lists names.entry.labels.now) (lists names.entry.descriptors.now) point }
     ensures begun { writer.new.begun ≡ writer.old.begun }
     ensures follows { Follows S.taken S.faults S.refused writer.new out.new }
 {
@@ -173,7 +173,7 @@ fn leads_on(next: &[Option<PointId>]) -> bool
 /// Appends ` ->` and the successors of a point, where it has any.
 fn put_arrow<S: Sink>(next: &[Option<PointId>], writer: &mut Writer<S>, out: &mut S)
     requires follows { Follows S.taken S.faults S.refused writer.old out.old }
-    ensures text { writer.new.text ≡ writer.old.text ++ marked (codes " ->") (map decimal (successors next.now)) }
+    ensures text { writer.new.text ≡ writer.old.text ++ headed (codes " ->") (map decimal (successors next.now)) }
     ensures begun { writer.new.begun ≡ writer.old.begun }
     ensures follows { Follows S.taken S.faults S.refused writer.new out.new }
 {
@@ -210,7 +210,7 @@ fn put_point<S: Sink>(names: Names, number: usize, node: &Node, writer: &mut Wri
 {
     put_whose(names.functions, number, node.function, writer, out);
     writer.put(b" ", out);
-    put_kind(names, node.point, writer, out);
+    put_point_text(names, node.point, writer, out);
     put_arrow(&node.next, writer, out);
     writer.put(b"\n", out);
 }

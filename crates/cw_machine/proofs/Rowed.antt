@@ -4,7 +4,7 @@ use Rattle.std.specs.Prelude.{unwrap_or}
 use Rattle.cw_syntax.specs.declared.program.Name.{Name}
 use Rattle.cw_syntax.specs.Trees.{Definition}
 use Rattle.cw_syntax.specs.Plans.{Callee, Plain, Break, Continue, Return, Open, Close, Call, Group, Label, If, While, Do, For}
-use Rattle.cw_syntax.specs.Frames.{Item, Entry, Todo, Test, After, Mark, End, Frame, On}
+use Rattle.cw_syntax.specs.Frames.{Item, Entry, Todo, Test, After, LoopEnd, End, Frame, On}
 use Rattle.cw_value.specs.Expressions.{Scope, Memory, Outcome, gives, stops}
 use Rattle.cw_value.specs.Deeds.{Passing, does, deed_of}
 use Rattle.cw_value.specs.Machines.{Source, Locals, Machine, Step, back_by, by_outcome, call_in, deed_in, function, goes, memory, scope_in, step_by, within}
@@ -26,7 +26,7 @@ deed_is f (Entry g j) = refl
 deed_is f (Test at true u s) = refl
 deed_is f (Test at false u s) = refl
 deed_is f (After at) = refl
-deed_is f Mark = refl
+deed_is f LoopEnd = refl
 deed_is f (End g) = refl
 deed_is f (Todo (Plain at)) = refl
 deed_is f (Todo (Break at)) = refl
@@ -52,7 +52,7 @@ module _ (s : Source) where
   stays_outcome (Entry g j) top rest (gives p k) n = refl
   stays_outcome (Test at d u b) top rest (gives p k) n = refl
   stays_outcome (After at) top rest (gives p k) n = refl
-  stays_outcome Mark top rest (gives p k) n = refl
+  stays_outcome LoopEnd top rest (gives p k) n = refl
   stays_outcome (End f) top rest (gives p k) n = absurd n
   stays_outcome (Todo (Plain at)) top rest (gives p k) n = refl
   stays_outcome (Todo (Break at)) top rest (gives p k) n = refl
@@ -80,7 +80,7 @@ module _ (s : Source) where
   inner_step (Entry g j) frames m n = stays_within (Entry g j) m m.frames n
   inner_step (Test at d u b) frames m n = stays_within (Test at d u b) m m.frames n
   inner_step (After at) frames m n = stays_within (After at) m m.frames n
-  inner_step Mark frames m n = stays_within Mark m m.frames n
+  inner_step LoopEnd frames m n = stays_within LoopEnd m m.frames n
   inner_step (Todo b) frames m n = stays_within (Todo b) m m.frames n
 
   calls_outcome : (at j : ℕ) (callee : Callee) (top : Locals) (rest : List Locals) (o : Outcome Passing)
@@ -116,7 +116,7 @@ inner_of : (i : Item) → IsInnerRow (row_of i) → IsInner i
 inner_of (Entry g j) h = tt
 inner_of (Test at d u s) h = tt
 inner_of (After at) h = tt
-inner_of Mark h = tt
+inner_of LoopEnd h = tt
 inner_of (End g) h = h
 inner_of (Todo (Plain at)) h = tt
 inner_of (Todo (Break at)) h = tt
@@ -141,7 +141,7 @@ by_call s (Entry g j) frames m at n x e = absurd (cc)
 by_call s (Test at' true u b) frames m at n x e = absurd (cc)
 by_call s (Test at' false u b) frames m at n x e = absurd (cc)
 by_call s (After at') frames m at n x e = absurd (cc)
-by_call s Mark frames m at n x e = absurd (cc)
+by_call s LoopEnd frames m at n x e = absurd (cc)
 by_call s (End g) frames m at n x e = absurd (cc)
 by_call s (Todo (Plain at')) frames m at n x e = absurd (cc)
 by_call s (Todo (Break at')) frames m at n x e = absurd (cc)
@@ -166,7 +166,7 @@ an_end (Entry g j) e = absurd (cc)
 an_end (Test at true u b) e = absurd (cc)
 an_end (Test at false u b) e = absurd (cc)
 an_end (After at) e = absurd (cc)
-an_end Mark e = absurd (cc)
+an_end LoopEnd e = absurd (cc)
 an_end (End g) e = (g, refl)
 an_end (Todo (Plain at)) e = absurd (cc)
 an_end (Todo (Break at)) e = absurd (cc)

@@ -17,7 +17,7 @@ use Rattle.cw_rights.proofs.LawProofs.{never_grow}
 use Rattle.cw_certs.specs.declared.moves.Move.{Move}
 use Rattle.cw_certs.specs.declared.moves.Move.TheVariants.{Skip, Try, Grant, Refuse, On, Left, Right, Opened, Failed, Stop}
 use Rattle.cw_syntax.specs.Plans.{Plain, Break, Continue, Return, Open, Close, Call, Group, Label, If, While, Do, For}
-use Rattle.cw_syntax.specs.Frames.{Entry, Todo, Test, After, Mark, End, Frame, Way, pass}
+use Rattle.cw_syntax.specs.Frames.{Entry, Todo, Test, After, LoopEnd, End, Frame, Way, pass}
 use Rattle.cw_syntax.specs.Frames.{On as OnWay, Left as LeftWay, Right as RightWay, Opened as OpenedWay, Failed as FailedWay}
 use Rattle.cw_certs.specs.Tables.{Table}
 use Rattle.cw_model.specs.Boards.{Problem, Phase, Visit, Asked, Refused, Free, FreeSplit, Over, Board, primitives_in, onward, begin, start_board, is_yes, may_grant, may_refuse, can_stop}
@@ -248,7 +248,7 @@ module _ (Fact : Caps → Caps → Type 0) (same : (c : Caps) → Fact c c) (clo
   changes policy ((Todo (For at init decided stepped' s) ∷ is) ∷ frames) kept way c h = inl (same c)
   changes policy ((Test at decided stepped' s ∷ is) ∷ frames) kept way c h = inl (same c)
   changes policy ((After at ∷ is) ∷ frames) kept way c h = inl (same c)
-  changes policy ((Mark ∷ is) ∷ frames) kept way c h = inl (same c)
+  changes policy ((LoopEnd ∷ is) ∷ frames) kept way c h = inl (same c)
   changes policy ((End f ∷ is) ∷ frames) [] way c h = inl (same c)
   changes policy ((End f ∷ is) ∷ frames) (None ∷ kept) way c h = inl (same c)
   changes policy ((End f ∷ is) ∷ frames) (Some before ∷ kept) way c h = inr (before, (f, is, frames, kept, refl, refl), refl)

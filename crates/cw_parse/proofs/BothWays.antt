@@ -1,8 +1,8 @@
 -- What a reader took, and what it reads again: both ways in one shape for all readers.
 use Rattle.std.proofs.Common.{◌≡◌, ◌≤◌, Bool, true, false, cond, List, ◌∷◌, ◌++◌, length, Result, Ok, Err, refl, sym, ap, ◌∙◌, append_assoc, arith, length-append, inl, inr}
 use Rattle.std.specs.Prelude.{◌⊎◌}
-use Rattle.cw_grammar.specs.declared.words.Lexeme.{Lexeme}
-use Rattle.cw_grammar.specs.declared.words.Word.{Word}
+use Rattle.cw_grammar.specs.declared.terminals.Lexeme.{Lexeme}
+use Rattle.cw_grammar.specs.declared.terminals.Terminal.{Terminal}
 use Rattle.cw_grammar.specs.Lexemes.{Is}
 use Rattle.cw_expressions.specs.declared.refusal.Refusal.{Refusal}
 use Rattle.cw_expressions.specs.declared.refusal.Refusal.TheVariants as refusal
@@ -34,8 +34,8 @@ reads_else D false x y z e h = h
 pub reads_of : {A : Type 0} (D : Type 0) (f : List Lexeme → Result A Refusal) (a b : List Lexeme) (x : A) → a ≡ b → Reads D (f b) x → Reads D (f a) x
 reads_of D f a b x e h = rw e h
 
-pub reads_expect : (D : Type 0) (word : Word) (t : Lexeme) (ts : List Lexeme) → Is word t → Reads D (expect word (t ∷ ts)) (t, ts)
-reads_expect D word t ts is = inl (expect_again word t ts is)
+pub reads_expect : (D : Type 0) (terminal : Terminal) (t : Lexeme) (ts : List Lexeme) → Is terminal t → Reads D (expect terminal (t ∷ ts)) (t, ts)
+reads_expect D terminal t ts is = inl (expect_again terminal t ts is)
 
 -- one part behind another
 pub joined : (ts a r b q : List Lexeme) → ts ≡ a ++ r → r ≡ b ++ q → ts ≡ (a ++ b) ++ q

@@ -4,15 +4,15 @@ use Rattle.std.proofs.lemmas.Bool.{false≢true}
 use Rattle.cw_syntax.specs.declared.program.Name.{Name}
 use Rattle.cw_syntax.specs.declared.program.CType.{CType}
 use Rattle.cw_syntax.specs.Trees.{Tree, Trees, none, more, Declared, Declaration}
-use Rattle.cw_grammar.specs.declared.words.Lexeme.{Lexeme}
-use Rattle.cw_grammar.specs.declared.words.Word.{Word}
-use Rattle.cw_grammar.specs.declared.words.Word.TheVariants as w
+use Rattle.cw_grammar.specs.declared.terminals.Lexeme.{Lexeme}
+use Rattle.cw_grammar.specs.declared.terminals.Terminal.{Terminal}
+use Rattle.cw_grammar.specs.declared.terminals.Terminal.TheVariants as w
 use Rattle.cw_grammar.specs.declared.rules.Rule.TheVariants.{Expression}
-use Rattle.cw_grammar.specs.Words.{same}
+use Rattle.cw_grammar.specs.Terminals.{same}
 use Rattle.cw_grammar.specs.Lexemes.{Is, to_of, IsFlag, IsOptional, IsBetween, trees}
 use Rattle.cw_grammar.specs.Expressions.{IsExpression, nesting_limit}
 use Rattle.cw_grammar.specs.Declarations.{IsName, IsStorage, Specifiers, AreSpecifiers, pointer, IsArray, AreElements, IsInitialiser, IsItem, IsDeclaration}
-use Rattle.cw_grammar.proofs.SameWord.{is_plain, same-itself}
+use Rattle.cw_grammar.proofs.SameTerminal.{is_plain, same-itself}
 use Rattle.cw_expressions.specs.Cursor.{begins, first, expect}
 use Rattle.cw_expressions.specs.TypeReading.{stars_of}
 use Rattle.cw_expressions.specs.Next.{ends, IsEnd, next_expression}
@@ -25,14 +25,14 @@ use Rattle.cw_parse.proofs.BothWays.{Reads, reads_bind, reads_then, reads_else, 
 use Rattle.cw_parse.proofs.Listed.{Several, not_longer, separated_all, separated_again}
 use Rattle.cw_parse.proofs.DeclarationsSound.{Allowed, more_comma, item_sound}
 use Rattle.cw_parse.proofs.Wording.{flag_again, first_again, starts_declarator, ends_item, ends_element, item_end, element_end, base_again, starts_base, type_starts}
-use Rattle.cw_grammar.proofs.Wording.{one_word as one_token}
+use Rattle.cw_grammar.proofs.Wording.{one_terminal as one_token}
 use Rattle.cw_parse.proofs.Wording.{stars_start}
 use Rattle.cw_expressions.proofs.TypesComplete.{stars_again}
 
 -- ---- specifiers
 
-is_itself : (word : Word) (t : Lexeme) → Is word t → same t.word word ≡ true
-is_itself word t is = rw is (same-itself word)
+is_itself : (terminal : Terminal) (t : Lexeme) → Is terminal t → same t.terminal terminal ≡ true
+is_itself terminal t is = rw is (same-itself terminal)
 
 storage_again : (a ts : List Lexeme) (external fixed : Bool) → IsStorage a external fixed → begins w.Extern ts ≡ false → begins w.Static ts ≡ false → storage (a ++ ts) ≡ ((external, fixed), ts)
 storage_again a ts false false h e f = rw (h, e, f) refl
@@ -40,12 +40,12 @@ storage_again a ts true false h e f = let p = one_token a w.Extern h in rw (p.1,
 storage_again a ts false true h e f = let p = one_token a w.Static h in rw (p.1, p.2) refl
 storage_again a ts true true h e f = absurd h
 
-flag_starts : (f : Word → Bool) (word : Word) (b : Bool) (a rest : List Lexeme) → f word ≡ true → IsFlag word a b → Starts f rest → Starts f (a ++ rest)
-flag_starts f word true a rest yes_word h s = let p = one_token a word h in rw (p.1, p.2) yes_word
-flag_starts f word false a rest yes_word h s = rw h s
+flag_starts : (f : Terminal → Bool) (terminal : Terminal) (b : Bool) (a rest : List Lexeme) → f terminal ≡ true → IsFlag terminal a b → Starts f rest → Starts f (a ++ rest)
+flag_starts f terminal true a rest yes_terminal h s = let p = one_token a terminal h in rw (p.1, p.2) yes_terminal
+flag_starts f terminal false a rest yes_terminal h s = rw h s
 
--- a word that begins a type, or a type with `const`
-abbrev starts_constant : Word → Bool
+-- a terminal that begins a type, or a type with `const`
+abbrev starts_constant : Terminal → Bool
 starts_constant w.Const = true
 starts_constant w.Void = true
 starts_constant w.Char = true
@@ -56,14 +56,14 @@ starts_constant _ = false
 
 base_constant : (ts : List Lexeme) → Starts starts_base ts → Starts starts_constant ts
 base_constant [] h = absurd h
-base_constant (t ∷ ts) h = by_word t.word h where
-  by_word : (word : Word) → starts_base word ≡ true → starts_constant word ≡ true
-  by_word w.Void e = refl
-  by_word w.Char e = refl
-  by_word w.Int e = refl
-  by_word w.Long e = refl
-  by_word w.Unsigned e = refl
-  by_word _ e = absurd (false≢true e)
+base_constant (t ∷ ts) h = by_terminal t.terminal h where
+  by_terminal : (terminal : Terminal) → starts_base terminal ≡ true → starts_constant terminal ≡ true
+  by_terminal w.Void e = refl
+  by_terminal w.Char e = refl
+  by_terminal w.Int e = refl
+  by_terminal w.Long e = refl
+  by_terminal w.Unsigned e = refl
+  by_terminal _ e = absurd (false≢true e)
 
 pub three : (a b c ts rest : List Lexeme) → ts ≡ a ++ (b ++ c) → ts ++ rest ≡ a ++ (b ++ (c ++ rest))
 three a b c ts rest e = ap (λ (z : List Lexeme). z ++ rest) e ∙ append_assoc a (b ++ c) rest ∙ ap (λ (z : List Lexeme). a ++ z) (append_assoc b c rest)
@@ -86,8 +86,8 @@ pub name_again : (a : List Lexeme) (name : Name) (rest : List Lexeme) → IsName
 unfolding next_name
 name_again a name rest (n, parts, is, e) = rw (parts, expect_again w.Name n rest is, e) refl
 
-pub name_starts : (f : Word → Bool) → f w.Name ≡ true → (a : List Lexeme) (name : Name) (rest : List Lexeme) → IsName a name → Starts f (a ++ rest)
-name_starts f yes_word a name rest (n, parts, is, e) = rw (parts, is) yes_word
+pub name_starts : (f : Terminal → Bool) → f w.Name ≡ true → (a : List Lexeme) (name : Name) (rest : List Lexeme) → IsName a name → Starts f (a ++ rest)
+name_starts f yes_terminal a name rest (n, parts, is, e) = rw (parts, is) yes_terminal
 
 pub between_again : (ts : List Lexeme) (o : Lexeme) (inner : List Lexeme) (c : Lexeme) (rest : List Lexeme) → ts ≡ o ∷ inner ++ c ∷ [] → ts ++ rest ≡ o ∷ (inner ++ (c ∷ rest))
 between_again ts o inner c rest e = ap (λ (z : List Lexeme). z ++ rest) e ∙ ap (λ (z : List Lexeme). o ∷ z) (append_assoc inner (c ∷ []) rest)
@@ -114,10 +114,10 @@ module _ (n : ℕ) where
   pub next_reads : (a : List Lexeme) (e : Tree) (rest : List Lexeme) → Any a e → IsEnd rest → Reads Deep (next_expression (a ++ rest)) (e, rest)
   next_reads a e rest h stop = next_again n (a ++ rest) e rest (a, refl, h) stop
 
-  pub no_expression : (word : Word) → is_plain word ≡ true → starts_expression word ≡ false → (a : List Lexeme) (e : Tree) (rest : List Lexeme) → Any a e → begins word (a ++ rest) ≡ false
-  no_expression word plain refused a e rest h = starts_never starts_expression word plain refused (a ++ rest) (starts_append starts_expression a rest (derived_starts n Expression a e h))
+  pub no_expression : (terminal : Terminal) → is_plain terminal ≡ true → starts_expression terminal ≡ false → (a : List Lexeme) (e : Tree) (rest : List Lexeme) → Any a e → begins terminal (a ++ rest) ≡ false
+  no_expression terminal plain refused a e rest h = starts_never starts_expression terminal plain refused (a ++ rest) (starts_append starts_expression a rest (derived_starts n Expression a e h))
 
-  pub optional_again : (closes : Word) → is_plain closes ≡ true → starts_expression closes ≡ false → ends closes ≡ true
+  pub optional_again : (closes : Terminal) → is_plain closes ≡ true → starts_expression closes ≡ false → ends closes ≡ true
       → (a : List Lexeme) (x : Option Tree) (c : Lexeme) (rest : List Lexeme) → IsOptional Any a x → Is closes c → Reads Deep (optional_expression closes (a ++ c ∷ rest)) (x, c ∷ rest)
   unfolding optional_expression
   optional_again closes plain refused end a None c rest h is = rw h (reads_then Deep (begins closes (c ∷ rest)) _ _ _ (begins_again closes c rest is) (inl refl))
@@ -223,8 +223,8 @@ module _ (n : ℕ) where
       let tail : List Lexeme = d ++ rest in
       let next = initialiser_next d x.init x.braces rest hd stop in
       let starred : stars_of (a ++ (b ++ (c ++ tail))) ≡ (stars, b ++ (c ++ tail)) =
-      stars_again stars a (b ++ (c ++ tail)) ha (starts_never (λ word. same word w.Name) w.Star refl refl (b ++ (c ++ tail))
-      (name_starts (λ word. same word w.Name) refl b x.name (c ++ tail) hb)) in
+      stars_again stars a (b ++ (c ++ tail)) ha (starts_never (λ terminal. same terminal w.Name) w.Star refl refl (b ++ (c ++ tail))
+      (name_starts (λ terminal. same terminal w.Name) refl b x.name (c ++ tail) hb)) in
       let last : ok_item (read_item (pointer specs stars) x.name x.array x.init x.braces) rest ≡ ok_item x rest =
       ap (λ (z : CType). ok_item (read_item z x.name x.array x.init x.braces) rest) (sym kind) in
       rw (four a b c d ts rest parts, starred)

@@ -7,15 +7,15 @@ use Rattle.cw_lemmas.proofs.Truths.{and_first}
 use Rattle.cw_syntax.specs.declared.program.Name.{Name}
 use Rattle.cw_syntax.specs.declared.program.Param.{Param}
 use Rattle.cw_syntax.specs.Trees.{Tree, Trees, Prototype}
-use Rattle.cw_grammar.specs.declared.words.Lexeme.{Lexeme}
-use Rattle.cw_grammar.specs.declared.words.Word.{Word}
-use Rattle.cw_grammar.specs.declared.words.Word.TheVariants as w
-use Rattle.cw_grammar.specs.Words.{same}
-use Rattle.cw_grammar.specs.Lexemes.{Is, words, name_of, from_of, to_of, IsFlag, IsOptional, IsBetween, trees}
+use Rattle.cw_grammar.specs.declared.terminals.Lexeme.{Lexeme}
+use Rattle.cw_grammar.specs.declared.terminals.Terminal.{Terminal}
+use Rattle.cw_grammar.specs.declared.terminals.Terminal.TheVariants as w
+use Rattle.cw_grammar.specs.Terminals.{same}
+use Rattle.cw_grammar.specs.Lexemes.{Is, terminals, name_of, from_of, to_of, IsFlag, IsOptional, IsBetween, trees}
 use Rattle.cw_grammar.specs.Types.{AreStars}
 use Rattle.cw_grammar.specs.Expressions.{IsExpression, nesting_limit}
 use Rattle.cw_grammar.specs.Declarations.{IsName, IsStorage, Specifiers, AreSpecifiers, IsArray, AreElements, IsInitialiser, IsItem, IsDeclaration, IsBrackets, IsParam, AreParams, IsHeader}
-use Rattle.cw_grammar.proofs.SameWord.{is_plain, same-true}
+use Rattle.cw_grammar.proofs.SameTerminal.{is_plain, same-true}
 use Rattle.cw_expressions.specs.Cursor.{begins, after, first, expect}
 use Rattle.cw_expressions.specs.TypeReading.{base_of, stars_of, type_name}
 use Rattle.cw_expressions.specs.Next.{next_expression}
@@ -37,8 +37,8 @@ Allowed ts e = IsExpression nesting_limit ts e
 abbrev TakesStorage : List Lexeme → (Bool × Bool) × List Lexeme → Type 0
 TakesStorage ts x = (a : List Lexeme) × (ts ≡ a ++ x.1) × IsStorage a x.0.0 x.0.1
 
-pub one : (word : Word) (t : Lexeme) → Is word t → words (t ∷ []) ≡ word ∷ []
-one word t is = ap (λ (z : Word). z ∷ []) is
+pub one : (terminal : Terminal) (t : Lexeme) → Is terminal t → terminals (t ∷ []) ≡ terminal ∷ []
+one terminal t is = ap (λ (z : Terminal). z ∷ []) is
 
 storage_by : (ts : List Lexeme) (external fixed : Bool) → begins w.Extern ts ≡ external → begins w.Static ts ≡ fixed
     → TakesStorage ts (cond external ((true, false), after ts) (cond fixed ((false, true), after ts) ((false, false), ts)))
@@ -49,15 +49,15 @@ storage_by ts false false e f = ([], refl, refl)
 storage_takes : (ts : List Lexeme) → TakesStorage ts (storage ts)
 storage_takes ts = storage_by ts (begins w.Extern ts) (begins w.Static ts) refl refl
 
-abbrev TakesFlag : Word → List Lexeme → Bool × List Lexeme → Type 0
-TakesFlag word ts x = (a : List Lexeme) × (ts ≡ a ++ x.1) × IsFlag word a x.0
+abbrev TakesFlag : Terminal → List Lexeme → Bool × List Lexeme → Type 0
+TakesFlag terminal ts x = (a : List Lexeme) × (ts ≡ a ++ x.1) × IsFlag terminal a x.0
 
-flag_by : (word : Word) → is_plain word ≡ true → (ts : List Lexeme) (b : Bool) → begins word ts ≡ b → TakesFlag word ts (cond b (true, after ts) (false, ts))
-flag_by word plain ts true e = let p = begins_takes word plain ts e in (p.0 ∷ [], p.1, one word p.0 p.2)
-flag_by word plain ts false e = ([], refl, refl)
+flag_by : (terminal : Terminal) → is_plain terminal ≡ true → (ts : List Lexeme) (b : Bool) → begins terminal ts ≡ b → TakesFlag terminal ts (cond b (true, after ts) (false, ts))
+flag_by terminal plain ts true e = let p = begins_takes terminal plain ts e in (p.0 ∷ [], p.1, one terminal p.0 p.2)
+flag_by terminal plain ts false e = ([], refl, refl)
 
-flag_takes : (word : Word) → is_plain word ≡ true → (ts : List Lexeme) → TakesFlag word ts (flag word ts)
-flag_takes word plain ts = flag_by word plain ts (begins word ts) refl
+flag_takes : (terminal : Terminal) → is_plain terminal ≡ true → (ts : List Lexeme) → TakesFlag terminal ts (flag terminal ts)
+flag_takes terminal plain ts = flag_by terminal plain ts (begins terminal ts) refl
 
 pub specifiers_sound : (ts : List Lexeme) → IfOk (specifiers ts) (Took AreSpecifiers ts)
 unfolding specifiers
@@ -76,7 +76,7 @@ name_sound ts = if_bind (expect w.Name ts) _ _ _ (expect_takes w.Name refl ts) (
 
 -- ---- declarations
 
-pub optional_sound : (closes : Word) (ts : List Lexeme) → IfOk (optional_expression closes ts) (Took (IsOptional Allowed) ts)
+pub optional_sound : (closes : Terminal) (ts : List Lexeme) → IfOk (optional_expression closes ts) (Took (IsOptional Allowed) ts)
 unfolding optional_expression
 optional_sound closes ts =
     if_cond (begins closes ts) _ _ _
@@ -186,12 +186,12 @@ TakesOptionalName ts x = (a : List Lexeme) × (ts ≡ a ++ x.1) × IsOptional Is
 
 optional_name_takes : (ts : List Lexeme) → TakesOptionalName ts (optional_name ts)
 optional_name_takes [] = ([], refl, refl)
-optional_name_takes (t ∷ ts) = by_test (same t.word w.Name) refl where
-  by_test : (b : Bool) → same t.word w.Name ≡ b → TakesOptionalName (t ∷ ts) (cond b (Some (name_of t), ts) (None, t ∷ ts))
-  by_test true e = (t ∷ [], refl, (t, refl, same-true t.word w.Name refl e, refl))
+optional_name_takes (t ∷ ts) = by_test (same t.terminal w.Name) refl where
+  by_test : (b : Bool) → same t.terminal w.Name ≡ b → TakesOptionalName (t ∷ ts) (cond b (Some (name_of t), ts) (None, t ∷ ts))
+  by_test true e = (t ∷ [], refl, (t, refl, same-true t.terminal w.Name refl e, refl))
   by_test false e = ([], refl, refl)
 
-pub two : (a b : Word) (t u : Lexeme) → Is a t → Is b u → words (t ∷ u ∷ []) ≡ a ∷ b ∷ []
+pub two : (a b : Terminal) (t u : Lexeme) → Is a t → Is b u → terminals (t ∷ u ∷ []) ≡ a ∷ b ∷ []
 two a b t u p q = cc
 
 brackets_sound : (ts : List Lexeme) → IfOk (brackets ts) (Took IsBrackets ts)
@@ -225,19 +225,19 @@ TakesParams ts x = (a : List Lexeme) × (ts ≡ a ++ x.1) × (begins w.Close x.1
 void_takes : (ts : List Lexeme) → is_void ts ≡ true → TakesParams ts ([], after ts)
 void_takes ts e = let t = begins_takes w.Void refl ts (and_first (begins w.Void ts) (begins w.Close (after ts)) e) in (t.0 ∷ [], t.1, λ close. inl (one w.Void t.0 t.2, refl))
 
-not_void : (a rest : List Lexeme) → is_void (a ++ rest) ≡ false → begins w.Close rest ≡ true → words a ≢ w.Void ∷ []
-not_void [] rest e close same_words = absurd (cc)
-not_void (t ∷ []) rest e close same_words = let is : t.word ≡ w.Void = cc in false≢true (sym e ∙ rw (is, close) refl)
-not_void (t ∷ u ∷ a) rest e close same_words = absurd (cc)
+not_void : (a rest : List Lexeme) → is_void (a ++ rest) ≡ false → begins w.Close rest ≡ true → terminals a ≢ w.Void ∷ []
+not_void [] rest e close same_terminals = absurd (cc)
+not_void (t ∷ []) rest e close same_terminals = let is : t.terminal ≡ w.Void = cc in false≢true (sym e ∙ rw (is, close) refl)
+not_void (t ∷ u ∷ a) rest e close same_terminals = absurd (cc)
 
-no_words : words [] ≢ w.Void ∷ []
-no_words e = absurd (cc)
+no_terminals : terminals [] ≢ w.Void ∷ []
+no_terminals e = absurd (cc)
 
 params_sound : (ts : List Lexeme) → IfOk (params ts) (TakesParams ts)
 unfolding params
 params_sound ts =
     if_cond (begins w.Close ts) _ _ _
-    (λ e. ([], refl, λ close. inr (no_words, refl)))
+    (λ e. ([], refl, λ close. inr (no_terminals, refl)))
     (λ e.
     if_cond (is_void ts) _ _ _
     (λ f. void_takes ts f)

@@ -7,14 +7,14 @@ use Rattle.cw_syntax.specs.declared.program.CType.{CType}
 use Rattle.cw_syntax.specs.declared.program.Param.{Param}
 use Rattle.cw_syntax.specs.declared.program.Base.{Base}
 use Rattle.cw_syntax.specs.Trees.{Declared, Declaration, Prototype}
-use Rattle.cw_grammar.specs.declared.words.Lexeme.{Lexeme}
-use Rattle.cw_grammar.specs.declared.words.Word.{Word}
-use Rattle.cw_grammar.specs.declared.words.Word.TheVariants as w
-use Rattle.cw_grammar.specs.Words.{same}
-use Rattle.cw_grammar.specs.Lexemes.{Is, words, IsFlag, IsOptional, AreSeparated}
+use Rattle.cw_grammar.specs.declared.terminals.Lexeme.{Lexeme}
+use Rattle.cw_grammar.specs.declared.terminals.Terminal.{Terminal}
+use Rattle.cw_grammar.specs.declared.terminals.Terminal.TheVariants as w
+use Rattle.cw_grammar.specs.Terminals.{same}
+use Rattle.cw_grammar.specs.Lexemes.{Is, terminals, IsFlag, IsOptional, AreSeparated}
 use Rattle.cw_grammar.specs.Types.{IsType, AreStars, IsTypeName}
 use Rattle.cw_grammar.specs.Declarations.{IsName, Specifiers, AreSpecifiers, pointer, IsItem, IsDeclaration, IsBrackets, IsParam, AreParams}
-use Rattle.cw_grammar.proofs.SameWord.{same-true}
+use Rattle.cw_grammar.proofs.SameTerminal.{same-true}
 use Rattle.cw_expressions.specs.declared.refusal.Refusal.TheVariants as refusal
 use Rattle.cw_expressions.specs.Cursor.{begins, expect}
 use Rattle.cw_expressions.specs.TypeReading.{base_of, type_name}
@@ -28,7 +28,7 @@ use Rattle.cw_parse.proofs.BothWays.{Reads, reads_bind, reads_then, reads_else, 
 use Rattle.cw_parse.proofs.Listed.{Several, not_longer, separated_all, separated_again}
 use Rattle.cw_parse.proofs.DeclarationsSound.{param_sound, HasHeader}
 use Rattle.cw_parse.proofs.Wording.{starts_declarator, ends_item, ends_param, follows_name, param_follows, stars_start}
-use Rattle.cw_grammar.proofs.Wording.{one_word as one_token, two_words as two_tokens}
+use Rattle.cw_grammar.proofs.Wording.{one_terminal as one_token, two_terminals as two_tokens}
 use Rattle.cw_parse.proofs.DeclarationsComplete.{specifiers_again, name_again, name_starts, three, four, between_again, Any, initialiser_next, array_next}
 use Rattle.cw_lemmas.proofs.Truths.{and_first as both_true, and_false}
 
@@ -45,7 +45,7 @@ front_again : (a b c rest : List Lexeme) (specs : Specifiers) (stars : ℕ) (nam
 unfolding front
 front_again a b c rest specs stars name hs hb hc =
     let named : Starts starts_declarator (c ++ rest) = name_starts starts_declarator refl c name rest hc in
-    let no_star : begins w.Star (c ++ rest) ≡ false = starts_never (λ word. same word w.Name) w.Star refl refl (c ++ rest) (name_starts (λ word. same word w.Name) refl c name rest hc) in
+    let no_star : begins w.Star (c ++ rest) ≡ false = starts_never (λ terminal. same terminal w.Name) w.Star refl refl (c ++ rest) (name_starts (λ terminal. same terminal w.Name) refl c name rest hc) in
     rw (specifiers_again a specs (b ++ (c ++ rest)) hs (stars_start stars b (c ++ rest) hb named), stars_again stars b (c ++ rest) hb no_star, name_again c name rest hc) refl
 
 -- ---- parameters
@@ -68,15 +68,15 @@ optional_name_again (Some name) a rest (n, parts, is, e) stop = rw (parts, is, e
 
 ends_type : (name : Option Name) (a rest : List Lexeme) → IsOptional IsName a name → Starts follows_name rest → next_is continues_type (a ++ rest) ≡ false
 ends_type None a rest h stop = rw h (by_rest rest stop) where
-  by_word : (word : Word) → follows_name word ≡ true → continues_type word ≡ false
-  by_word w.OpenBracket e = refl
-  by_word w.Comma e = refl
-  by_word w.Close e = refl
-  by_word _ e = absurd (false≢true e)
+  by_terminal : (terminal : Terminal) → follows_name terminal ≡ true → continues_type terminal ≡ false
+  by_terminal w.OpenBracket e = refl
+  by_terminal w.Comma e = refl
+  by_terminal w.Close e = refl
+  by_terminal _ e = absurd (false≢true e)
 
   by_rest : (ts : List Lexeme) → Starts follows_name ts → next_is continues_type ts ≡ false
   by_rest [] s = absurd s
-  by_rest (t ∷ ts) s = by_word t.word s
+  by_rest (t ∷ ts) s = by_terminal t.terminal s
 ends_type (Some name) a rest (n, parts, is, e) stop = rw (parts, is) refl
 
 param_again : (ts : List Lexeme) (p : Param) (rest : List Lexeme) → IsParam ts p → Starts ends_param rest → param (ts ++ rest) ≡ Ok (p, rest)
@@ -93,48 +93,48 @@ param_again ts p rest (a, b, c, parts, kind, name, array) stop =
 
 -- ---- no parenthesis among parameters
 
-abbrev all_open : List Word → Bool
+abbrev all_open : List Terminal → Bool
 all_open [] = true
-all_open (word ∷ ws) = cond (same word w.Close) false (all_open ws)
+all_open (terminal ∷ ws) = cond (same terminal w.Close) false (all_open ws)
 
 abbrev IsOpen : List Lexeme → Type 0
-IsOpen ts = all_open (words ts) ≡ true
+IsOpen ts = all_open (terminals ts) ≡ true
 
-open_by : (word : Word) (ws : List Word) → all_open (word ∷ ws) ≡ true → (same word w.Close ≡ false) × (all_open ws ≡ true)
-open_by word ws h = by_test (same word w.Close) refl h where
-  by_test : (b : Bool) → same word w.Close ≡ b → cond b false (all_open ws) ≡ true → (same word w.Close ≡ false) × (all_open ws ≡ true)
+open_by : (terminal : Terminal) (ws : List Terminal) → all_open (terminal ∷ ws) ≡ true → (same terminal w.Close ≡ false) × (all_open ws ≡ true)
+open_by terminal ws h = by_test (same terminal w.Close) refl h where
+  by_test : (b : Bool) → same terminal w.Close ≡ b → cond b false (all_open ws) ≡ true → (same terminal w.Close ≡ false) × (all_open ws ≡ true)
   by_test true e f = absurd (false≢true f)
   by_test false e f = (e, f)
 
 open_append : (a b : List Lexeme) → IsOpen a → IsOpen b → IsOpen (a ++ b)
 open_append [] b p q = q
-open_append (t ∷ a) b p q = let r = open_by t.word (words a) p in rw r.0 (open_append a b r.1 q)
+open_append (t ∷ a) b p q = let r = open_by t.terminal (terminals a) p in rw r.0 (open_append a b r.1 q)
 
-open_words : (a : List Lexeme) (ws : List Word) → words a ≡ ws → all_open ws ≡ true → IsOpen a
-open_words a ws e h = ap all_open e ∙ h
+open_terminals : (a : List Lexeme) (ws : List Terminal) → terminals a ≡ ws → all_open ws ≡ true → IsOpen a
+open_terminals a ws e h = ap all_open e ∙ h
 
-open_flag : (word : Word) (b : Bool) (a : List Lexeme) → all_open (word ∷ []) ≡ true → IsFlag word a b → IsOpen a
-open_flag word true a h e = open_words a (word ∷ []) e h
-open_flag word false a h e = rw e refl
+open_flag : (terminal : Terminal) (b : Bool) (a : List Lexeme) → all_open (terminal ∷ []) ≡ true → IsFlag terminal a b → IsOpen a
+open_flag terminal true a h e = open_terminals a (terminal ∷ []) e h
+open_flag terminal false a h e = rw e refl
 
 open_stars : (n : ℕ) → all_open (replicate n w.Star) ≡ true
 open_stars zero = refl
 open_stars (suc n) = open_stars n
 
-abbrev words_of : List Word × (Base × Bool) → List Word
-words_of x = x.0
+abbrev terminals_of : List Terminal × (Base × Bool) → List Terminal
+terminals_of x = x.0
 
 open_type : (a : List Lexeme) (b : Base) (unsigned : Bool) → IsType a b unsigned → IsOpen a
-open_type a b unsigned (inl e) = open_words a _ (ap words_of e) refl
-open_type a b unsigned (inr (inl e)) = open_words a _ (ap words_of e) refl
-open_type a b unsigned (inr (inr (inl e))) = open_words a _ (ap words_of e) refl
-open_type a b unsigned (inr (inr (inr (inl e)))) = open_words a _ (ap words_of e) refl
-open_type a b unsigned (inr (inr (inr (inr (inl e))))) = open_words a _ (ap words_of e) refl
-open_type a b unsigned (inr (inr (inr (inr (inr (inl e)))))) = open_words a _ (ap words_of e) refl
-open_type a b unsigned (inr (inr (inr (inr (inr (inr (inl e))))))) = open_words a _ (ap words_of e) refl
-open_type a b unsigned (inr (inr (inr (inr (inr (inr (inr (inl e)))))))) = open_words a _ (ap words_of e) refl
-open_type a b unsigned (inr (inr (inr (inr (inr (inr (inr (inr (inl e))))))))) = open_words a _ (ap words_of e) refl
-open_type a b unsigned (inr (inr (inr (inr (inr (inr (inr (inr (inr (inl e)))))))))) = open_words a _ (ap words_of e) refl
+open_type a b unsigned (inl e) = open_terminals a _ (ap terminals_of e) refl
+open_type a b unsigned (inr (inl e)) = open_terminals a _ (ap terminals_of e) refl
+open_type a b unsigned (inr (inr (inl e))) = open_terminals a _ (ap terminals_of e) refl
+open_type a b unsigned (inr (inr (inr (inl e)))) = open_terminals a _ (ap terminals_of e) refl
+open_type a b unsigned (inr (inr (inr (inr (inl e))))) = open_terminals a _ (ap terminals_of e) refl
+open_type a b unsigned (inr (inr (inr (inr (inr (inl e)))))) = open_terminals a _ (ap terminals_of e) refl
+open_type a b unsigned (inr (inr (inr (inr (inr (inr (inl e))))))) = open_terminals a _ (ap terminals_of e) refl
+open_type a b unsigned (inr (inr (inr (inr (inr (inr (inr (inl e)))))))) = open_terminals a _ (ap terminals_of e) refl
+open_type a b unsigned (inr (inr (inr (inr (inr (inr (inr (inr (inl e))))))))) = open_terminals a _ (ap terminals_of e) refl
+open_type a b unsigned (inr (inr (inr (inr (inr (inr (inr (inr (inr (inl e)))))))))) = open_terminals a _ (ap terminals_of e) refl
 open_type a b unsigned (inr (inr (inr (inr (inr (inr (inr (inr (inr (inr e)))))))))) = absurd e
 
 open_name : (a : List Lexeme) (name : Option Name) → IsOptional IsName a name → IsOpen a
@@ -142,24 +142,24 @@ open_name a None h = rw h refl
 open_name a (Some name) (n, parts, is, e) = rw (parts, is) refl
 
 open_brackets : (a : List Lexeme) (b : Bool) → IsBrackets a b → IsOpen a
-open_brackets a true h = open_words a _ h refl
+open_brackets a true h = open_terminals a _ h refl
 open_brackets a false h = rw h refl
 
 open_type_name : (a : List Lexeme) (kind : CType) → IsTypeName a kind → IsOpen a
 open_type_name a kind (constant, c, t, s, parts, hc, ht, hs) =
-    ap (λ (z : List Lexeme). all_open (words z)) parts
-    ∙ open_append c (t ++ s) (open_flag w.Const constant c refl hc) (open_append t s (open_type t kind.base kind.unsigned ht) (open_words s _ hs.1 (open_stars kind.stars)))
+    ap (λ (z : List Lexeme). all_open (terminals z)) parts
+    ∙ open_append c (t ++ s) (open_flag w.Const constant c refl hc) (open_append t s (open_type t kind.base kind.unsigned ht) (open_terminals s _ hs.1 (open_stars kind.stars)))
 
 open_param : (a : List Lexeme) (p : Param) → IsParam a p → IsOpen a
 open_param ts p (a, b, c, parts, kind, name, array) =
-    ap (λ (z : List Lexeme). all_open (words z)) parts
+    ap (λ (z : List Lexeme). all_open (terminals z)) parts
     ∙ open_append a (b ++ c) (open_type_name a p.kind kind) (open_append b c (open_name b p.name name) (open_brackets c p.array array))
 
 open_params : (ps : List Param) (ts : List Lexeme) → AreSeparated IsParam ts ps → IsOpen ts
 open_params [] ts h = rw h refl
 open_params (p ∷ []) ts h = open_param ts p h
 open_params (p ∷ q ∷ ps) ts (a, c, b, parts, comma, h, rest) =
-    ap (λ (z : List Lexeme). all_open (words z)) parts ∙ open_append a (c ∷ b) (open_param a p h) (rw comma (open_params (q ∷ ps) b rest))
+    ap (λ (z : List Lexeme). all_open (terminals z)) parts ∙ open_append a (c ∷ b) (open_param a p h) (rw comma (open_params (q ∷ ps) b rest))
 
 -- ---- all parameters
 
@@ -173,7 +173,7 @@ nothing_refused = refl
 
 type_no_close : (a : List Lexeme) (x : CType) (rest : List Lexeme) → type_name (a ++ []) ≡ Ok (x, []) → begins w.Close (a ++ rest) ≡ false
 type_no_close [] x rest e = let f = nothing_refused in absurd (cc)
-type_no_close (t ∷ a) x rest e = is_false (same t.word w.Close) (λ s. let f = close_refused t (a ++ []) (same-true t.word w.Close refl s) in absurd (cc))
+type_no_close (t ∷ a) x rest e = is_false (same t.terminal w.Close) (λ s. let f = close_refused t (a ++ []) (same-true t.terminal w.Close refl s) in absurd (cc))
 
 no_close : (a : List Lexeme) (p : Param) (rest : List Lexeme) → IsParam a p → begins w.Close (a ++ rest) ≡ false
 no_close ts p rest (a, b, c, parts, kind, name, array) =
@@ -192,21 +192,21 @@ comma_on : (c : Lexeme) (a : List Lexeme) (p : Param) (rest : List Lexeme) → I
 comma_on c a p rest is h = rw is refl
 
 -- more than `void` stands there
-never_void : (a : List Lexeme) (c : Lexeme) (rest : List Lexeme) → IsOpen a → words a ≢ w.Void ∷ [] → begins w.Close (a ++ c ∷ rest) ≡ false → Is w.Close c → is_void (a ++ c ∷ rest) ≡ false
+never_void : (a : List Lexeme) (c : Lexeme) (rest : List Lexeme) → IsOpen a → terminals a ≢ w.Void ∷ [] → begins w.Close (a ++ c ∷ rest) ≡ false → Is w.Close c → is_void (a ++ c ∷ rest) ≡ false
 never_void [] c rest h other e is = absurd (false≢true (sym e ∙ begins_again w.Close c rest is))
 never_void (t ∷ []) c rest h other e is =
-    is_false (is_void (t ∷ c ∷ rest)) (λ f. let v : t.word ≡ w.Void = same-true t.word w.Void refl (both_true (same t.word w.Void) (begins w.Close (c ∷ rest)) f) in
-    other (ap (λ (z : Word). z ∷ []) v))
+    is_false (is_void (t ∷ c ∷ rest)) (λ f. let v : t.terminal ≡ w.Void = same-true t.terminal w.Void refl (both_true (same t.terminal w.Void) (begins w.Close (c ∷ rest)) f) in
+    other (ap (λ (z : Terminal). z ∷ []) v))
 never_void (t ∷ u ∷ a) c rest h other e is =
-    let p = open_by t.word (u.word ∷ words a) h in
-    let q = open_by u.word (words a) p.1 in
-    rw q.0 (and_false (same t.word w.Void))
+    let p = open_by t.terminal (u.terminal ∷ terminals a) h in
+    let q = open_by u.terminal (terminals a) p.1 in
+    rw q.0 (and_false (same t.terminal w.Void))
 
 module _ (D : Type 0) where
   reads_param : (ts : List Lexeme) (p : Param) (rest : List Lexeme) → IsParam ts p → Starts ends_param rest → Reads D (param (ts ++ rest)) (p, rest)
   reads_param ts p rest h stop = inl (param_again ts p rest h stop)
 
-  several_again : (ps : List Param) (ts : List Lexeme) (c : Lexeme) (rest : List Lexeme) → Several IsParam ts ps → words ts ≢ w.Void ∷ [] → Is w.Close c
+  several_again : (ps : List Param) (ts : List Lexeme) (c : Lexeme) (rest : List Lexeme) → Several IsParam ts ps → terminals ts ≢ w.Void ∷ [] → Is w.Close c
       → Reads D (params (ts ++ c ∷ rest)) (ps, c ∷ rest)
   unfolding params
   several_again ps ts c rest h other is =

@@ -3,7 +3,7 @@ use Rattle.std.proofs.Common.{◌≡◌, ℕ, zero, suc, ◌+◌, ◌<◌, ◌�
 use Rattle.std.specs.Prelude.{◌≢◌, slice_get}
 use Rattle.cw_syntax.specs.Trees.{File}
 use Rattle.cw_lex.specs.declared.tokens.Token.{Token}
-use Rattle.cw_grammar.specs.declared.words.Lexeme.{Lexeme}
+use Rattle.cw_grammar.specs.declared.terminals.Lexeme.{Lexeme}
 use Rattle.cw_grammar.specs.Expressions.{nesting_limit}
 use Rattle.cw_grammar.specs.Files.{IsOfGrammar, IsProgram}
 use Rattle.cw_recogniser.specs.Language.{AreOfGrammar, IsFront}

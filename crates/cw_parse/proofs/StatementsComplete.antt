@@ -7,15 +7,15 @@ use Rattle.std.proofs.lemmas.List.{append-nil}
 use Rattle.cw_syntax.specs.Trees.{Tree, Statement, Stated, Form, Block, Declares, Evaluates, Empties, Labels, Chooses, Whiles, Does, Fors, Breaks, Continues, Returns, Perhaps}
 use Rattle.cw_syntax.specs.Trees.{nothing, just, Declaration}
 use Rattle.cw_syntax.specs.declared.program.Op.TheVariants as op
-use Rattle.cw_grammar.specs.declared.words.Lexeme.{Lexeme}
-use Rattle.cw_grammar.specs.declared.words.Word.{Word}
-use Rattle.cw_grammar.specs.declared.words.Word.TheVariants as w
+use Rattle.cw_grammar.specs.declared.terminals.Lexeme.{Lexeme}
+use Rattle.cw_grammar.specs.declared.terminals.Terminal.{Terminal}
+use Rattle.cw_grammar.specs.declared.terminals.Terminal.TheVariants as w
 use Rattle.cw_grammar.specs.declared.rules.Rule.TheVariants.{Expression, Level}
-use Rattle.cw_grammar.specs.Lexemes.{Is, words, name_of, from_of, to_of, IsFlag, IsOptional, AreAll, IsBetween, IsEnded, statements}
+use Rattle.cw_grammar.specs.Lexemes.{Is, terminals, name_of, from_of, to_of, IsFlag, IsOptional, AreAll, IsBetween, IsEnded, statements}
 use Rattle.cw_grammar.specs.Expressions.{IsExpression, IsDerived, node, loosest, nesting_limit}
 use Rattle.cw_grammar.specs.Declarations.{IsDeclaration, IsStorage, Specifiers, AreSpecifiers}
 use Rattle.cw_grammar.specs.Statements.{Place, InBlock, BeforeElse, Elsewhere, last, IsTest, IsInit, IsForm, IsStatement}
-use Rattle.cw_grammar.proofs.SameWord.{is_plain}
+use Rattle.cw_grammar.proofs.SameTerminal.{is_plain}
 use Rattle.cw_expressions.specs.declared.refusal.Refusal.{Refusal}
 use Rattle.cw_expressions.specs.Cursor.{◌>>=◌, begins, after, first, expect}
 use Rattle.cw_expressions.specs.Reading.{Read as ReadExpression, read_at}
@@ -31,7 +31,7 @@ use Rattle.cw_parse.specs.DeclarationReading.{optional_expression, declaration, 
 use Rattle.cw_parse.proofs.BothWays.{Reads, reads_bind, reads_then, reads_else, reads_of, reads_expect}
 use Rattle.cw_parse.proofs.Listed.{Shortening, many_again}
 use Rattle.cw_parse.proofs.Wording.{first_again, starts_base, starts_declarator, type_starts}
-use Rattle.cw_grammar.proofs.Wording.{one_word as one_token, two_words as two_tokens}
+use Rattle.cw_grammar.proofs.Wording.{one_terminal as one_token, two_terminals as two_tokens}
 use Rattle.cw_parse.proofs.DeclarationsComplete.{Deep, three, four, next_reads, optional_again, declaration_again, items_start, between_again}
 use Rattle.cw_parse.proofs.StatementsSound.{read_shortens}
 use Rattle.cw_parse.specs.StatementReading.{condition, ended, declares, declared, evaluated, start, short, returned, end_of, goes_on, block, labelled, chosen, branched, looped, done}
@@ -53,27 +53,27 @@ statement_to limit (suc n) place ts (Stated form from to) h = h.1
 
 -- ---- what begins what
 
--- a word that isn't the end of a block, nor an `else`
-abbrev opens_statement : Word → Bool
+-- a terminal that isn't the end of a block, nor an `else`
+abbrev opens_statement : Terminal → Bool
 opens_statement w.CloseBrace = false
 opens_statement w.Else = false
 opens_statement _ = true
 
-expression_opens : (word : Word) → starts_expression word ≡ true → opens_statement word ≡ true
+expression_opens : (terminal : Terminal) → starts_expression terminal ≡ true → opens_statement terminal ≡ true
 expression_opens w.CloseBrace e = absurd (false≢true e)
 expression_opens w.Else e = absurd (false≢true e)
 expression_opens _ e = refl
 
-declaration_opens : (word : Word) → starts_declaration word ≡ true → opens_statement word ≡ true
+declaration_opens : (terminal : Terminal) → starts_declaration terminal ≡ true → opens_statement terminal ≡ true
 declaration_opens w.CloseBrace e = absurd (false≢true e)
 declaration_opens w.Else e = absurd (false≢true e)
 declaration_opens _ e = refl
 
-starts_wider : (f g : Word → Bool) → ((word : Word) → f word ≡ true → g word ≡ true) → (ts : List Lexeme) → Starts f ts → Starts g ts
+starts_wider : (f g : Terminal → Bool) → ((terminal : Terminal) → f terminal ≡ true → g terminal ≡ true) → (ts : List Lexeme) → Starts f ts → Starts g ts
 starts_wider f g wider [] h = absurd h
-starts_wider f g wider (t ∷ ts) h = wider t.word h
+starts_wider f g wider (t ∷ ts) h = wider t.terminal h
 
-expression_no_declaration : (word : Word) → starts_expression word ≡ true → starts_declaration word ≡ false
+expression_no_declaration : (terminal : Terminal) → starts_expression terminal ≡ true → starts_declaration terminal ≡ false
 expression_no_declaration w.Extern e = absurd (false≢true e)
 expression_no_declaration w.Static e = absurd (false≢true e)
 expression_no_declaration w.Const e = absurd (false≢true e)
@@ -86,13 +86,13 @@ expression_no_declaration _ e = refl
 
 no_declaration : (ts : List Lexeme) → Starts starts_expression ts → declares ts ≡ false
 no_declaration [] h = absurd h
-no_declaration (t ∷ ts) h = expression_no_declaration t.word h
+no_declaration (t ∷ ts) h = expression_no_declaration t.terminal h
 
 declares_next : (ts : List Lexeme) → Starts starts_declaration ts → declares ts ≡ true
 declares_next [] h = absurd h
 declares_next (t ∷ ts) h = h
 
-base_declaration : (word : Word) → starts_base word ≡ true → starts_declaration word ≡ true
+base_declaration : (terminal : Terminal) → starts_base terminal ≡ true → starts_declaration terminal ≡ true
 base_declaration w.Void e = refl
 base_declaration w.Char e = refl
 base_declaration w.Int e = refl
@@ -151,7 +151,7 @@ colon_clash D ts e f s u a b p (inl q) colon semi =
     let pairs : pair e (u ∷ a) ≡ pair f (s ∷ b) = cc in
     let lists : u ∷ a ≡ s ∷ b = ap (λ (z : Tree × List Lexeme). z.1) pairs in
     let tokens : u ≡ s = cc in
-    let clash : w.Colon ≡ w.Semicolon = sym colon ∙ ap (λ (z : Lexeme). z.word) tokens ∙ semi in
+    let clash : w.Colon ≡ w.Semicolon = sym colon ∙ ap (λ (z : Lexeme). z.terminal) tokens ∙ semi in
     absurd (cc)
 colon_clash D ts e f s u a b p (inr q) colon semi = let r = q.1 in absurd (cc)
 
@@ -178,7 +178,7 @@ module _ (limit : ℕ) (D : Type 0) (deep : nesting_limit < limit → D) where
       (reads_bind D (next_expression (inner ++ (c ∷ rest))) _ (e, c ∷ rest) _ (reads_wider (Deep limit) D _ _ deep (next_reads limit inner e (c ∷ rest) h (rw closes refl)))
       (reads_bind D (expect w.Close (c ∷ rest)) _ (c, rest) _ (reads_expect D w.Close c rest closes) (inl refl))))
 
-  ended_again : (closes : Word) → is_plain closes ≡ true → starts_expression closes ≡ false → ends closes ≡ true → (a : List Lexeme) (x : Option Tree) (rest : List Lexeme)
+  ended_again : (closes : Terminal) → is_plain closes ≡ true → starts_expression closes ≡ false → ends closes ≡ true → (a : List Lexeme) (x : Option Tree) (rest : List Lexeme)
       → IsEnded closes (IsOptional E) a x → Reads D (ended closes (a ++ rest)) ((x, to_of a), rest)
   unfolding ended
   ended_again closes plain refused end a x rest (inner, c, parts, is, h) =
@@ -299,7 +299,7 @@ module _ (limit : ℕ) (D : Type 0) (deep : nesting_limit < limit → D) where
   ended_some : (b : List Lexeme) (x : Option Tree) → IsEnded w.Semicolon (IsOptional E) b x → 0 < length b
   ended_some b x (inner, c, parts, is, h) = omega (arith, ap length parts, length-append inner (c ∷ []))
 
-  -- ---- by the first word
+  -- ---- by the first terminal
 
   module _ (read : Bool → Reader Statement) (m : ℕ) (short_read : Shortening (read true) goes_on)
       (again : (place : Place) (a : List Lexeme) (s : Statement) (rest : List Lexeme) → IsStatement limit m place a s → Stops place rest
@@ -433,14 +433,14 @@ module _ (limit : ℕ) (D : Type 0) (deep : nesting_limit < limit → D) where
         (reads_bind D (ended w.Semicolon (b ++ rest)) _ ((x, to_of b), rest) _ (ended_again w.Semicolon refl refl refl b x rest hb)
         (finish D (Returns x) (Returns x) r.from (to_of b) from to rest refl (sym (p ∙ ap from_of parts)) (sym (to_of_cons r b (ended_some b x hb)) ∙ sym (q ∙ ap to_of parts)))))
 
-    empty_again : (ts : List Lexeme) (from to : ℕ) (rest : List Lexeme) → from ≡ from_of ts → to ≡ to_of ts → words ts ≡ w.Semicolon ∷ [] → Stating ts (Stated Empties from to) rest
+    empty_again : (ts : List Lexeme) (from to : ℕ) (rest : List Lexeme) → from ≡ from_of ts → to ≡ to_of ts → terminals ts ≡ w.Semicolon ∷ [] → Stating ts (Stated Empties from to) rest
     unfolding stated
     empty_again ts from to rest p q h =
         let t = one_token ts w.Semicolon h in
         reads_of D (stated read) (ts ++ rest) (t.0 ∷ rest) _ (ap (λ (z : List Lexeme). z ++ rest) t.1)
         (rw (t.2, stated) (finish D Empties Empties t.0.from t.0.to from to rest refl (sym (p ∙ ap from_of t.1)) (sym (q ∙ ap to_of t.1))))
 
-    break_again : (ts : List Lexeme) (from to : ℕ) (rest : List Lexeme) → from ≡ from_of ts → to ≡ to_of ts → words ts ≡ w.Break ∷ w.Semicolon ∷ [] → Stating ts (Stated Breaks from to) rest
+    break_again : (ts : List Lexeme) (from to : ℕ) (rest : List Lexeme) → from ≡ from_of ts → to ≡ to_of ts → terminals ts ≡ w.Break ∷ w.Semicolon ∷ [] → Stating ts (Stated Breaks from to) rest
     unfolding stated short
     break_again ts from to rest p q h =
         let t = two_tokens ts w.Break w.Semicolon h in
@@ -449,7 +449,7 @@ module _ (limit : ℕ) (D : Type 0) (deep : nesting_limit < limit → D) where
         (reads_bind D (expect w.Semicolon (t.1 ∷ rest)) _ (t.1, rest) _ (reads_expect D w.Semicolon t.1 rest t.4)
         (finish D Breaks Breaks t.0.from t.1.to from to rest refl (sym (p ∙ ap from_of t.2)) (sym (q ∙ ap to_of t.2)))))
 
-    continue_again : (ts : List Lexeme) (from to : ℕ) (rest : List Lexeme) → from ≡ from_of ts → to ≡ to_of ts → words ts ≡ w.Continue ∷ w.Semicolon ∷ [] → Stating ts (Stated Continues from to) rest
+    continue_again : (ts : List Lexeme) (from to : ℕ) (rest : List Lexeme) → from ≡ from_of ts → to ≡ to_of ts → terminals ts ≡ w.Continue ∷ w.Semicolon ∷ [] → Stating ts (Stated Continues from to) rest
     unfolding stated short
     continue_again ts from to rest p q h =
         let t = two_tokens ts w.Continue w.Semicolon h in
@@ -458,9 +458,9 @@ module _ (limit : ℕ) (D : Type 0) (deep : nesting_limit < limit → D) where
         (reads_bind D (expect w.Semicolon (t.1 ∷ rest)) _ (t.1, rest) _ (reads_expect D w.Semicolon t.1 rest t.4)
         (finish D Continues Continues t.0.from t.1.to from to rest refl (sym (p ∙ ap from_of t.2)) (sym (q ∙ ap to_of t.2)))))
 
-    -- an expression's first word is none of these, and a name's colon is none of its tokens
-    by_expression : (t : Lexeme) (ts : List Lexeme) (word : Word) → Is word t → starts_expression word ≡ true → (Is w.Name t → begins w.Colon ts ≡ false)
-        → elim word as (λ z. Read Statement) [
+    -- an expression's first terminal is none of these, and a name's colon is none of its tokens
+    by_expression : (t : Lexeme) (ts : List Lexeme) (terminal : Terminal) → Is terminal t → starts_expression terminal ≡ true → (Is w.Name t → begins w.Colon ts ≡ false)
+        → elim terminal as (λ z. Read Statement) [
           | w.OpenBrace ↦ block read t ts
           | w.Semicolon ↦ Ok
               (Stated Empties t.from t.to, ts)
@@ -491,7 +491,7 @@ module _ (limit : ℕ) (D : Type 0) (deep : nesting_limit < limit → D) where
         → Starts starts_expression z → stated read z ≡ evaluated z
     unfolding stated
     stated_expression [] inner s rest e parts h semi start = absurd start
-    stated_expression (t ∷ ts) inner s rest e parts h semi start = by_expression t ts t.word refl start (no_colon limit t ts inner e s rest parts h semi)
+    stated_expression (t ∷ ts) inner s rest e parts h semi start = by_expression t ts t.terminal refl start (no_colon limit t ts inner e s rest parts h semi)
 
     expression_again : (ts : List Lexeme) (e : Tree) (from to : ℕ) (rest : List Lexeme) → from ≡ from_of ts → to ≡ to_of ts → IsEnded w.Semicolon E ts e
         → Stating ts (Stated (Evaluates e) from to) rest

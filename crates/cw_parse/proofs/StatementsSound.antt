@@ -4,12 +4,12 @@ use Rattle.std.specs.Prelude.{IfOk, ◌≢◌}
 use Rattle.std.proofs.lemmas.Bool.{false≢true}
 use Rattle.std.proofs.lemmas.Result.{IfOk-weaker}
 use Rattle.cw_syntax.specs.Trees.{Tree, Statement, Stated, Form, Empties, Breaks, Continues, just, Declaration}
-use Rattle.cw_grammar.specs.declared.words.Lexeme.{Lexeme}
-use Rattle.cw_grammar.specs.declared.words.Word.{Word}
-use Rattle.cw_grammar.specs.declared.words.Word.TheVariants as w
-use Rattle.cw_grammar.specs.Lexemes.{Is, words, from_of, to_of, IsOptional, AreAll, IsEnded}
+use Rattle.cw_grammar.specs.declared.terminals.Lexeme.{Lexeme}
+use Rattle.cw_grammar.specs.declared.terminals.Terminal.{Terminal}
+use Rattle.cw_grammar.specs.declared.terminals.Terminal.TheVariants as w
+use Rattle.cw_grammar.specs.Lexemes.{Is, terminals, from_of, to_of, IsOptional, AreAll, IsEnded}
 use Rattle.cw_grammar.specs.Expressions.{nesting_limit}
-use Rattle.cw_grammar.proofs.SameWord.{is_plain}
+use Rattle.cw_grammar.proofs.SameTerminal.{is_plain}
 use Rattle.cw_grammar.specs.Declarations.{IsDeclaration}
 use Rattle.cw_grammar.specs.Statements.{Place, InBlock, BeforeElse, Elsewhere, last, IsTest, IsInit, IsForm, IsStatement}
 use Rattle.cw_expressions.specs.Cursor.{begins, after, first, expect}
@@ -23,7 +23,7 @@ use Rattle.cw_parse.proofs.Listed.{Shortening, all_more, many_sound}
 use Rattle.cw_parse.proofs.DeclarationsSound.{Allowed, optional_sound, declaration_sound}
 use Rattle.cw_parse.specs.StatementReading.{condition, ended, declares, declared, evaluated, start, short, returned, end_of, goes_on, block, labelled, chosen, branched, looped, done}
 use Rattle.cw_parse.specs.StatementReading.{counted, stated, statement, read_statement}
-use Rattle.cw_parse.proofs.DeclarationsSound.{one, two as pair_words}
+use Rattle.cw_parse.proofs.DeclarationsSound.{one, two as pair_terminals}
 
 -- ---- what is no statement
 
@@ -38,11 +38,11 @@ test_sound ts =
       (o.0, f.0, c.0, refl, p.1, q.1, f.2),
     ))))
 
--- past a mark, which ends there
-abbrev pub EndsAt : Word → List Lexeme → Option Tree × ℕ → Type 0
+-- past a punctuator, which ends there
+abbrev pub EndsAt : Terminal → List Lexeme → Option Tree × ℕ → Type 0
 EndsAt closes ts x = (0 < length ts) × IsEnded closes (IsOptional Allowed) ts x.0 × (x.1 ≡ to_of ts)
 
-pub ended_sound : (closes : Word) → is_plain closes ≡ true → (ts : List Lexeme) → IfOk (ended closes ts) (Took (EndsAt closes) ts)
+pub ended_sound : (closes : Terminal) → is_plain closes ≡ true → (ts : List Lexeme) → IfOk (ended closes ts) (Took (EndsAt closes) ts)
 unfolding ended
 ended_sound closes plain ts =
     if_bind (optional_expression closes ts) _ _ _ (optional_sound closes ts) (λ e f.
@@ -128,10 +128,10 @@ statement_to : (n : ℕ) (place : Place) (ts : List Lexeme) (s : Statement) → 
 statement_to zero place ts s h = absurd h
 statement_to (suc n) place ts (Stated form from to) h = h.1
 
-pub short_sound : (n : ℕ) (word : Word) (form : Form) (t : Lexeme) (ts : List Lexeme) → Is word t
+pub short_sound : (n : ℕ) (terminal : Terminal) (form : Form) (t : Lexeme) (ts : List Lexeme) → Is terminal t
     → ((place : Place) (c : Lexeme) → Is w.Semicolon c → IsForm Allowed (IsStatement nesting_limit n) place (t ∷ c ∷ []) form) → IfOk (short form t ts) (Stating (suc n) false (t ∷ ts))
 unfolding short
-short_sound n word form t ts is h =
+short_sound n terminal form t ts is h =
     if_bind (expect w.Semicolon ts) _ _ _ (expect_takes w.Semicolon refl ts) (λ s q.
     (t ∷ s.0 ∷ [], ap (λ (z : List Lexeme). t ∷ z) q.0, omega arith, λ place fits follows. (refl, refl, h place s.0 q.1)))
 
@@ -269,8 +269,8 @@ module _ (n : ℕ) (read : Bool → Reader Statement) (h : (flag : Bool) (ts : L
   evaluated_stating : (ts : List Lexeme) → IfOk (evaluated ts) (Stating (suc n) false ts)
   evaluated_stating ts = IfOk-weaker (evaluated ts) _ _ (λ x f. (f.0, f.1, f.2.0, λ place fits follows. f.2.2 n place)) (evaluated_sound ts)
 
-  stated_by : (t : Lexeme) (ts : List Lexeme) (word : Word) → Is word t
-      → IfOk (elim word as (λ z. Read Statement) [
+  stated_by : (t : Lexeme) (ts : List Lexeme) (terminal : Terminal) → Is terminal t
+      → IfOk (elim terminal as (λ z. Read Statement) [
         | w.OpenBrace ↦ block read t ts
         | w.Semicolon ↦ Ok
             (Stated Empties t.from t.to, ts)
@@ -291,8 +291,8 @@ module _ (n : ℕ) (read : Bool → Reader Statement) (h : (flag : Bool) (ts : L
   stated_by t ts w.While is = looped_sound t ts is
   stated_by t ts w.Do is = done_sound t ts is
   stated_by t ts w.For is = counted_sound t ts is
-  stated_by t ts w.Break is = short_sound n w.Break Breaks t ts is (λ place c semi. pair_words w.Break w.Semicolon t c is semi)
-  stated_by t ts w.Continue is = short_sound n w.Continue Continues t ts is (λ place c semi. pair_words w.Continue w.Semicolon t c is semi)
+  stated_by t ts w.Break is = short_sound n w.Break Breaks t ts is (λ place c semi. pair_terminals w.Break w.Semicolon t c is semi)
+  stated_by t ts w.Continue is = short_sound n w.Continue Continues t ts is (λ place c semi. pair_terminals w.Continue w.Semicolon t c is semi)
   stated_by t ts w.Return is = returned_sound n t ts is
   stated_by t ts w.Name is = if_cond (begins w.Colon ts) _ _ _ (λ e. labelled_sound t ts is) (λ e. evaluated_stating (t ∷ ts))
   stated_by t ts _ is = evaluated_stating (t ∷ ts)
@@ -300,7 +300,7 @@ module _ (n : ℕ) (read : Bool → Reader Statement) (h : (flag : Bool) (ts : L
   stated_sound : (ts : List Lexeme) → IfOk (stated read ts) (Stating (suc n) false ts)
   unfolding stated
   stated_sound [] = tt
-  stated_sound (t ∷ ts) = stated_by t ts t.word refl
+  stated_sound (t ∷ ts) = stated_by t ts t.terminal refl
 
   statement_sound : (flag : Bool) (ts : List Lexeme) → IfOk (statement read flag ts) (Stating (suc n) flag ts)
   unfolding statement

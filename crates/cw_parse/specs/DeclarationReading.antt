@@ -3,10 +3,10 @@ use Rattle.std.specs.Prelude.{ℕ, Bool, true, false, ◌&&◌, not, Option, Som
 use Rattle.cw_syntax.specs.declared.program.Name.{Name}
 use Rattle.cw_syntax.specs.declared.program.Param.{Param}
 use Rattle.cw_syntax.specs.Trees.{Tree, Trees, none, more, Declared, Declaration, Prototype}
-use Rattle.cw_grammar.specs.declared.words.Word.{Word}
-use Rattle.cw_grammar.specs.declared.words.Word.TheVariants as w
-use Rattle.cw_grammar.specs.declared.words.Lexeme.{Lexeme}
-use Rattle.cw_grammar.specs.Words.{same}
+use Rattle.cw_grammar.specs.declared.terminals.Terminal.{Terminal}
+use Rattle.cw_grammar.specs.declared.terminals.Terminal.TheVariants as w
+use Rattle.cw_grammar.specs.declared.terminals.Lexeme.{Lexeme}
+use Rattle.cw_grammar.specs.Terminals.{same}
 use Rattle.cw_grammar.specs.Lexemes.{name_of, trees}
 use Rattle.cw_grammar.specs.Declarations.{Specifiers, pointer}
 use Rattle.cw_expressions.specs.declared.refusal.Refusal.{Refusal}
@@ -21,9 +21,9 @@ use Rattle.cw_parse.specs.Lists.{Read, separated}
 abbrev pub storage : List Lexeme → (Bool × Bool) × List Lexeme
 storage ts = if begins w.Extern ts then ((true, false), after ts) else if begins w.Static ts then ((false, true), after ts) else ((false, false), ts)
 
--- whether this word is next, and the tokens after it
-abbrev pub flag : Word → List Lexeme → Bool × List Lexeme
-flag word ts = if begins word ts then (true, after ts) else (false, ts)
+-- whether this terminal is next, and the tokens after it
+abbrev pub flag : Terminal → List Lexeme → Bool × List Lexeme
+flag terminal ts = if begins terminal ts then (true, after ts) else (false, ts)
 
 unfoldable pub specifiers : List Lexeme → Read Specifiers
 specifiers ts = do
@@ -39,8 +39,8 @@ next_name ts = do
 
 -- ---- declarations
 
--- an expression, unless this mark is next
-unfoldable pub optional_expression : Word → List Lexeme → Read (Option Tree)
+-- an expression, unless this punctuator is next
+unfoldable pub optional_expression : Terminal → List Lexeme → Read (Option Tree)
 optional_expression closes ts = if begins closes ts then Ok (None, ts) else do
   e ← next_expression ts
   Ok (Some e.0, e.1)
@@ -95,7 +95,7 @@ declaration ts = do
 -- a name, where one is next
 abbrev pub optional_name : List Lexeme → Option Name × List Lexeme
 optional_name [] = (None, [])
-optional_name (t ∷ ts) = if same t.word w.Name then (Some (name_of t), ts) else (None, t ∷ ts)
+optional_name (t ∷ ts) = if same t.terminal w.Name then (Some (name_of t), ts) else (None, t ∷ ts)
 
 -- `[]`, where a bracket is next
 unfoldable pub brackets : List Lexeme → Read Bool
@@ -143,8 +143,8 @@ begins_header ts = do
   f ← front ts
   Ok (begins w.Open f.1)
 
--- a word that begins a declaration
-abbrev pub starts_declaration : Word → Bool
+-- a terminal that begins a declaration
+abbrev pub starts_declaration : Terminal → Bool
 starts_declaration w.Extern = true
 starts_declaration w.Static = true
 starts_declaration w.Const = true

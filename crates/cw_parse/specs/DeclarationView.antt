@@ -8,7 +8,7 @@ use Rattle.cw_syntax.specs.declared.program.Decl.{Decl}
 use Rattle.cw_syntax.specs.declared.program.Param.{Param}
 use Rattle.cw_syntax.specs.declared.program.Proto.{Proto}
 use Rattle.cw_syntax.specs.Trees.{Tree, Trees, tree_of, trees_of, array_of, Declared, declared_of, Declaration, declaration_of, Prototype, prototype_of}
-use Rattle.cw_grammar.specs.declared.words.Lexeme.{Lexeme}
+use Rattle.cw_grammar.specs.declared.terminals.Lexeme.{Lexeme}
 use Rattle.cw_grammar.specs.Declarations as grammar
 use Rattle.cw_parse.specs.declared.specifiers.Specifiers.{Specifiers}
 

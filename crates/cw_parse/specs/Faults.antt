@@ -2,7 +2,7 @@
 use Rattle.std.specs.Prelude.{◌≡◌, ℕ, ◌+◌, ◌<◌, ◌≤◌, List, length, take, Option, Some, None, slice_get}
 use Rattle.cw_syntax.specs.Trees.{File}
 use Rattle.cw_lex.specs.declared.tokens.Token.{Token}
-use Rattle.cw_grammar.specs.declared.words.Lexeme.{Lexeme}
+use Rattle.cw_grammar.specs.declared.terminals.Lexeme.{Lexeme}
 use Rattle.cw_grammar.specs.Spelling.{lexemes_of}
 use Rattle.cw_grammar.specs.Files.{IsProgram}
 use Rattle.cw_recogniser.specs.Language.{AreOfGrammar, IsFront}

@@ -1,6 +1,6 @@
 -- Working definitions: lists, read item by item.
 use Rattle.std.specs.Prelude.{suc, Bool, List, [], ◌∷◌, ◌++◌, length, Result, Ok}
-use Rattle.cw_grammar.specs.declared.words.Lexeme.{Lexeme}
+use Rattle.cw_grammar.specs.declared.terminals.Lexeme.{Lexeme}
 use Rattle.cw_expressions.specs.declared.refusal.Refusal.{Refusal}
 use Rattle.cw_expressions.specs.Cursor.{◌>>=◌, after, repeat}
 

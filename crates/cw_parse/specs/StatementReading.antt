@@ -3,9 +3,9 @@ use Rattle.std.specs.Prelude.{ℕ, zero, suc, Bool, true, false, ◌&&◌, not, 
 use Rattle.cw_syntax.specs.declared.program.Param.{Param}
 use Rattle.cw_syntax.specs.Trees.{Tree, Statement, Stated, Form, Block, Declares, Evaluates, Empties, Labels, Chooses, Whiles, Does, Fors, Breaks, Continues, Returns, Perhaps}
 use Rattle.cw_syntax.specs.Trees.{nothing, just, Prototype, File}
-use Rattle.cw_grammar.specs.declared.words.Word.{Word}
-use Rattle.cw_grammar.specs.declared.words.Word.TheVariants as w
-use Rattle.cw_grammar.specs.declared.words.Lexeme.{Lexeme}
+use Rattle.cw_grammar.specs.declared.terminals.Terminal.{Terminal}
+use Rattle.cw_grammar.specs.declared.terminals.Terminal.TheVariants as w
+use Rattle.cw_grammar.specs.declared.terminals.Lexeme.{Lexeme}
 use Rattle.cw_grammar.specs.Lexemes.{name_of, statements}
 use Rattle.cw_grammar.specs.Expressions.{nesting_limit}
 use Rattle.cw_grammar.specs.Files.{Part, Declares as DeclaresPart, Holds, Defines}
@@ -24,17 +24,17 @@ condition ts = do
   c ← expect w.Close e.1
   Ok (e.0, c.1)
 
--- an expression, unless this mark is next, and past the mark: where the mark ends, and what follows it
-unfoldable pub ended : Word → List Lexeme → Read (Option Tree × ℕ)
+-- an expression, unless this punctuator is next, and past it: where it ends, and what follows it
+unfoldable pub ended : Terminal → List Lexeme → Read (Option Tree × ℕ)
 ended closes ts = do
   e ← optional_expression closes ts
   c ← expect closes e.1
   Ok ((e.0, c.0.to), c.1)
 
--- a word that begins a declaration is next
+-- a terminal that begins a declaration is next
 abbrev pub declares : List Lexeme → Bool
 declares [] = false
-declares (t ∷ ts) = starts_declaration t.word
+declares (t ∷ ts) = starts_declaration t.terminal
 
 -- a declaration, as a statement
 unfoldable pub declared : List Lexeme → Read Statement
@@ -61,7 +61,7 @@ start ts =
       e ← evaluated ts
       Ok (just e.0, e.1)
 
--- a word and a semicolon behind it
+-- a terminal and a semicolon behind it
 unfoldable pub short : Form → Lexeme → List Lexeme → Read Statement
 short form t ts = do
   s ← expect w.Semicolon ts
@@ -137,10 +137,10 @@ module _ (read : Bool → Reader Statement) where
     s ← read false p.1
     Ok (Stated (Fors i.0 e.0.0 p.0.0 s.0) t.from (end_of s.0), s.1)
 
-  -- by its first word
+  -- by its first terminal
   unfoldable pub stated : List Lexeme → Read Statement
   stated [] = Err Syntax
-  stated (t ∷ ts) = elim t.word [
+  stated (t ∷ ts) = elim t.terminal [
     | w.OpenBrace ↦ block t ts
     | w.Semicolon ↦ Ok (Stated Empties t.from t.to, ts)
     | w.If ↦ branched t ts

@@ -6,10 +6,10 @@ use Rattle.cw_syntax.specs.declared.program.Expr.{Expr}
 use Rattle.cw_syntax.specs.declared.program.Stmt.{Stmt}
 use Rattle.cw_syntax.specs.declared.program.Program.{Program}
 use Rattle.cw_syntax.specs.Trees.{Tree, tree_of, Statement, statement_of, Perhaps, File, file_of, declaration_of, prototype_of, definition_of, perhaps_of}
-use Rattle.cw_grammar.specs.declared.words.Lexeme.{Lexeme}
+use Rattle.cw_grammar.specs.declared.terminals.Lexeme.{Lexeme}
 use Rattle.cw_grammar.specs.Files.{Part, Declares, Holds, Defines}
 use Rattle.cw_parse.specs.declared.files.FilePart.{FilePart}
-use Rattle.cw_parse.specs.declared.files.FilePart.TheVariants.{Prototype as ProtoPiece, Global as GlobalPiece, Function as FunctionPiece}
+use Rattle.cw_parse.specs.declared.files.FilePart.TheVariants.{Prototype as ProtoPart, Global as GlobalPart, Function as FunctionPart}
 
 abbrev pub optional : (Option Expr × ℕ) × Bor (List Lexeme) → (Option Tree × ℕ) × List Lexeme
 optional x = ((option_map tree_of x.0.0, x.0.1), x.1.now)
@@ -24,12 +24,12 @@ abbrev pub perhaps : Option Stmt × Bor (List Lexeme) → Perhaps × List Lexeme
 perhaps x = (perhaps_of x.0, x.1.now)
 
 abbrev pub part_of : FilePart → Part
-part_of (ProtoPiece p) = Declares (prototype_of p)
-part_of (GlobalPiece d) = Holds (declaration_of d)
-part_of (FunctionPiece f) = Defines (definition_of f)
+part_of (ProtoPart p) = Declares (prototype_of p)
+part_of (GlobalPart d) = Holds (declaration_of d)
+part_of (FunctionPart f) = Defines (definition_of f)
 
-abbrev pub piece : FilePart × Bor (List Lexeme) → Part × List Lexeme
-piece x = (part_of x.0, x.1.now)
+abbrev pub file_part : FilePart × Bor (List Lexeme) → Part × List Lexeme
+file_part x = (part_of x.0, x.1.now)
 
 abbrev pub filed : Program × Bor (List Lexeme) → File × List Lexeme
 filed x = (file_of x.0, x.1.now)

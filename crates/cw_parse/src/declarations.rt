@@ -2,7 +2,7 @@
 
 ghost use Rattle.std.specs.Prelude.{◌≡◌};
 ghost use Rattle.cw_expressions.specs.Cursor.{Gives, begins};
-ghost use Rattle.cw_grammar.specs.declared.words.Word.TheVariants.{Comma};
+ghost use Rattle.cw_grammar.specs.declared.terminals.Terminal.TheVariants.{Comma};
 ghost use Rattle.cw_parse.specs.Lists.{one_more, many, behind, separated};
 ghost use Rattle.cw_parse.specs.DeclarationReading.{item, declaration};
 ghost use Rattle.cw_parse.specs.DeclarationView.{specifiers_of, itemed, items, declared};
@@ -12,7 +12,7 @@ use crate::specifiers::{Specifiers, name_at, specifiers_at};
 use cw_expressions::cursor::{begins_with, first_of, past, take};
 use cw_expressions::refusal::Refusal;
 use cw_expressions::types::stars_at;
-use cw_grammar::words::{Lexeme, Word};
+use cw_grammar::terminals::{Lexeme, Terminal};
 use cw_syntax::program::{CType, Decl, Item};
 use std::alloc::Global;
 
@@ -70,7 +70,7 @@ fn items_after<'t>(
     ensures { Gives items result (many (behind (item (specifiers_of specifiers))) (begins Comma) (items first.entry)) }
 {
     let mut so_far = first;
-    'items: while begins_with(so_far.1, Word::Comma) {
+    'items: while begins_with(so_far.1, Terminal::Comma) {
         so_far = item_after(alloc, specifiers, so_far)?;
     }
     Ok(so_far)
@@ -104,7 +104,7 @@ pub(crate) fn declaration_at<'t>(
     let (first, _) = first_of(tokens)?;
     let (specifiers, rest) = specifiers_at(tokens)?;
     let (items, rest) = items_at(alloc, specifiers, rest)?;
-    let (semicolon, rest) = take(rest, Word::Semicolon)?;
+    let (semicolon, rest) = take(rest, Terminal::Semicolon)?;
     Ok((
         Decl {
             external: specifiers.external,

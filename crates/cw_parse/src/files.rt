@@ -1,4 +1,4 @@
-//! Functions and files, read from tokens by their words.
+//! Functions and files, read from tokens by their terminals.
 
 ghost use Rattle.std.specs.Prelude.{◌≡◌, ◌≢◌, IfErr, IfOk, Ok};
 ghost use Rattle.cw_syntax.specs.Trees.{File, file_of, prototype_of};
@@ -6,14 +6,14 @@ ghost use Rattle.cw_grammar.specs.Files.{IsProgram};
 ghost use Rattle.cw_expressions.specs.declared.refusal.Refusal.TheVariants.{NoMemory};
 ghost use Rattle.cw_expressions.specs.Cursor.{Gives};
 ghost use Rattle.cw_parse.specs.StatementReading.{all_named, body, headed, part, some_left, added, one_part, parts, file};
-ghost use Rattle.cw_parse.specs.StatementView.{part_of, piece, filed};
+ghost use Rattle.cw_parse.specs.StatementView.{part_of, file_part, filed};
 
 use crate::declarations::declaration_at;
 use crate::headers::{header_at, is_header_next};
 use crate::statements::statements_at;
 use cw_expressions::cursor::{begins_with, past, take};
 use cw_expressions::refusal::Refusal;
-use cw_grammar::words::{Lexeme, Word};
+use cw_grammar::terminals::{Lexeme, Terminal};
 use cw_syntax::program::{Decl, Function, Param, Program, Proto};
 use std::alloc::Global;
 use std::mem::forget;
@@ -47,12 +47,12 @@ fn body_at<'t>(
     header: Proto,
     tokens: &'t [Lexeme],
 ) -> Result<(FilePart, &'t [Lexeme]), Refusal>
-    ensures { Gives piece result (body (prototype_of header) tokens.now) }
+    ensures { Gives file_part result (body (prototype_of header) tokens.now) }
 {
     if has_names(header.params.as_slice()) {
-        let (brace, rest) = take(tokens, Word::OpenBrace)?;
+        let (brace, rest) = take(tokens, Terminal::OpenBrace)?;
         let (body, rest) = statements_at(alloc, rest)?;
-        let (_, rest) = take(rest, Word::CloseBrace)?;
+        let (_, rest) = take(rest, Terminal::CloseBrace)?;
         let function = Function {
             name: header.name,
             result: header.result,
@@ -69,10 +69,10 @@ fn body_at<'t>(
 /// A prototype or a function.
 #[tactic(auto, unfolding(crate::specs::StatementReading::headed))]
 fn headed_at<'t>(alloc: Global, tokens: &'t [Lexeme]) -> Result<(FilePart, &'t [Lexeme]), Refusal>
-    ensures { Gives piece result (headed tokens.now) }
+    ensures { Gives file_part result (headed tokens.now) }
 {
     let (header, rest) = header_at(alloc, tokens)?;
-    if begins_with(rest, Word::Semicolon) {
+    if begins_with(rest, Terminal::Semicolon) {
         Ok((FilePart::Prototype(header), past(rest)))
     } else {
         body_at(alloc, header, rest)
@@ -82,7 +82,7 @@ fn headed_at<'t>(alloc: Global, tokens: &'t [Lexeme]) -> Result<(FilePart, &'t [
 /// A prototype or a function, or a declaration outside functions (ISO C11, 6.9).
 #[tactic(auto, unfolding(crate::specs::StatementReading::part, crate::specs::StatementReading::held))]
 fn part_at<'t>(alloc: Global, tokens: &'t [Lexeme]) -> Result<(FilePart, &'t [Lexeme]), Refusal>
-    ensures { Gives piece result (part tokens.now) }
+    ensures { Gives file_part result (part tokens.now) }
 {
     let is_header = is_header_next(tokens)?;
     if is_header {

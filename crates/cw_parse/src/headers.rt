@@ -2,7 +2,7 @@
 
 ghost use Rattle.std.specs.Prelude.{◌≡◌};
 ghost use Rattle.cw_expressions.specs.Cursor.{Gives, begins};
-ghost use Rattle.cw_grammar.specs.declared.words.Word.TheVariants.{Comma};
+ghost use Rattle.cw_grammar.specs.declared.terminals.Terminal.TheVariants.{Comma};
 ghost use Rattle.cw_parse.specs.Lists.{one_more, many, behind, separated};
 ghost use Rattle.cw_parse.specs.DeclarationReading.{brackets, param, is_void, params, front, header, begins_header};
 ghost use Rattle.cw_parse.specs.DeclarationView.{specifiers_of, plain, parameters, headed};
@@ -11,7 +11,7 @@ use crate::specifiers::{Specifiers, name_at, optional_name_at, specifiers_at};
 use cw_expressions::cursor::{begins_with, past, take};
 use cw_expressions::refusal::Refusal;
 use cw_expressions::types::{stars_at, type_name_at};
-use cw_grammar::words::{Lexeme, Word};
+use cw_grammar::terminals::{Lexeme, Terminal};
 use cw_syntax::program::{CType, Name, Param, Proto};
 use std::alloc::Global;
 
@@ -20,8 +20,8 @@ use std::alloc::Global;
 fn brackets_at(tokens: &[Lexeme]) -> Result<(bool, &[Lexeme]), Refusal>
     ensures { Gives plain result (brackets tokens.now) }
 {
-    if begins_with(tokens, Word::OpenBracket) {
-        let (_, rest) = take(past(tokens), Word::CloseBracket)?;
+    if begins_with(tokens, Terminal::OpenBracket) {
+        let (_, rest) = take(past(tokens), Terminal::CloseBracket)?;
         Ok((true, rest))
     } else {
         Ok((false, tokens))
@@ -59,7 +59,7 @@ fn params_after<'t>(
     ensures { Gives parameters result (many (behind param) (begins Comma) (parameters first.entry)) }
 {
     let mut so_far = first;
-    'params: while begins_with(so_far.1, Word::Comma) {
+    'params: while begins_with(so_far.1, Terminal::Comma) {
         so_far = param_after(so_far)?;
     }
     Ok(so_far)
@@ -84,7 +84,7 @@ fn separated_params_at<'t>(
 fn is_void_next(tokens: &[Lexeme]) -> bool
     ensures { result ≡ is_void tokens.now }
 {
-    begins_with(tokens, Word::Void) && begins_with(past(tokens), Word::Close)
+    begins_with(tokens, Terminal::Void) && begins_with(past(tokens), Terminal::Close)
 }
 
 /// Parameters up to a parenthesis.
@@ -92,7 +92,7 @@ fn is_void_next(tokens: &[Lexeme]) -> bool
 fn params_at<'t>(alloc: Global, tokens: &'t [Lexeme]) -> Result<(Vec<Param>, &'t [Lexeme]), Refusal>
     ensures { Gives parameters result (params tokens.now) }
 {
-    if begins_with(tokens, Word::Close) {
+    if begins_with(tokens, Terminal::Close) {
         Ok((Vec::new(alloc), tokens))
     } else if is_void_next(tokens) {
         Ok((Vec::new(alloc), past(tokens)))
@@ -122,9 +122,9 @@ pub(crate) fn header_at<'t>(
     ensures { Gives headed result (header tokens.now) }
 {
     let ((specifiers, stars, name), rest) = front_at(tokens)?;
-    let (_, rest) = take(rest, Word::Open)?;
+    let (_, rest) = take(rest, Terminal::Open)?;
     let (params, rest) = params_at(alloc, rest)?;
-    let (_, rest) = take(rest, Word::Close)?;
+    let (_, rest) = take(rest, Terminal::Close)?;
     let result = CType {
         base: specifiers.base,
         unsigned: specifiers.unsigned,
@@ -147,5 +147,5 @@ pub(crate) fn is_header_next(tokens: &[Lexeme]) -> Result<bool, Refusal>
     ensures { Gives (λ x. x) result (begins_header tokens.now) }
 {
     let (_, rest) = front_at(tokens)?;
-    Ok(begins_with(rest, Word::Open))
+    Ok(begins_with(rest, Terminal::Open))
 }

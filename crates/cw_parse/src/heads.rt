@@ -13,7 +13,7 @@ use crate::specifiers::begins_declaration;
 use cw_expressions::cursor::{begins_with, first_of, past, take};
 use cw_expressions::expressions::read_expression;
 use cw_expressions::refusal::Refusal;
-use cw_grammar::words::{Lexeme, Word};
+use cw_grammar::terminals::{Lexeme, Terminal};
 use cw_syntax::program::{Expr, Stmt, What};
 use std::alloc::Global;
 
@@ -26,18 +26,18 @@ pub(crate) fn test_at<'t>(
 ) -> Result<(Expr, &'t [Lexeme]), Refusal>
     ensures { Gives seen result (condition tokens.now) }
 {
-    let (_, rest) = take(tokens, Word::Open)?;
+    let (_, rest) = take(tokens, Terminal::Open)?;
     let (test, rest) = read_expression(alloc, rest)?;
-    let (_, rest) = take(rest, Word::Close)?;
+    let (_, rest) = take(rest, Terminal::Close)?;
     Ok((test, rest))
 }
 
-/// An expression, unless this mark is next, and past the mark: where the mark ends, and the tokens after it.
+/// An expression, unless this punctuator is next, and past it: where it ends, and the tokens after it.
 #[tactic(auto, unfolding(crate::specs::StatementReading::ended))]
 pub(crate) fn ended_at<'t>(
     alloc: Global,
     tokens: &'t [Lexeme],
-    closes: Word,
+    closes: Terminal,
 ) -> Result<((Option<Expr>, u32), &'t [Lexeme]), Refusal>
     ensures { Gives optional result (ended closes tokens.now) }
 {
@@ -52,7 +52,7 @@ pub(crate) fn declares_next(tokens: &[Lexeme]) -> bool
 {
     match tokens {
         [] => false,
-        [first, ..] => begins_declaration(first.word),
+        [first, ..] => begins_declaration(first.terminal),
     }
 }
 
@@ -87,7 +87,7 @@ pub(crate) fn evaluated_at<'t>(
 {
     let (first, _) = first_of(tokens)?;
     let (expression, rest) = read_expression(alloc, tokens)?;
-    let (semicolon, rest) = take(rest, Word::Semicolon)?;
+    let (semicolon, rest) = take(rest, Terminal::Semicolon)?;
     Ok((
         Stmt {
             what: What::Expr(expression),
@@ -106,7 +106,7 @@ pub(crate) fn start_at<'t>(
 ) -> Result<(Option<Stmt>, &'t [Lexeme]), Refusal>
     ensures { Gives perhaps result (start tokens.now) }
 {
-    if begins_with(tokens, Word::Semicolon) {
+    if begins_with(tokens, Terminal::Semicolon) {
         Ok((None, past(tokens)))
     } else if declares_next(tokens) {
         let (declaration, rest) = declared_at(alloc, tokens)?;
@@ -117,21 +117,21 @@ pub(crate) fn start_at<'t>(
     }
 }
 
-/// `break` or `continue`, behind the word.
+/// `break` or `continue`, behind the terminal.
 #[inline(always)]
 #[tactic(auto, unfolding(crate::specs::StatementReading::short))]
 pub(crate) fn short_at(
     what: What,
-    word: Lexeme,
+    terminal: Lexeme,
     tokens: &[Lexeme],
 ) -> Result<(Stmt, &[Lexeme]), Refusal>
-    ensures { Gives one result (short (form_of what) word tokens.now) }
+    ensures { Gives one result (short (form_of what) terminal tokens.now) }
 {
-    let (semicolon, rest) = take(tokens, Word::Semicolon)?;
+    let (semicolon, rest) = take(tokens, Terminal::Semicolon)?;
     Ok((
         Stmt {
             what,
-            from: word.from,
+            from: terminal.from,
             to: semicolon.to,
         },
         rest,
@@ -142,16 +142,16 @@ pub(crate) fn short_at(
 #[tactic(auto, unfolding(crate::specs::StatementReading::returned))]
 pub(crate) fn returned_at<'t>(
     alloc: Global,
-    word: Lexeme,
+    terminal: Lexeme,
     tokens: &'t [Lexeme],
 ) -> Result<(Stmt, &'t [Lexeme]), Refusal>
-    ensures { Gives one result (returned word tokens.now) }
+    ensures { Gives one result (returned terminal tokens.now) }
 {
-    let ((value, to), rest) = ended_at(alloc, tokens, Word::Semicolon)?;
+    let ((value, to), rest) = ended_at(alloc, tokens, Terminal::Semicolon)?;
     Ok((
         Stmt {
             what: What::Return(value),
-            from: word.from,
+            from: terminal.from,
             to,
         },
         rest,

@@ -11,16 +11,16 @@ use crate::specifiers::flag_at;
 use cw_expressions::cursor::{begins_with, past, take};
 use cw_expressions::expressions::read_expression;
 use cw_expressions::refusal::Refusal;
-use cw_grammar::words::{Lexeme, Word};
+use cw_grammar::terminals::{Lexeme, Terminal};
 use cw_syntax::program::Expr;
 use std::alloc::Global;
 
-/// An expression that is next, unless this mark is, and the tokens after it.
+/// An expression that is next, unless this punctuator is, and the tokens after it.
 #[tactic(auto, unfolding(crate::specs::DeclarationReading::optional_expression))]
 pub(crate) fn optional_expression_at<'t>(
     alloc: Global,
     tokens: &'t [Lexeme],
-    closes: Word,
+    closes: Terminal,
 ) -> Result<(Option<Expr>, &'t [Lexeme]), Refusal>
     ensures optional { Gives optional result (optional_expression closes tokens.now) }
 {
@@ -39,9 +39,9 @@ pub(crate) fn array_at<'t>(
 ) -> Result<(Option<Option<Expr>>, &'t [Lexeme]), Refusal>
     ensures { Gives arrayed result (array tokens.now) }
 {
-    if begins_with(tokens, Word::OpenBracket) {
-        let (size, rest) = optional_expression_at(alloc, past(tokens), Word::CloseBracket)?;
-        let (_, rest) = take(rest, Word::CloseBracket)?;
+    if begins_with(tokens, Terminal::OpenBracket) {
+        let (size, rest) = optional_expression_at(alloc, past(tokens), Terminal::CloseBracket)?;
+        let (_, rest) = take(rest, Terminal::CloseBracket)?;
         Ok((Some(size), rest))
     } else {
         Ok((None, tokens))
@@ -52,7 +52,7 @@ pub(crate) fn array_at<'t>(
 fn has_more_elements(tokens: &[Lexeme]) -> bool
     ensures { result ≡ more_elements tokens.now }
 {
-    begins_with(tokens, Word::Comma) && !begins_with(past(tokens), Word::CloseBrace)
+    begins_with(tokens, Terminal::Comma) && !begins_with(past(tokens), Terminal::CloseBrace)
 }
 
 /// An element behind a comma.
@@ -107,7 +107,7 @@ fn elements_at<'t>(
     ensures { Gives expressions result (elements tokens.now) }
 {
     let (list, rest) = separated_elements_at(alloc, tokens)?;
-    let (_, rest) = flag_at(rest, Word::Comma);
+    let (_, rest) = flag_at(rest, Terminal::Comma);
     Ok((list, rest))
 }
 
@@ -119,9 +119,9 @@ fn value_at<'t>(
 ) -> Result<((Vec<Expr>, bool), &'t [Lexeme]), Refusal>
     ensures { Gives initial result (value tokens.now) }
 {
-    if begins_with(tokens, Word::OpenBrace) {
+    if begins_with(tokens, Terminal::OpenBrace) {
         let (list, rest) = elements_at(alloc, past(tokens))?;
-        let (_, rest) = take(rest, Word::CloseBrace)?;
+        let (_, rest) = take(rest, Terminal::CloseBrace)?;
         return Ok(((list, true), rest));
     }
     let (expression, rest) = read_expression(alloc, tokens)?;
@@ -137,7 +137,7 @@ pub(crate) fn initialiser_at<'t>(
 ) -> Result<((Vec<Expr>, bool), &'t [Lexeme]), Refusal>
     ensures { Gives initial result (initialiser tokens.now) }
 {
-    if begins_with(tokens, Word::Assign) {
+    if begins_with(tokens, Terminal::Assign) {
         value_at(alloc, past(tokens))
     } else {
         Ok(((Vec::new(alloc), false), tokens))

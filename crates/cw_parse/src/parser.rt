@@ -10,7 +10,7 @@ use crate::fault::ParseFault;
 use crate::files::read_file;
 use cw_expressions::refusal::Refusal;
 use cw_grammar::spelling::lexemes;
-use cw_grammar::words::Lexeme;
+use cw_grammar::terminals::Lexeme;
 use cw_lex::Token;
 use cw_recogniser::recognise;
 use cw_syntax::program::Program;

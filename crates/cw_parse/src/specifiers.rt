@@ -8,7 +8,7 @@ ghost use Rattle.cw_parse.specs.DeclarationView.{specified, plain};
 use cw_expressions::cursor::{begins_with, past, take};
 use cw_expressions::refusal::Refusal;
 use cw_expressions::types::base_at;
-use cw_grammar::words::{Lexeme, Word, is_same};
+use cw_grammar::terminals::{Lexeme, Terminal, is_same};
 use cw_syntax::program::{Base, Name};
 
 /// What stands before the stars of each name that is declared.
@@ -21,19 +21,19 @@ pub struct Specifiers {
     pub unsigned: bool,
 }
 
-/// Whether a word begins a declaration.
-pub(crate) fn begins_declaration(word: Word) -> bool
-    ensures starts { result ≡ starts_declaration word }
+/// Whether a terminal begins a declaration.
+pub(crate) fn begins_declaration(terminal: Terminal) -> bool
+    ensures starts { result ≡ starts_declaration terminal }
 {
-    match word {
-        Word::Extern
-        | Word::Static
-        | Word::Const
-        | Word::Void
-        | Word::Char
-        | Word::Unsigned
-        | Word::Int
-        | Word::Long => true,
+    match terminal {
+        Terminal::Extern
+        | Terminal::Static
+        | Terminal::Const
+        | Terminal::Void
+        | Terminal::Char
+        | Terminal::Unsigned
+        | Terminal::Int
+        | Terminal::Long => true,
         _ => false,
     }
 }
@@ -42,20 +42,20 @@ pub(crate) fn begins_declaration(word: Word) -> bool
 fn storage_at(tokens: &[Lexeme]) -> ((bool, bool), &[Lexeme])
     ensures { plain result ≡ storage tokens.now }
 {
-    if begins_with(tokens, Word::Extern) {
+    if begins_with(tokens, Terminal::Extern) {
         ((true, false), past(tokens))
-    } else if begins_with(tokens, Word::Static) {
+    } else if begins_with(tokens, Terminal::Static) {
         ((false, true), past(tokens))
     } else {
         ((false, false), tokens)
     }
 }
 
-/// Whether this word is next, and the tokens after it.
-pub(crate) fn flag_at(tokens: &[Lexeme], word: Word) -> (bool, &[Lexeme])
-    ensures { plain result ≡ flag word tokens.now }
+/// Whether this terminal is next, and the tokens after it.
+pub(crate) fn flag_at(tokens: &[Lexeme], terminal: Terminal) -> (bool, &[Lexeme])
+    ensures { plain result ≡ flag terminal tokens.now }
 {
-    if begins_with(tokens, word) {
+    if begins_with(tokens, terminal) {
         (true, past(tokens))
     } else {
         (false, tokens)
@@ -68,7 +68,7 @@ pub(crate) fn specifiers_at(tokens: &[Lexeme]) -> Result<(Specifiers, &[Lexeme])
     ensures { Gives specified result (specifiers tokens.now) }
 {
     let ((external, fixed), rest) = storage_at(tokens);
-    let (constant, rest) = flag_at(rest, Word::Const);
+    let (constant, rest) = flag_at(rest, Terminal::Const);
     let ((base, unsigned), rest) = base_at(rest)?;
     Ok((
         Specifiers {
@@ -87,7 +87,7 @@ pub(crate) fn specifiers_at(tokens: &[Lexeme]) -> Result<(Specifiers, &[Lexeme])
 pub(crate) fn name_at(tokens: &[Lexeme]) -> Result<(Name, &[Lexeme]), Refusal>
     ensures { Gives plain result (next_name tokens.now) }
 {
-    let (name, rest) = take(tokens, Word::Name)?;
+    let (name, rest) = take(tokens, Terminal::Name)?;
     Ok((
         Name {
             from: name.from,
@@ -104,7 +104,7 @@ pub(crate) fn optional_name_at(tokens: &[Lexeme]) -> (Option<Name>, &[Lexeme])
     match tokens {
         [] => (None, tokens),
         [first, rest @ ..] => {
-            if is_same(first.word, Word::Name) {
+            if is_same(first.terminal, Terminal::Name) {
                 let name = Name {
                     from: first.from,
                     to: first.to,

@@ -14,7 +14,7 @@ use crate::heads::{
 use cw_core::limits::NESTING;
 use cw_expressions::cursor::{begins_with, past, take};
 use cw_expressions::refusal::Refusal;
-use cw_grammar::words::{Lexeme, Word};
+use cw_grammar::terminals::{Lexeme, Terminal};
 use cw_syntax::program::{Expr, Head, Name, Stmt, What};
 use std::alloc::Global;
 
@@ -54,7 +54,7 @@ fn statement_at<'t>(
     }
 }
 
-/// By its first word.
+/// By its first terminal.
 #[inline(always)]
 #[cycle(parser)]
 #[tactic(auto, unfolding(crate::specs::StatementReading::stated))]
@@ -67,9 +67,9 @@ fn stated_at<'t>(
 {
     match tokens {
         [] => Err(Refusal::Syntax),
-        [first, rest @ ..] => match first.word {
-            Word::OpenBrace => block_at(alloc, depth, *first, rest),
-            Word::Semicolon => Ok((
+        [first, rest @ ..] => match first.terminal {
+            Terminal::OpenBrace => block_at(alloc, depth, *first, rest),
+            Terminal::Semicolon => Ok((
                 Stmt {
                     what: What::Empty,
                     from: first.from,
@@ -77,15 +77,15 @@ fn stated_at<'t>(
                 },
                 rest,
             )),
-            Word::If => branched_at(alloc, depth, *first, rest),
-            Word::While => looped_at(alloc, depth, *first, rest),
-            Word::Do => done_at(alloc, depth, *first, rest),
-            Word::For => counted_at(alloc, depth, *first, rest),
-            Word::Break => short_at(What::Break, *first, rest),
-            Word::Continue => short_at(What::Continue, *first, rest),
-            Word::Return => returned_at(alloc, *first, rest),
-            Word::Name => {
-                if begins_with(rest, Word::Colon) {
+            Terminal::If => branched_at(alloc, depth, *first, rest),
+            Terminal::While => looped_at(alloc, depth, *first, rest),
+            Terminal::Do => done_at(alloc, depth, *first, rest),
+            Terminal::For => counted_at(alloc, depth, *first, rest),
+            Terminal::Break => short_at(What::Break, *first, rest),
+            Terminal::Continue => short_at(What::Continue, *first, rest),
+            Terminal::Return => returned_at(alloc, *first, rest),
+            Terminal::Name => {
+                if begins_with(rest, Terminal::Colon) {
                     labelled_at(alloc, depth, *first, rest)
                 } else {
                     evaluated_at(alloc, tokens)
@@ -108,7 +108,7 @@ fn block_at<'t>(
     ensures { Gives one result (block (read_statement depth) brace tokens.now) }
 {
     let (kids, rest) = listed_at(alloc, depth, tokens)?;
-    let (close, rest) = take(rest, Word::CloseBrace)?;
+    let (close, rest) = take(rest, Terminal::CloseBrace)?;
     Ok((
         Stmt {
             what: What::Block(kids),
@@ -132,7 +132,7 @@ fn listed_at<'t>(
     // A list of two, as many blocks are, is never moved.
     let mut list = Vec::with_capacity(alloc, 2)?;
     let mut rest = tokens;
-    'statements: while !begins_with(rest, Word::CloseBrace) {
+    'statements: while !begins_with(rest, Terminal::CloseBrace) {
         let (statement, behind) = read(alloc, depth, true, rest)?;
         list.push(statement)?;
         rest = behind;
@@ -152,7 +152,7 @@ fn labelled_at<'t>(
 ) -> Result<(Stmt, &'t [Lexeme]), Refusal>
     ensures { Gives one result (labelled (read_statement depth) name tokens.now) }
 {
-    let (colon, rest) = take(tokens, Word::Colon)?;
+    let (colon, rest) = take(tokens, Terminal::Colon)?;
     let (body, rest) = read(alloc, depth, false, rest)?;
     let to = body.to;
     let body = Box::new(alloc, body)?;
@@ -171,14 +171,14 @@ fn labelled_at<'t>(
 fn branched_at<'t>(
     alloc: Global,
     depth: u32,
-    word: Lexeme,
+    terminal: Lexeme,
     tokens: &'t [Lexeme],
 ) -> Result<(Stmt, &'t [Lexeme]), Refusal>
-    ensures { Gives one result (branched (read_statement depth) word tokens.now) }
+    ensures { Gives one result (branched (read_statement depth) terminal tokens.now) }
 {
     let (test, rest) = test_at(alloc, tokens)?;
     let (body, rest) = read(alloc, depth, false, rest)?;
-    chosen_at(alloc, depth, word, test, body, rest)
+    chosen_at(alloc, depth, terminal, test, body, rest)
 }
 
 /// Behind the first arm of an `if`.
@@ -188,17 +188,17 @@ fn branched_at<'t>(
 fn chosen_at<'t>(
     alloc: Global,
     depth: u32,
-    word: Lexeme,
+    terminal: Lexeme,
     test: Expr,
     body: Stmt,
     tokens: &'t [Lexeme],
 ) -> Result<(Stmt, &'t [Lexeme]), Refusal>
-    ensures { Gives one result (chosen (read_statement depth) word (tree_of test) (statement_of body) tokens.now) }
+    ensures { Gives one result (chosen (read_statement depth) terminal (tree_of test) (statement_of body) tokens.now) }
 {
     let to = body.to;
     let body = Box::new(alloc, body)?;
-    let from = word.from;
-    if begins_with(tokens, Word::Else) {
+    let from = terminal.from;
+    if begins_with(tokens, Terminal::Else) {
         let (other, rest) = read(alloc, depth, false, past(tokens))?;
         let to = other.to;
         let other = Box::new(alloc, other)?;
@@ -215,17 +215,17 @@ fn chosen_at<'t>(
 fn looped_at<'t>(
     alloc: Global,
     depth: u32,
-    word: Lexeme,
+    terminal: Lexeme,
     tokens: &'t [Lexeme],
 ) -> Result<(Stmt, &'t [Lexeme]), Refusal>
-    ensures { Gives one result (looped (read_statement depth) word tokens.now) }
+    ensures { Gives one result (looped (read_statement depth) terminal tokens.now) }
 {
     let (test, rest) = test_at(alloc, tokens)?;
     let (body, rest) = read(alloc, depth, false, rest)?;
     let to = body.to;
     let body = Box::new(alloc, body)?;
     let what = What::While(test, body);
-    let from = word.from;
+    let from = terminal.from;
     Ok((Stmt { what, from, to }, rest))
 }
 
@@ -235,18 +235,18 @@ fn looped_at<'t>(
 fn done_at<'t>(
     alloc: Global,
     depth: u32,
-    word: Lexeme,
+    terminal: Lexeme,
     tokens: &'t [Lexeme],
 ) -> Result<(Stmt, &'t [Lexeme]), Refusal>
-    ensures { Gives one result (done (read_statement depth) word tokens.now) }
+    ensures { Gives one result (done (read_statement depth) terminal tokens.now) }
 {
     let (body, rest) = read(alloc, depth, false, tokens)?;
-    let (_, rest) = take(rest, Word::While)?;
+    let (_, rest) = take(rest, Terminal::While)?;
     let (test, rest) = test_at(alloc, rest)?;
-    let (semicolon, rest) = take(rest, Word::Semicolon)?;
+    let (semicolon, rest) = take(rest, Terminal::Semicolon)?;
     let body = Box::new(alloc, body)?;
     let what = What::Do(body, test);
-    let (from, to) = (word.from, semicolon.to);
+    let (from, to) = (terminal.from, semicolon.to);
     Ok((Stmt { what, from, to }, rest))
 }
 
@@ -256,21 +256,21 @@ fn done_at<'t>(
 fn counted_at<'t>(
     alloc: Global,
     depth: u32,
-    word: Lexeme,
+    terminal: Lexeme,
     tokens: &'t [Lexeme],
 ) -> Result<(Stmt, &'t [Lexeme]), Refusal>
-    ensures { Gives one result (counted (read_statement depth) word tokens.now) }
+    ensures { Gives one result (counted (read_statement depth) terminal tokens.now) }
 {
-    let (_, rest) = take(tokens, Word::Open)?;
+    let (_, rest) = take(tokens, Terminal::Open)?;
     let (init, rest) = start_at(alloc, rest)?;
-    let ((test, _), rest) = ended_at(alloc, rest, Word::Semicolon)?;
-    let ((step, _), rest) = ended_at(alloc, rest, Word::Close)?;
+    let ((test, _), rest) = ended_at(alloc, rest, Terminal::Semicolon)?;
+    let ((step, _), rest) = ended_at(alloc, rest, Terminal::Close)?;
     let (body, rest) = read(alloc, depth, false, rest)?;
     let to = body.to;
     let body = Box::new(alloc, body)?;
     let head = Box::new(alloc, Head { init, test, step })?;
     let what = What::For(head, body);
-    let from = word.from;
+    let from = terminal.from;
     Ok((Stmt { what, from, to }, rest))
 }
 

@@ -19,7 +19,7 @@ use Rattle.cw_trace.proofs.Grown.{lines_grown, board_grown}
 use Rattle.cw_trace.specs.Told.{lines_at, label_at}
 use Rattle.cw_trace.proofs.Boards.{step_told}
 use Rattle.cw_play.specs.Plays.{Follows, IsPlayBy}
-use Rattle.cw_play.proofs.Held.{Tells, Sofar, place}
+use Rattle.cw_play.proofs.Held.{Tells, Sofar, stand}
 
 -- the state at which a board stands means its capabilities
 module _ (Means : Meaning) (g : Game) where
@@ -57,7 +57,7 @@ module _ (g : Game) (v : Lists) (names : Names) (s : Strategy) (first : ℕ) (ta
     pub advance : (text more : List ℕ) (c d : Config) (at next : ℕ) (calls opened : List ℕ) (rest left : List Move) (r : Row) (by : Move)
         → Sofar g names plan s first tape old text c at calls rest
         → slice_get s.rows at ≡ Some r
-        → ((b to : Board) → Stands Means g b c → Follows r.how r.state (place s at b calls) rest by (place s next to opened) left)
+        → ((b to : Board) → Stands Means g b c → Follows r.how r.state (stand s at b calls) rest by (stand s next to opened) left)
         → bad_in g c.state (slice_get g.spots c.pos) ≡ false → leads_to g c by ≡ Some d
         → more ≡ text ++ told_of c.pos by d.pos d.state
         → Sofar g names plan s first tape old more d next opened left
@@ -78,7 +78,7 @@ module _ (g : Game) (v : Lists) (names : Names) (s : Strategy) (first : ℕ) (ta
           goes = λ end later h.
               subst (λ (l : List Taken). IsPlayBy p s first tape end l) (sym (append_assoc so.steps (taken ∷ []) later))
               (so.goes end (taken ∷ later) (
-                place s next m.0 opened,
+                stand s next m.0 opened,
                 left,
                 refl,
                 record { row = r; has = has; follows = follows so.board m.0 so.stands; moves = m.1.0; unanswered = m.1.1 },

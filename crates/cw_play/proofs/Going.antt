@@ -218,21 +218,21 @@ module _ (g : Game) (v : Lists) (names : Names) (s : Strategy) (first : ℕ) (ta
           };
         }
 
-    by_how : (text : List ℕ) (at : ℕ) (calls : List ℕ) (rest left : List Move) (k : Kept g v names s first tape old text at calls rest) (how : How) (word : Option Move) (by : Move)
+    by_how : (text : List ℕ) (at : ℕ) (calls : List ℕ) (rest left : List Move) (k : Kept g v names s first tape old text at calls rest) (how : How) (entry : Option Move) (by : Move)
         → slice_get s.rows at ≡ Some (row_in k.pos k.state k.aim how) → HowOk g s at k.pos k.state k.aim how
-        → move_in how word ≡ Some by → Takes how rest by left → Ready text at calls (row_in k.pos k.state k.aim how) by left
-    by_how text at calls rest left k Bad word by er ok made takes = absurd (none-some by made)
-    by_how text at calls rest left k Out word by er ok made takes =
+        → move_in how entry ≡ Some by → Takes how rest by left → Ready text at calls (row_in k.pos k.state k.aim how) by left
+    by_how text at calls rest left k Bad entry by er ok made takes = absurd (none-some by made)
+    by_how text at calls rest left k Out entry by er ok made takes =
         subst (λ (m : Move). Ready text at calls (row_in k.pos k.state k.aim Out) m left) (same_Some On by made) (out_ready text at calls rest left k k.rets refl k.owed er ok takes)
-    by_how text at calls rest left k (Both skip tried) word by er ok made takes = both_ready text at calls rest left k skip tried by er ok takes.0 takes.1
-    by_how text at calls rest left k (Go move row) word by er ok made takes =
+    by_how text at calls rest left k (Both skip tried) entry by er ok made takes = both_ready text at calls rest left k skip tried by er ok takes.0 takes.1
+    by_how text at calls rest left k (Go move row) entry by er ok made takes =
         subst (λ (m : Move). Ready text at calls (row_in k.pos k.state k.aim (Go move row)) m left) (same_Some move by made) (go_ready text at calls rest left k move row er ok takes)
-    by_how text at calls rest left k (Into callee backs) word by er ok made takes =
+    by_how text at calls rest left k (Into callee backs) entry by er ok made takes =
         subst (λ (m : Move). Ready text at calls (row_in k.pos k.state k.aim (Into callee backs)) m left) (same_Some On by made) (into_ready text at calls rest left k callee backs er ok takes)
 
-    pub ready : (text : List ℕ) (at : ℕ) (calls : List ℕ) (rest left : List Move) (r : Row) (word : Option Move) (by : Move) → Kept g v names s first tape old text at calls rest
-        → slice_get s.rows at ≡ Some r → move_in r.how word ≡ Some by → Takes r.how rest by left → Ready text at calls r by left
-    ready text at calls rest left r word by k er made takes =
+    pub ready : (text : List ℕ) (at : ℕ) (calls : List ℕ) (rest left : List Move) (r : Row) (entry : Option Move) (by : Move) → Kept g v names s first tape old text at calls rest
+        → slice_get s.rows at ≡ Some r → move_in r.how entry ≡ Some by → Takes r.how rest by left → Ready text at calls r by left
+    ready text at calls rest left r entry by k er made takes =
         let same : row_in k.pos k.state k.aim k.stands.0 ≡ r = same_Some (row_in k.pos k.state k.aim k.stands.0) r (sym k.stands.1 ∙ er) in
-        subst (λ (r : Row). move_in r.how word ≡ Some by → Takes r.how rest by left → Ready text at calls r by left) same
-        (λ made takes. by_how text at calls rest left k k.stands.0 word by k.stands.1 (closed at (row_in k.pos k.state k.aim k.stands.0) k.stands.1) made takes) made takes
+        subst (λ (r : Row). move_in r.how entry ≡ Some by → Takes r.how rest by left → Ready text at calls r by left) same
+        (λ made takes. by_how text at calls rest left k k.stands.0 entry by k.stands.1 (closed at (row_in k.pos k.state k.aim k.stands.0) k.stands.1) made takes) made takes

@@ -17,7 +17,7 @@ use Rattle.cw_echeck.proofs.Boards.{problem_in}
 use Rattle.cw_states.specs.States.{Lists, caps_at, set_after}
 use Rattle.cw_trace.specs.Traces.{Names, Taken, trace, board_after}
 use Rattle.cw_play.specs.declared.end.PlayEnd.{PlayEnd}
-use Rattle.cw_play.specs.Plays.{Place, Plays, IsPlayBy}
+use Rattle.cw_play.specs.Plays.{Stand, Plays, IsPlayBy}
 use Rattle.cw_play.specs.Rows.{backs_in, backs_at}
 
 -- The lists tell of each state that is reached its capabilities, and which rule is broken by a letter more.
@@ -42,8 +42,8 @@ Owed g s aim [] [] = aim ≡ 0
 Owed g s aim (ret ∷ rets) (caller ∷ calls) = (r : Row) × (slice_get s.rows caller ≡ Some r) × Covers g s aim ret caller r.aim (backs_in r.how) × Owed g s r.aim rets calls
 Owed g s aim _ _ = ⊥
 
-abbrev pub place : Strategy → ℕ → Board → List ℕ → Place
-place s at board calls = record { row = at; board = board; waiting = map (backs_at s) calls }
+abbrev pub stand : Strategy → ℕ → Board → List ℕ → Stand
+stand s at board calls = record { row = at; board = board; waiting = map (backs_at s) calls }
 
 -- The moves so far, with their trace behind the old text; whatever play goes on from here is the end of the whole.
 pub record Sofar (g : Game) (names : Names) (plan : Plan) (s : Strategy) (first : ℕ) (tape : List Move) (old text : List ℕ) (c : Config) (at : ℕ) (calls : List ℕ) (rest : List Move) : Type 0 where
@@ -52,7 +52,7 @@ pub record Sofar (g : Game) (names : Names) (plan : Plan) (s : Strategy) (first 
   pub steps : List Taken
   pub last : board_after (start_board (problem_in plan g)) steps ≡ board
   pub told : text ≡ old ++ trace names (problem_in plan g) steps
-  pub goes : (end : PlayEnd) (later : List Taken) → Plays (problem_in plan g) s (place s at board calls) rest end later → IsPlayBy (problem_in plan g) s first tape end (steps ++ later)
+  pub goes : (end : PlayEnd) (later : List Taken) → Plays (problem_in plan g) s (stand s at board calls) rest end later → IsPlayBy (problem_in plan g) s first tape end (steps ++ later)
 
 pub record Kept (g : Game) (v : Lists) (names : Names) (s : Strategy) (first : ℕ) (tape : List Move) (old text : List ℕ) (at : ℕ) (calls : List ℕ) (rest : List Move) : Type 0 where
   pub pos : ℕ

@@ -33,7 +33,7 @@ use Rattle.cw_text.specs.Tapes.{IsIn}
 use Rattle.cw_trace.specs.Traces.{Names}
 use Rattle.cw_play.specs.declared.end.PlayEnd.{PlayEnd}
 use Rattle.cw_play.specs.Played.{IsPlayed}
-use Rattle.cw_play.specs.Rows.{move_in, after_in, words_in, moves_left, EndsAt}
+use Rattle.cw_play.specs.Rows.{move_in, after_in, entries_in, moves_left, EndsAt}
 use Rattle.cw_play.proofs.Held.{Kept}
 use Rattle.cw_play.proofs.Nested.{AreNested}
 use Rattle.cw_play.proofs.Advances.{told_of}
@@ -43,7 +43,7 @@ use Rattle.cw_play.proofs.FirstRow.{row_at}
 use Rattle.cw_play.proofs.Ranges.{in_range}
 use Rattle.cw_play.proofs.Meant.{tells}
 
--- What a row takes of the tape, by the number of words that were taken.
+-- What a row takes of the tape, by the number of entries that were taken.
 both_take : (tape : List Move) (taken n : ℕ) (by : Move) → All (IsIn true) tape → slice_get tape taken ≡ Some by → n ≡ 1 → (drop taken tape ≡ by ∷ drop (taken + n) tape) × IsWeavers by
 both_take tape taken n by may e one =
     let lt = slice_get_within tape taken by e in
@@ -56,23 +56,23 @@ both_take tape taken n by may e one =
 none_taken : (tape : List Move) (taken n : ℕ) → n ≡ 0 → drop (taken + n) tape ≡ drop taken tape
 none_taken tape taken n e = let same : taken + n ≡ taken = omega (arith, e) in ap (λ (k : ℕ). drop k tape) same
 
-takes_from : (how : How) (tape : List Move) (taken n : ℕ) (word : Option Move) (by : Move) → All (IsIn true) tape → word ≡ slice_get tape taken → move_in how word ≡ Some by → n ≡ words_in how
+takes_from : (how : How) (tape : List Move) (taken n : ℕ) (entry : Option Move) (by : Move) → All (IsIn true) tape → entry ≡ slice_get tape taken → move_in how entry ≡ Some by → n ≡ entries_in how
     → Takes how (drop taken tape) by (drop (taken + n) tape)
-takes_from Bad tape taken n word by may w made e = none_taken tape taken n e
-takes_from Out tape taken n word by may w made e = none_taken tape taken n e
-takes_from (Both skip tried) tape taken n word by may w made e = both_take tape taken n by may (sym w ∙ made) e
-takes_from (Go move row) tape taken n word by may w made e = none_taken tape taken n e
-takes_from (Into callee backs) tape taken n word by may w made e = none_taken tape taken n e
+takes_from Bad tape taken n entry by may w made e = none_taken tape taken n e
+takes_from Out tape taken n entry by may w made e = none_taken tape taken n e
+takes_from (Both skip tried) tape taken n entry by may w made e = both_take tape taken n by may (sym w ∙ made) e
+takes_from (Go move row) tape taken n entry by may w made e = none_taken tape taken n e
+takes_from (Into callee backs) tape taken n entry by may w made e = none_taken tape taken n e
 
-pub taken_within : (how : How) (tape : List Move) (taken n : ℕ) (word : Option Move) (by : Move) → taken ≤ length tape → word ≡ slice_get tape taken → move_in how word ≡ Some by
-    → n ≡ words_in how → taken + n ≤ length tape
-taken_within (Both skip tried) tape taken n word by le w made e = let lt = slice_get_within tape taken by (sym w ∙ made) in omega (arith, lt, e)
-taken_within Bad tape taken n word by le w made e = omega (arith, le, e)
-taken_within Out tape taken n word by le w made e = omega (arith, le, e)
-taken_within (Go move row) tape taken n word by le w made e = omega (arith, le, e)
-taken_within (Into callee backs) tape taken n word by le w made e = omega (arith, le, e)
+pub taken_within : (how : How) (tape : List Move) (taken n : ℕ) (entry : Option Move) (by : Move) → taken ≤ length tape → entry ≡ slice_get tape taken → move_in how entry ≡ Some by
+    → n ≡ entries_in how → taken + n ≤ length tape
+taken_within (Both skip tried) tape taken n entry by le w made e = let lt = slice_get_within tape taken by (sym w ∙ made) in omega (arith, lt, e)
+taken_within Bad tape taken n entry by le w made e = omega (arith, le, e)
+taken_within Out tape taken n entry by le w made e = omega (arith, le, e)
+taken_within (Go move row) tape taken n entry by le w made e = omega (arith, le, e)
+taken_within (Into callee backs) tape taken n entry by le w made e = omega (arith, le, e)
 
--- where there is no next word the tape is spent
+-- where there is no next entry the tape is spent
 spent_by : (tape : List Move) (taken : ℕ) (o : Option Move) → slice_get tape taken ≡ o → o ≡ None → drop taken tape ≡ []
 spent_by tape taken o e h = ⊎_elim (λ (lt : taken < length tape). absurd (some_there tape taken lt (e ∙ h))) (λ (le : length tape ≤ taken). drop_all taken tape le) (cases_lt taken (length tape))
   where
@@ -99,11 +99,11 @@ module _ (held : Held) (cert : EnvCert) (names : Names) (tape : List Move) (old 
   row_here text at calls taken k x e = row_at cert.rows.items at x (at_within text at calls taken k) e
 
   pub turn : (text : List ℕ) (at : ℕ) (calls : List ℕ) (taken n : ℕ) (k : Keeps text at calls taken) (x : EnvRow) → x ≡ get_or cert.rows.items at x
-      → (word : Option Move) (by : Move) → word ≡ slice_get tape taken → move_in (how_of x.how) word ≡ Some by → n ≡ words_in (how_of x.how)
+      → (entry : Option Move) (by : Move) → entry ≡ slice_get tape taken → move_in (how_of x.how) entry ≡ Some by → n ≡ entries_in (how_of x.how)
       → Ready g v names s first tape old text at calls (row_of x) by (drop (taken + n) tape)
-  turn text at calls taken n k x e word by w made words =
-      ready g v names s first tape old (good_strategy_closed g s good) (in_range g s good) text at calls (drop taken tape) (drop (taken + n) tape) (row_of x) word by k
-      (row_here text at calls taken k x e) made (takes_from (how_of x.how) tape taken n word by may w made words)
+  turn text at calls taken n k x e entry by w made entries =
+      ready g v names s first tape old (good_strategy_closed g s good) (in_range g s good) text at calls (drop taken tape) (drop (taken + n) tape) (row_of x) entry by k
+      (row_here text at calls taken k x e) made (takes_from (how_of x.how) tape taken n entry by may w made entries)
 
   -- what comes after a row is what the code finds
   module _ (text : List ℕ) (at : ℕ) (calls : List ℕ) (r : Row) (by : Move) (left : List Move) (y : Ready g v names s first tape old text at calls r by left) (next : ℕ) (opened : List ℕ)
@@ -146,12 +146,12 @@ module _ (held : Held) (cert : EnvCert) (names : Names) (tape : List Move) (old 
 
   pub played : IsValid (policy_of held.states.policy) → AreLists (uses_of (policy_of held.states.policy) held.graph.nodes.items) (lists_of held.states) → IsStartRow g s first
       → (text : List ℕ) (at : ℕ) (calls : List ℕ) (taken : ℕ) → Keeps text at calls taken → (x : EnvRow) → x ≡ get_or cert.rows.items at x
-      → (word : Option Move) → word ≡ slice_get tape taken → (end : PlayEnd) → EndsAt g v (row_of x) word end
+      → (entry : Option Move) → entry ≡ slice_get tape taken → (end : PlayEnd) → EndsAt g v (row_of x) entry end
       → (source : List ℕ) (file : File) → IsGraph (names_of (policy_of held.states.policy)) source file held.graph
       → IsRunnable (plan_of (names_of (policy_of held.states.policy)) source file) → AssignsNames source file
       → IsPlayed names (problem_of (policy_of held.states.policy) source file) g s tape end old text
-  played valid lists start text at calls taken k x e word w end h source file drawn run assigns =
-      let whole = ends g v names s first tape old (good_strategy_closed g s good) refl text at calls (drop taken tape) (row_of x) word end k (row_here text at calls taken k x e) h
-      (λ none. spent_by tape taken word (sym w) none)
+  played valid lists start text at calls taken k x e entry w end h source file drawn run assigns =
+      let whole = ends g v names s first tape old (good_strategy_closed g s good) refl text at calls (drop taken tape) (row_of x) entry end k (row_here text at calls taken k x e) h
+      (λ none. spent_by tape taken entry (sym w) none)
       (plan_of (names_of (policy_of held.states.policy)) source file) (game_is held valid lists source file drawn run assigns) (tells held valid lists source file drawn assigns) in
       record { row = first; start = start; steps = whole.0; play = whole.1; told = whole.2 }

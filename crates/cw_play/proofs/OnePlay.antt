@@ -11,7 +11,7 @@ use Rattle.cw_model.specs.Plays.{choice, row_by, Waiting}
 use Rattle.cw_trace.specs.Traces.{Taken}
 use Rattle.cw_play.specs.declared.end.PlayEnd.{PlayEnd}
 use Rattle.cw_play.specs.declared.end.PlayEnd.TheVariants.{Violation, TapeSpent}
-use Rattle.cw_play.specs.Plays.{Place, Follows, Goes, EndsBy, Ends, Plays, OnePlayByATape}
+use Rattle.cw_play.specs.Plays.{Stand, Follows, Goes, EndsBy, Ends, Plays, OnePlayByATape}
 
 one_choice : (a b : Bool) (rest other : List Move) → choice a ∷ rest ≡ choice b ∷ other → (a ≡ b) × (rest ≡ other)
 one_choice true true rest other e = (refl, cc)
@@ -22,7 +22,7 @@ one_choice false false rest other e = (refl, cc)
 one_waiting : (a b : List (ℕ × ℕ)) (x y : Waiting) → a ∷ x ≡ b ∷ y → (a ≡ b) × (x ≡ y)
 one_waiting a b x y e = (cc, cc)
 
-follows_one : (how : How) (state : ℕ) (at next other : Place) (tape rest more : List Move) (by by2 : Move)
+follows_one : (how : How) (state : ℕ) (at next other : Stand) (tape rest more : List Move) (by by2 : Move)
     → Follows how state at tape by next rest → Follows how state at tape by2 other more → (by ≡ by2) × (rest ≡ more) × (next.row ≡ other.row) × (next.waiting ≡ other.waiting)
 follows_one Bad state at next other tape rest more by by2 f g = absurd f
 follows_one (Both skip tried) state at next other tape rest more by by2 f g =
@@ -34,15 +34,15 @@ follows_one Out state at next other tape rest more by by2 f g =
     let e = one_waiting f.4.0 g.4.0 next.waiting other.waiting (sym f.4.1 ∙ g.4.1) in
     (f.0 ∙ sym g.0, f.1 ∙ sym g.1, same_Some next.row other.row (sym f.4.2 ∙ ap (λ (backs : List (ℕ × ℕ)). back_of backs state) e.0 ∙ g.4.2), e.1)
 
-abbrev place : ℕ → Board → Waiting → Place
-place row board waiting = record { row = row; board = board; waiting = waiting }
+abbrev stand : ℕ → Board → Waiting → Stand
+stand row board waiting = record { row = row; board = board; waiting = waiting }
 
 abbrev taken : Move → Board → Taken
 taken by next = record { by = by; next = next }
 
-one_place : (x y : Place) → x.row ≡ y.row → x.board ≡ y.board → x.waiting ≡ y.waiting → x ≡ y
-one_place x y e f g =
-    ap (λ (row : ℕ). place row x.board x.waiting) e ∙ ap (λ (board : Board). place y.row board x.waiting) f ∙ ap (λ (waiting : Waiting). place y.row y.board waiting) g
+one_stand : (x y : Stand) → x.row ≡ y.row → x.board ≡ y.board → x.waiting ≡ y.waiting → x ≡ y
+one_stand x y e f g =
+    ap (λ (row : ℕ). stand row x.board x.waiting) e ∙ ap (λ (board : Board). stand y.row board x.waiting) f ∙ ap (λ (waiting : Waiting). stand y.row y.board waiting) g
 
 one_taken : (x y : Taken) → x.by ≡ y.by → x.next ≡ y.next → x ≡ y
 one_taken x y e f = ap (λ (by : Move). taken by x.next) e ∙ ap (λ (next : Board). taken y.by next) f
@@ -66,7 +66,7 @@ module _ (p : Problem) (s : Strategy) where
   one_end b tape Out one other h k = absurd h
 
   -- where a play ends it doesn't go on
-  no_more : (how : How) (state : ℕ) (at next : Place) (tape rest : List Move) (end : PlayEnd) (by : Move) → EndsBy p at.board tape how end → Follows how state at tape by next rest → ⊥
+  no_more : (how : How) (state : ℕ) (at next : Stand) (tape rest : List Move) (end : PlayEnd) (by : Move) → EndsBy p at.board tape how end → Follows how state at tape by next rest → ⊥
   no_more Bad state at next tape rest end by h f = f
   no_more (Both skip tried) state at next tape rest TapeSpent by h f = let e : [] ≡ choice f.0 ∷ rest = sym h ∙ f.2 in cc
   no_more (Both skip tried) state at next tape rest (Violation i) by h f = h
@@ -74,12 +74,12 @@ module _ (p : Problem) (s : Strategy) where
   no_more (Into callee backs) state at next tape rest end by h f = h
   no_more Out state at next tape rest end by h f = h
 
-  stops : (at next : Place) (tape rest : List Move) (end : PlayEnd) (by : Move) → Ends p s at tape end → Goes p s at tape by next rest → ⊥
+  stops : (at next : Stand) (tape rest : List Move) (end : PlayEnd) (by : Move) → Ends p s at tape end → Goes p s at tape by next rest → ⊥
   stops at next tape rest end by h k =
       let same : h.row ≡ k.row = same_Some h.row k.row (sym h.has ∙ k.has) in
       no_more k.row.how k.row.state at next tape rest end by (subst (λ (r : Row). EndsBy p at.board tape r.how end) same h.ends) k.follows
 
-  pub one_from : (steps others : List Taken) (at : Place) (tape : List Move) (one other : PlayEnd) → Plays p s at tape one steps → Plays p s at tape other others → (one ≡ other) × (steps ≡ others)
+  pub one_from : (steps others : List Taken) (at : Stand) (tape : List Move) (one other : PlayEnd) → Plays p s at tape one steps → Plays p s at tape other others → (one ≡ other) × (steps ≡ others)
   one_from [] [] at tape one other h k =
       let same : h.row ≡ k.row = same_Some h.row k.row (sym h.has ∙ k.has) in
       (one_end at.board tape k.row.how one other (subst (λ (r : Row). EndsBy p at.board tape r.how one) same h.ends) k.ends, refl)
@@ -90,8 +90,8 @@ module _ (p : Problem) (s : Strategy) where
       let f = subst (λ (r : Row). Follows r.how r.state at tape t.by h.0 h.1) same h.3.follows in
       let d = follows_one k.3.row.how k.3.row.state at h.0 k.0 tape h.1 k.1 t.by u.by f k.3.follows in
       let b : h.0.board ≡ k.0.board = one_board at.board u.by h.0.board k.0.board (subst (λ (by : Move). Moves p at.board by h.0.board) d.0 h.3.moves) k.3.moves in
-      let to : h.0 ≡ k.0 = one_place h.0 k.0 d.2 b d.3 in
-      let later = subst (λ (rest : List Move). Plays p s k.0 rest one ts) d.1 (subst (λ (n : Place). Plays p s n h.1 one ts) to h.4) in
+      let to : h.0 ≡ k.0 = one_stand h.0 k.0 d.2 b d.3 in
+      let later = subst (λ (rest : List Move). Plays p s k.0 rest one ts) d.1 (subst (λ (n : Stand). Plays p s n h.1 one ts) to h.4) in
       let r = one_from ts us k.0 k.1 one other later k.4 in
       (r.0, ap₂ (λ (x : Taken) (xs : List Taken). x ∷ xs) (one_taken t u d.0 (sym h.2 ∙ b ∙ k.2)) r.1)
 

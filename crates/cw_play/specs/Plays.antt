@@ -11,13 +11,13 @@ use Rattle.cw_play.specs.declared.end.PlayEnd.{PlayEnd}
 use Rattle.cw_play.specs.declared.end.PlayEnd.TheVariants.{Violation, TapeSpent}
 
 -- Where a play stands: its row and its board, and the backs of the open calls, the innermost first.
-pub record Place : Type 0 where
+pub record Stand : Type 0 where
   pub row : ℕ
   pub board : Board
   pub waiting : Waiting
 
--- What a row of a play does: the move that is made there, the row and the backs of the place after it, and what is left of the tape.
-abbrev pub Follows : How → (state : ℕ) → Place → List Move → Move → Place → List Move → Type 0
+-- What a row of a play does: the move that is made there, the row and the backs of the stand after it, and what is left of the tape.
+abbrev pub Follows : How → (state : ℕ) → Stand → List Move → Move → Stand → List Move → Type 0
 Follows Bad state at tape by next rest = ⊥
 Follows (Both skip tried) state at tape by next rest =
     (tries : Bool) × (by ≡ choice tries) × (tape ≡ choice tries ∷ rest) × (next.row ≡ row_by tries skip tried) × (next.waiting ≡ at.waiting)
@@ -31,7 +31,7 @@ Follows Out state at tape by next rest =
     × ((backs : List (ℕ × ℕ)) × (at.waiting ≡ backs ∷ next.waiting) × (back_of backs state ≡ Some next.row))
 
 -- One step of a play: it follows the row, and the move is one of the board, none of the environment's a refusal that a stop can answer.
-pub record Goes (p : Problem) (s : Strategy) (at : Place) (tape : List Move) (by : Move) (next : Place) (rest : List Move) : Type 0 where
+pub record Goes (p : Problem) (s : Strategy) (at : Stand) (tape : List Move) (by : Move) (next : Stand) (rest : List Move) : Type 0 where
   pub row : Row
   pub has : slice_get s.rows at.row ≡ Some row
   pub follows : Follows row.how row.state at tape by next rest
@@ -39,23 +39,23 @@ pub record Goes (p : Problem) (s : Strategy) (at : Place) (tape : List Move) (by
   pub unanswered : stop_answers p.policy at.board.caps at.board.phase by ≡ false
 
 -- Where a play ends: at a row that is bad, where the board violates, with the least rule that its word breaks; or, at the weaver's turn,
--- where no word is left.
+-- where no entry is left.
 abbrev pub EndsBy : Problem → Board → List Move → How → PlayEnd → Type 0
 EndsBy p b tape Bad (Violation rule) = Violates p b × IsVerdict p.policy.rules (b.word ++ letters b.stack b.caps) (Some rule)
 EndsBy p b tape (Both skip tried) TapeSpent = tape ≡ []
 EndsBy p b tape how end = ⊥
 
--- The play ends at this place: its row is there, and says so.
-pub record Ends (p : Problem) (s : Strategy) (at : Place) (tape : List Move) (end : PlayEnd) : Type 0 where
+-- The play ends at this stand: its row is there, and says so.
+pub record Ends (p : Problem) (s : Strategy) (at : Stand) (tape : List Move) (end : PlayEnd) : Type 0 where
   pub row : Row
   pub has : slice_get s.rows at.row ≡ Some row
   pub ends : EndsBy p at.board tape row.how end
 
--- These are the moves of a play from a place on, with the boards after them.
-abbrev pub Plays : Problem → Strategy → Place → List Move → PlayEnd → List Taken → Type 0
+-- These are the moves of a play from a stand on, with the boards after them.
+abbrev pub Plays : Problem → Strategy → Stand → List Move → PlayEnd → List Taken → Type 0
 Plays p s at tape end [] = Ends p s at tape end
 Plays p s at tape end (taken ∷ later) =
-    (next : Place) × (rest : List Move) × (next.board ≡ taken.next) × Goes p s at tape taken.by next rest × Plays p s next rest end later
+    (next : Stand) × (rest : List Move) × (next.board ≡ taken.next) × Goes p s at tape taken.by next rest × Plays p s next rest end later
 
 -- The play by a tape from a row at the start.
 abbrev pub IsPlayBy : Problem → Strategy → ℕ → List Move → PlayEnd → List Taken → Type 0

@@ -23,13 +23,13 @@ backs_if (Some r) = backs_in r.how
 abbrev pub backs_at : Strategy → ℕ → List (ℕ × ℕ)
 backs_at s row = backs_if (slice_get s.rows row)
 
--- the move that is made at a row, where the weaver's next word is this one; none where the play ends
+-- the move that is made at a row, where the weaver's next entry is this one; none where the play ends
 abbrev pub move_in : How → Option Move → Option Move
-move_in Bad word = None
-move_in Out word = Some On
-move_in (Both skip tried) word = word
-move_in (Go by row) word = Some by
-move_in (Into callee backs) word = Some On
+move_in Bad entry = None
+move_in Out entry = Some On
+move_in (Both skip tried) entry = entry
+move_in (Go by row) entry = Some by
+move_in (Into callee backs) entry = Some On
 
 abbrev pub is_try : Move → Bool
 is_try Try = true
@@ -44,10 +44,10 @@ after_in s (Into callee backs) at state by calls = Some (callee, at ∷ calls)
 after_in s Out at state by [] = None
 after_in s Out at state by (caller ∷ calls) = option_map (λ row. (row, calls)) (back_of (backs_at s caller) state)
 
--- how many words of the tape a row takes
-abbrev pub words_in : How → ℕ
-words_in (Both skip tried) = 1
-words_in how = 0
+-- how many entries of the tape a row takes
+abbrev pub entries_in : How → ℕ
+entries_in (Both skip tried) = 1
+entries_in how = 0
 
 -- 2 to the power n, less 1: so many moves at most are made from a row below n on, up to the end of its frame
 unfoldable pub moves_below : ℕ → ℕ
@@ -62,7 +62,7 @@ calls_left (caller ∷ calls) = moves_below caller + calls_left calls
 abbrev pub moves_left : (at : ℕ) → (calls : List ℕ) → ℕ
 moves_left at calls = moves_below (suc at) + calls_left calls
 
--- how a play ends at a row: it is bad, or the weaver's next word is wanting
+-- how a play ends at a row: it is bad, or the weaver's next entry is wanting
 abbrev pub EndsAt : Game → Lists → Row → Option Move → PlayEnd → Type 0
-EndsAt g v r word (Violation rule) = (r.how ≡ Bad) × (violated_at v r.state (slice_get g.spots r.pos) ≡ Some rule)
-EndsAt g v r word TapeSpent = (skip : ℕ) × (tried : ℕ) × (r.how ≡ Both skip tried) × (word ≡ None)
+EndsAt g v r entry (Violation rule) = (r.how ≡ Bad) × (violated_at v r.state (slice_get g.spots r.pos) ≡ Some rule)
+EndsAt g v r entry TapeSpent = (skip : ℕ) × (tried : ℕ) × (r.how ≡ Both skip tried) × (entry ≡ None)

@@ -5,6 +5,6 @@
 pub enum PlayEnd {
     /// The policy is violated: the least rule that the word breaks, by its number in the policy, from 0.
     Violation(u8),
-    /// It is the weaver's turn, and the tape has no word left.
+    /// It is the weaver's turn, and the tape has no entry left.
     TapeSpent,
 }

@@ -19,12 +19,12 @@ ghost use Rattle.cw_product.specs.Moves.{IsPosition, IsState, violated_at};
 ghost use Rattle.cw_product.specs.Product.{game_of};
 ghost use Rattle.cw_product.specs.Uses.{uses_of};
 ghost use Rattle.cw_text.specs.Tapes.{IsIn};
-ghost use Rattle.cw_trace.specs.Labels.{told};
+ghost use Rattle.cw_trace.specs.Labels.{name_lists};
 ghost use Rattle.cw_play.specs.Played.{IsPlayed};
 ghost use Rattle.cw_play.specs.Rows.{move_in, EndsAt};
 
 use crate::end::PlayEnd;
-use crate::rows::{move_at, next_row, words_at};
+use crate::rows::{entries_at, move_at, next_row};
 use crate::start::start_row;
 use cw_certs::{EnvCert, EnvRow, How, Move};
 use cw_core::NoMemory;
@@ -46,20 +46,20 @@ fn rule_at(game: &Game, row: &EnvRow) -> u8
     rule
 }
 
-/// The word of the tape with this number.
-fn word_at(tape: &[Move], number: usize) -> Option<Move>
+/// The entry of the tape with this number.
+fn entry_at(tape: &[Move], number: usize) -> Option<Move>
     ensures { result ≡ slice_get tape.now number }
 {
     tape.get(number).copied()
 }
 
-/// How a play ends at a row at which no move is made: it is bad, or the weaver's next word is wanting.
-fn end_at(game: &Game, row: &EnvRow, word: Option<Move>) -> PlayEnd
+/// How a play ends at a row at which no move is made: it is bad, or the weaver's next entry is wanting.
+fn end_at(game: &Game, row: &EnvRow, entry: Option<Move>) -> PlayEnd
     requires position { IsPosition (game_of game.now) row.now.pos.0 }
     requires state { IsState (game_of game.now) row.now.state.0 }
-    requires ended { move_in (how_of row.now.how) word ≡ None }
+    requires ended { move_in (how_of row.now.how) entry ≡ None }
     requires bad { let g = game_of game.now in how_of row.now.how ≡ Bad → bad_in g row.now.state.0 (slice_get g.spots row.now.pos.0) ≡ true }
-    ensures { EndsAt (game_of game.now) (lists_of game.now.states) (row_of row.now) word result }
+    ensures { EndsAt (game_of game.now) (lists_of game.now.states) (row_of row.now) entry result }
 {
     match &row.how {
         How::Bad => PlayEnd::Violation(rule_at(game, row)),
@@ -67,7 +67,7 @@ fn end_at(game: &Game, row: &EnvRow, word: Option<Move>) -> PlayEnd
     }
 }
 
-/// The play of a good strategy in which the weaver makes the moves of a tape: how it ends, with its trace behind the text. Words after a
+/// The play of a good strategy in which the weaver makes the moves of a tape: how it ends, with its trace behind the text. Entries after a
 /// violation aren't played. It goes over the pairs of the game, and keeps no word. The list of open calls, for which the number of rows is
 /// room enough, is made before the first byte is put: where memory is wanting nothing was appended.
 ///
@@ -89,7 +89,7 @@ pub fn play_env<S: Sink>(
     requires follows { Follows S.taken S.faults S.refused writer.old out.old }
     ensures play { IfOk result (λ end. (source : List ℕ) (file : File) → let policy = policy_of game.now.states.policy in
         IsGraph (names_of policy) source file game.now.graph → IsRunnable (plan_of (names_of policy) source file) → AssignsNames source file
-        → IsPlayed (told names.now) (problem_of policy source file) (game_of game.now) (strategy_of cert.now) tape.now end writer.old.text writer.new.text) }
+        → IsPlayed (name_lists names.now) (problem_of policy source file) (game_of game.now) (strategy_of cert.now) tape.now end writer.old.text writer.new.text) }
     ensures refused { OnErr result ((writer.new ≡ writer.old) × (out.new ≡ out.old)) }
     ensures begun { writer.new.begun ≡ writer.old.begun }
     ensures follows { Follows S.taken S.faults S.refused writer.new out.new }
@@ -99,11 +99,11 @@ pub fn play_env<S: Sink>(
     let mut taken = 0;
     'rows: loop {
         let row = &cert.rows[at as usize];
-        let word = word_at(tape, taken);
-        let Some(by) = move_at(&row.how, word) else {
-            return Ok(end_at(game, row, word));
+        let entry = entry_at(tape, taken);
+        let Some(by) = move_at(&row.how, entry) else {
+            return Ok(end_at(game, row, entry));
         };
-        taken += words_at(&row.how);
+        taken += entries_at(&row.how);
         at = next_row(cert, row, at, by, &mut calls);
         let reached = &cert.rows[at as usize];
         put_step(

@@ -4,26 +4,26 @@ ghost use Rattle.std.specs.Prelude.{◌≡◌, ◌<◌, reverse, map, Some, IsSo
 ghost use Rattle.cw_certs.specs.Strategies.{How, Out, back_of, how_of, row_of, strategy_of};
 ghost use Rattle.cw_certs.specs.declared.moves.Move.TheVariants.{On};
 ghost use Rattle.cw_echeck.specs.Checks.{backs_of};
-ghost use Rattle.cw_play.specs.Rows.{backs_in, backs_at, move_in, after_in, words_in};
+ghost use Rattle.cw_play.specs.Rows.{backs_in, backs_at, move_in, after_in, entries_in};
 
 use cw_certs::{EnvCert, EnvRow, How, Move};
 use cw_core::StateId;
 
-/// The move that is made at a row, where the weaver's next word is this one; none where the play ends.
-pub(crate) fn move_at(how: &How, word: Option<Move>) -> Option<Move>
-    ensures { result ≡ move_in (how_of how.now) word }
+/// The move that is made at a row, where the weaver's next entry is this one; none where the play ends.
+pub(crate) fn move_at(how: &How, entry: Option<Move>) -> Option<Move>
+    ensures { result ≡ move_in (how_of how.now) entry }
 {
     match how {
         How::Bad => None,
-        How::Both { .. } => word,
+        How::Both { .. } => entry,
         How::Go { by, .. } => Some(*by),
         How::Out | How::Into { .. } => Some(Move::On),
     }
 }
 
-/// How many words of the tape a row takes.
-pub(crate) fn words_at(how: &How) -> usize
-    ensures { result ≡ words_in (how_of how.now) }
+/// How many entries of the tape a row takes.
+pub(crate) fn entries_at(how: &How) -> usize
+    ensures { result ≡ entries_in (how_of how.now) }
 {
     match how {
         How::Both { .. } => 1,

@@ -1,4 +1,4 @@
-//! What a second program in another language answers for every tape of up to six words: `bench/tapes.py` writes this file. A line has the tape, how it
+//! What a second program in another language answers for every tape of up to six entries: `bench/tapes.py` writes this file. A line has the tape, how it
 //! ends, and the trace with `;` for each line feed.
 
 /// The plays of `ONE`.

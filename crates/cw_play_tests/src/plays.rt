@@ -1,4 +1,4 @@
-//! The plays of every tape of up to six words, against lists from a second program in another language.
+//! The plays of every tape of up to six entries, against lists from a second program in another language.
 
 ghost use Rattle.std.specs.Prelude.{◌<◌, ◌^◌, length};
 ghost use Rattle.cw_rights.specs.Policies.{policy_of};
@@ -105,7 +105,7 @@ pub fn every_play(
 }
 
 #[test]
-fn every_tape_of_up_to_six_words_is_played(rt: HostRuntime) {
+fn every_tape_of_up_to_six_entries_is_played(rt: HostRuntime) {
     all_told(
         &rt,
         rt.alloc(),

@@ -1,5 +1,5 @@
-//! The runs of every tape of up to six words, against lists from a second program in another language. A tape whose shorter front is told a bad move stands in
-//! no list: it is told the same, which is tried with one word more.
+//! The runs of every tape of up to six entries, against lists from a second program in another language. A tape whose shorter front is told a bad move stands in
+//! no list: it is told the same, which is tried with one entry more.
 
 ghost use Rattle.std.specs.Prelude.{IsTrue};
 ghost use Rattle.cw_rights.specs.Policies.{policy_of};
@@ -90,7 +90,7 @@ fn has_few_rows(table: &WeaverCert) -> bool
     states + tries + variables + calls < 4294967296
 }
 
-/// How many tapes of a list, with those of one word more, are run by a table as the list has it; none where one isn't, or the table isn't good.
+/// How many tapes of a list, with those of one entry more, are run by a table as the list has it; none where one isn't, or the table isn't good.
 pub fn every_run(
     alloc: Global,
     checked: &Checked,
@@ -129,7 +129,7 @@ pub fn every_run(
 }
 
 #[test]
-fn every_tape_of_up_to_six_words_is_run(rt: HostRuntime) {
+fn every_tape_of_up_to_six_entries_is_run(rt: HostRuntime) {
     all_told(
         &rt,
         rt.alloc(),

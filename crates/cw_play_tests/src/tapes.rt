@@ -56,7 +56,7 @@ fn tapes_are_read(rt: HostRuntime) {
 }
 
 #[test]
-fn the_first_other_word_is_told(rt: HostRuntime) {
+fn the_first_other_field_is_told(rt: HostRuntime) {
     are_read(
         &rt,
         rt.alloc(),

@@ -6,7 +6,7 @@ ghost use Rattle.cw_rights.specs.Valid.{IsValid};
 ghost use Rattle.cw_resolve.specs.Scenes.{names_of};
 ghost use Rattle.cw_points.specs.Graphs.{IsGraph};
 ghost use Rattle.cw_wcheck.specs.Checking.{HasFewRows};
-ghost use Rattle.cw_woven.specs.Held.{IsOpened};
+ghost use Rattle.cw_woven.specs.Held.{IsUnwoven};
 ghost use Rattle.cw_commands.specs.Outcomes.{due_of};
 ghost use Rattle.cw_commands.specs.Starts.{Starts, StartsLine};
 ghost use Rattle.cw_stages.specs.Games.{WhereWovenFits};
@@ -27,7 +27,7 @@ use cw_stages::{
     tell_table_row,
 };
 use cw_wcheck::check_weaver;
-use cw_woven::Opened;
+use cw_woven::Unwoven;
 use std::alloc::Global;
 
 /// That the policy doesn't fit the program, that no game of theirs comes, or what is told of the table: its run by a tape, or the first row that fails a condition.
@@ -72,12 +72,12 @@ fn fitted<O: Sink>(
 fn accepted<O: Sink>(
     alloc: Global,
     policy: &Policy,
-    parts: &Opened,
+    parts: &Unwoven,
     tape: &[u8],
     out: &mut O,
 ) -> Result<Text<O>, Stop>
     requires valid { IsValid (policy_of policy.now) }
-    requires opened { IsOpened (policy_of policy.now) parts.now }
+    requires unwoven { IsUnwoven (policy_of policy.now) parts.now }
     requires short { length tape.now ≤ 33554432 }
     ensures due { Answers (policy_of policy.now) parts.now.source.items (AfterPolicy parts.now.text.now tape.now (policy_of policy.now)) result }
     ensures puts { StartsText O.taken O.faults O.refused out.old out.new result }
@@ -88,7 +88,7 @@ fn accepted<O: Sink>(
 }
 
 /// That a text is no woven text, or what is due for the source and the table that it is read as.
-fn opened<O: Sink, N: Sink>(
+fn unwoven<O: Sink, N: Sink>(
     alloc: Global,
     policy: &Policy,
     text: &[u8],
@@ -130,7 +130,7 @@ pub fn run_due<O: Sink, N: Sink>(
     ensures notes { StartsLine N.taken N.faults N.refused note.old note.new result }
 {
     match read_policy(alloc, policy) {
-        Ok(whole) => opened(alloc, &whole, text, tape, out, note),
+        Ok(whole) => unwoven(alloc, &whole, text, tape, out, note),
         Err(fault) => policy_refusal(&fault, note),
     }
 }

@@ -1,4 +1,4 @@
-pub mod Placed
+pub mod Situated
 pub mod Held
 pub mod Laying
 pub mod Standing

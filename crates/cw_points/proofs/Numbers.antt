@@ -15,8 +15,8 @@ inside p (x ∷ xs) = by (not (p x)) (inside p xs)
     by true e = omega (arith, e)
     by false e = omega arith
 
-placed_at : (n l : ℕ) → n ≤ l → unwrap_or (cond (nat_lt n l) (Some n) None) l ≡ n
-placed_at n l h = by (nat_lt n l) refl
+situated_at : (n l : ℕ) → n ≤ l → unwrap_or (cond (nat_lt n l) (Some n) None) l ≡ n
+situated_at n l h = by (nat_lt n l) refl
   where
     by : (t : Bool) → nat_lt n l ≡ t → unwrap_or (cond t (Some n) None) l ≡ n
     by true e = refl
@@ -24,4 +24,4 @@ placed_at n l h = by (nat_lt n l) refl
 
 pub number_or_length : (names : List (List ℕ)) (name : List ℕ) (l : ℕ) → l ≡ length names → unwrap_or (number_in names name) l ≡ number_or_other names name
 number_or_length names name l e =
-    ap (unwrap_or (number_in names name)) e ∙ placed_at (position_or_len (bytes_eq name) names) (length names) (inside (bytes_eq name) names)
+    ap (unwrap_or (number_in names name)) e ∙ situated_at (position_or_len (bytes_eq name) names) (length names) (inside (bytes_eq name) names)

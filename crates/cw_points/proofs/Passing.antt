@@ -2,13 +2,13 @@
 use Rattle.std.proofs.Common.{◌≡◌, ℕ, List, [], ◌∷◌, Bool, true, false, Option, Some, None, refl, sym, subst}
 use Rattle.std.specs.Prelude.{slice_get}
 use Rattle.cw_syntax.specs.Plans.{Callee, Stm, Plain, Break, Continue, Return, Open, Close, Call, Group, Label, If, While, Do, For, Plan}
-use Rattle.cw_syntax.specs.Frames.{Item, Entry, Todo, Test, After, Mark, End, Frame, after_if, broken, continued, ended, Way, On, Left, Right, Opened, Failed, pass, front, settled}
+use Rattle.cw_syntax.specs.Frames.{Item, Entry, Todo, Test, After, LoopEnd, End, Frame, after_if, broken, continued, ended, Way, On, Left, Right, Opened, Failed, pass, front, settled}
 use Rattle.cw_points.specs.declared.graph.Point.TheVariants as point
 use Rattle.cw_points.specs.declared.graph.Node.{Node}
 use Rattle.cw_points.specs.declared.graph.Part.{Part}
 use Rattle.cw_points.specs.Graphs.{node, step, branch, test_node}
 use Rattle.cw_points.specs.Walks.{leads}
-use Rattle.cw_points.proofs.Placed.{Here, AtIn, At, IsPart}
+use Rattle.cw_points.proofs.Situated.{Here, AtIn, At, IsPart}
 use Rattle.cw_points.proofs.Standing.{Jumps, at_broken, at_continued, at_ended, at_body}
 use Rattle.cw_points.proofs.Ways.{Below, Tied, lands, jumped, begun, ended_call}
 
@@ -123,7 +123,7 @@ module _ (ns : List Node) (its : List Item) (plan : Plan) (parts : List Part) (h
     front_at (After at ∷ is) b c p h e =
         let a = h.1 in
         record { what = _; item = _; here = a.2; is_front = refl; ways = after_ways at a.0 is (b, a.1, a.3) }
-    front_at (Mark ∷ is) b c p h e = cc
+    front_at (LoopEnd ∷ is) b c p h e = cc
     front_at (End g ∷ is) b c p h e =
         let here = subst (λ n. Here ns its n (node point.Exit f None None) (End g)) (sym h.2) h.3 in
         record { what = _; item = _; here = here; is_front = refl; ways = end_ways g is }

@@ -11,9 +11,9 @@ use Rattle.cw_points.specs.declared.graph.Part.{Part}
 use Rattle.cw_points.specs.Points.{points}
 use Rattle.cw_points.specs.Graphs.{nodes}
 use Rattle.cw_points.specs.Walks.{Stand, stand, leads, goes, WalkFrom, PathByFrom, parts_of, PathsAreTheWalks, PathsTakeWays}
-use Rattle.cw_points.proofs.Placed.{IsPart}
+use Rattle.cw_points.proofs.Situated.{IsPart}
 use Rattle.cw_points.proofs.Standing.{at_new_frame}
-use Rattle.cw_points.proofs.Laying.{placed_program}
+use Rattle.cw_points.proofs.Laying.{situated_program}
 use Rattle.cw_points.proofs.Ways.{StackAt, Tied}
 use Rattle.cw_points.proofs.Passing.{Front, front_at}
 
@@ -83,7 +83,7 @@ pub paths_are_the_walks : (names : Names) (source : List ℕ) (file : File) → 
 paths_are_the_walks names source file =
     let plan = plan_of names source file in
     let parts = parts_of names source file in
-    let has = placed_program names source file in
+    let has = situated_program names source file in
     let start = starts (nodes plan) (points plan) plan parts has in
     let here = option_map (λ (part : Part). stand [] part.entry.0) (slice_get parts plan.main) in
     record {

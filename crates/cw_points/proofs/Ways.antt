@@ -7,7 +7,7 @@ use Rattle.cw_points.specs.declared.graph.Node.{Node}
 use Rattle.cw_points.specs.declared.graph.Part.{Part}
 use Rattle.cw_points.specs.Graphs.{successors}
 use Rattle.cw_points.specs.Walks.{Stand, stand, first_of, returned}
-use Rattle.cw_points.proofs.Placed.{At, IsPart}
+use Rattle.cw_points.proofs.Situated.{At, IsPart}
 use Rattle.cw_points.proofs.Standing.{Jumps, at_settle, at_new_frame}
 
 -- a frame that waits: what stands behind its call is at the point to which the callee returns

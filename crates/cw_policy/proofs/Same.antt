@@ -139,8 +139,8 @@ refused_spells_none text p NoMemory s k = refl
 
 -- ---- one fault
 
-one_place : (L : List ℕ → Type 0) (text : List ℕ) (n m : ℕ) → IsFaultAt L text n → IsFaultAt L text m → n < m → ⊥
-one_place L text n m a b lt =
+one_path : (L : List ℕ → Type 0) (text : List ℕ) (n m : ℕ) → IsFaultAt L text n → IsFaultAt L text m → n < m → ⊥
+one_path L text n m a b lt =
     let within = b.within in
     let short : n < length text = omega (arith, lt, within) in
     let front = b.front in
@@ -156,8 +156,8 @@ one_at L text n m a b = by (cases_order n m)
   where
     by : (n ≡ m) ⊎ ((n < m) ⊎ (m < n)) → n ≡ m
     by (inl e) = e
-    by (inr (inl lt)) = absurd (one_place L text n m a b lt)
-    by (inr (inr lt)) = absurd (one_place L text m n b a lt)
+    by (inr (inl lt)) = absurd (one_path L text n m a b lt)
+    by (inr (inr lt)) = absurd (one_path L text m n b a lt)
 
 one_unknown : (format : ℕ) (d : List (List ℕ)) (text : List ℕ) (u v : Unknown') → IsUnknown format d text u → IsUnknown format d text v → u ≡ v
 one_unknown format d text u v a b = same_Some u v (sym a ∙ b)

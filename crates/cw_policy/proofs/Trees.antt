@@ -14,7 +14,7 @@ use Rattle.cw_policy.specs.declared.keys.Section.{Section}
 use Rattle.cw_policy.specs.declared.keys.Section.TheVariants.{Root, Descriptor, Limit, At, Rule}
 use Rattle.cw_policy.specs.declared.keys.Key.{Key}
 use Rattle.cw_policy.specs.declared.keys.Key.TheVariants.{Split, Detached, Descriptors, Limits, Ats, Rules}
-use Rattle.cw_policy.specs.Keys.{keys_of, place}
+use Rattle.cw_policy.specs.Keys.{keys_of, path}
 use Rattle.cw_policy.specs.Form.{or_else, first_in, items_at, text_at, array_at, format_of, missing_key, has_only, wrong_key, fault_of, table_fault, element_fault, array_fault, form_fault}
 use Rattle.cw_policy.specs.Names.{is_among, names_of, count, unknown_right, unknown_item, rights_fault, descriptor_unknown, limit_unknown, unknown_fault}
 use Rattle.cw_policy.specs.Names.{repeated, twice_table, twice_item, twice_fault, count_fault, early_fault}
@@ -83,7 +83,7 @@ never_rights format s i k o = never_item s i k (first_in (unknown_right format) 
 
 never_limit : (format : ℕ) (names : List (List ℕ)) (i : ℕ) (d : Data) → Never (limit_unknown format names i d)
 never_limit format names i d =
-    never_cond (is_among names (text_at (get (codes "descriptor") d))) (rights_fault format Limit i 2 (get (codes "keep") d)) (Some (Unknown (place Limit i 1 0)))
+    never_cond (is_among names (text_at (get (codes "descriptor") d))) (rights_fault format Limit i 2 (get (codes "keep") d)) (Some (Unknown (path Limit i 1 0)))
     (never_rights format Limit i 2 (get (codes "keep") d)) (λ e. cc)
 
 never_unknown : (ms : Members) → Never (unknown_fault ms)

@@ -1,4 +1,4 @@
--- The form of a policy's tree, and the first place where the tree hasn't it.
+-- The form of a policy's tree, and the first path where the tree hasn't it.
 use Rattle.std.specs.Prelude.{ℕ, suc, pos, List, [], ◌∷◌, codes, Bool, true, false, ◌&&◌, ◌||◌, if◌then◌else◌, Option, Some, None, is_none, nat_eq}
 use Rattle.std.specs.List.{list_all}
 use Rattle.std.specs.Str.{bytes_eq}
@@ -11,7 +11,7 @@ use Rattle.cw_policy.specs.declared.keys.Section.{Section}
 use Rattle.cw_policy.specs.declared.keys.Section.TheVariants.{Root, Descriptor, Limit, At, Rule}
 use Rattle.cw_policy.specs.declared.keys.Key.{Key}
 use Rattle.cw_policy.specs.declared.keys.Key.TheVariants.{Format, Refusable, Split, OnRefusal, Detached, Descriptors, Limits, Ats, Rules, Name, Rights, Of, Keep, Label, Must, Never, RuleName, Bad}
-use Rattle.cw_policy.specs.Keys.{keys_of, is_known, key_number, key_text, is_required, place}
+use Rattle.cw_policy.specs.Keys.{keys_of, is_known, key_number, key_text, is_required, path}
 
 -- the first of two faults
 abbrev pub or_else : {A : Type 0} → Option A → Option A → Option A
@@ -142,9 +142,9 @@ wrong_key (key ∷ keys) ms = or_wrong key (wrong_at key (get_member (key_text k
 
 -- Missing for required keys in order, then Unknown where a key isn't listed, then Kind for each key in order
 abbrev pub fault_of : Section → ℕ → Option Key → Bool → Option (Key × ℕ) → Option PolicyFault
-fault_of section index (Some key) only later = Some (Missing (place section index (key_number key) 0))
-fault_of section index None false later = Some (Unknown (place section index 0 0))
-fault_of section index None true (Some w) = Some (Kind (place section index (key_number w.0) w.1))
+fault_of section index (Some key) only later = Some (Missing (path section index (key_number key) 0))
+fault_of section index None false later = Some (Unknown (path section index 0 0))
+fault_of section index None true (Some w) = Some (Kind (path section index (key_number w.0) w.1))
 fault_of section index None true None = None
 
 unfoldable pub table_fault : ℕ → Section → ℕ → Members → Option PolicyFault

@@ -27,7 +27,7 @@ abbrev pub is_known : ℕ → Key → Bool
 is_known format Detached = nat_eq format 2
 is_known format _ = true
 
--- a key's place in its table's list, from 1; in format 1 no key has the place of `detached`
+-- a key's number in its table's list, from 1; in format 1 no key has the number of `detached`
 abbrev pub key_number : Key → ℕ
 key_number Format = 1
 key_number Refusable = 2
@@ -82,6 +82,6 @@ is_required _ = false
 abbrev pub narrow : ℕ → ℕ
 narrow n = min n 4294967295
 
--- the place of a table (key 0), of a key's value (item 0), or of an item of it, counted from 1
-abbrev pub place : Section → ℕ → ℕ → ℕ → Path
-place section index key within = record { array = section_number section; index = narrow index; key = key; item = narrow within }
+-- the path of a table (key 0), of a key's value (item 0), or of an item of it, counted from 1
+abbrev pub path : Section → ℕ → ℕ → ℕ → Path
+path section index key within = record { array = section_number section; index = narrow index; key = key; item = narrow within }

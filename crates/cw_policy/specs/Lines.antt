@@ -30,7 +30,7 @@ abbrev pub text_of_key : Option Key → List ℕ
 text_of_key None = []
 text_of_key (Some key) = key_text key
 
--- the text of the key that stands at this place of its table's list, from 1
+-- the text of the key that has this number in its table's list, from 1
 abbrev pub key_named : Section → ℕ → List ℕ
 key_named section key = text_of_key (slice_get (keys_of section) (key - 1))
 

@@ -12,7 +12,7 @@ use Rattle.cw_policy.specs.declared.keys.Section.{Section}
 use Rattle.cw_policy.specs.declared.keys.Section.TheVariants.{Root, Descriptor, Limit, Rule}
 use Rattle.cw_policy.specs.declared.keys.Key.{Key}
 use Rattle.cw_policy.specs.declared.keys.Key.TheVariants.{Split, Detached, Descriptors, Limits, Rules}
-use Rattle.cw_policy.specs.Keys.{key_number, place}
+use Rattle.cw_policy.specs.Keys.{key_number, path}
 use Rattle.cw_policy.specs.Form.{or_else, first_in, items_at, text_at, array_at, format_of, form_fault}
 
 -- the bytes of a string, or of the name of a table
@@ -40,7 +40,7 @@ unknown_right format n d = if is_some (right_mask format (name_of d)) then None 
 
 abbrev pub unknown_item : Section → ℕ → ℕ → Option ℕ → Option PolicyFault
 unknown_item section index key None = None
-unknown_item section index key (Some n) = Some (Unknown (place section index key n))
+unknown_item section index key (Some n) = Some (Unknown (path section index key n))
 
 -- the first unknown right of an array at a key
 abbrev pub rights_fault : ℕ → Section → ℕ → ℕ → Option Data → Option PolicyFault
@@ -54,7 +54,7 @@ abbrev pub limit_unknown : ℕ → List (List ℕ) → ℕ → Data → Option P
 limit_unknown format names index d =
     if is_among names (text_at (get (codes "descriptor") d))
     then rights_fault format Limit index 2 (get (codes "keep") d)
-    else Some (Unknown (place Limit index 1 0))
+    else Some (Unknown (path Limit index 1 0))
 
 unfoldable pub unknown_fault : Members → Option PolicyFault
 unknown_fault ms =
@@ -63,19 +63,19 @@ unknown_fault ms =
 
 -- ---- names that stand twice
 
--- the place, counted from n, of the first name that one of those seen before it has too
+-- the number, counted from n, of the first name that one of those seen before it has too
 abbrev pub repeated : List (List ℕ) → ℕ → List (List ℕ) → Option ℕ
 repeated seen n [] = None
 repeated seen n (w ∷ ws) = if is_among seen w then Some n else repeated (seen ++ w ∷ []) (suc n) ws
 
 abbrev pub twice_table : Section → Option ℕ → Option PolicyFault
 twice_table section None = None
-twice_table section (Some n) = Some (Twice (place section n 1 0))
+twice_table section (Some n) = Some (Twice (path section n 1 0))
 
 -- an item of an array of the root
 abbrev pub twice_item : Key → Option ℕ → Option PolicyFault
 twice_item key None = None
-twice_item key (Some n) = Some (Twice (place Root 0 (key_number key) (suc n)))
+twice_item key (Some n) = Some (Twice (path Root 0 (key_number key) (suc n)))
 
 -- descriptors, then split functions, then detached functions, then the names of rules
 unfoldable pub twice_fault : Members → Option PolicyFault

@@ -41,7 +41,7 @@ abbrev pub descriptors_in : ℕ → Items → List PlainDescriptor
 descriptors_in format no_items = []
 descriptors_in format (item d ds) = descriptor_in format d ∷ descriptors_in format ds
 
--- a descriptor's number is its place among the names
+-- a descriptor's number is its index among the names
 abbrev pub limit_in : ℕ → List (List ℕ) → Data → ALimit
 limit_in format names d = record {
   descriptor = number_in names (text_at (get (codes "descriptor") d));

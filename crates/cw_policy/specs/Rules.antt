@@ -17,16 +17,16 @@ use Rattle.cw_policy.specs.declared.fault.PolicyFault.{PolicyFault}
 use Rattle.cw_policy.specs.declared.fault.PolicyFault.TheVariants.{Kind, Regex, Limit as TooMany, NoMemory}
 use Rattle.cw_policy.specs.declared.keys.Section.TheVariants.{At}
 use Rattle.cw_policy.specs.declared.keys.Key.TheVariants.{Ats, Rules}
-use Rattle.cw_policy.specs.Keys.{narrow, place}
+use Rattle.cw_policy.specs.Keys.{narrow, path}
 use Rattle.cw_policy.specs.Form.{items_at, text_at, array_at}
 use Rattle.cw_policy.specs.Names.{name_of}
 
--- the text of a test of a table `at`, with its label, whether the label must have it or never, and its place
+-- the text of a test of a table `at`, with its label, whether the label must have it or never, and its path
 pub record TestText : Type 0 where
   pub label : List ℕ
   pub must : Bool
   pub text : List ℕ
-  pub place : Path
+  pub path : Path
 
 -- the text of an expression, with its rule's name and the number of its table
 pub record ExpressionText : Type 0 where
@@ -47,7 +47,7 @@ test_key must = cond must 2 3
 -- the items of a table are counted from 1
 abbrev pub tests_in : ℕ → List ℕ → Bool → ℕ → Items → List RuleText
 tests_in index label must n no_items = []
-tests_in index label must n (item d ds) = tested (record { label = label; must = must; text = name_of d; place = place At index (test_key must) n }) ∷ tests_in index label must (suc n) ds
+tests_in index label must n (item d ds) = tested (record { label = label; must = must; text = name_of d; path = path At index (test_key must) n }) ∷ tests_in index label must (suc n) ds
 
 abbrev pub tests_of_table : ℕ → Data → List RuleText
 tests_of_table index d =
@@ -127,7 +127,7 @@ regex_fault index NoMemory' = NoMemory
 regex_fault index e = Regex index e
 
 abbrev pub IsRuleFault : ℕ → List (List ℕ) → RuleText → PolicyFault → Type 0
-IsRuleFault format descriptors (tested t) f = (e : RegexFault) × IsTestFault format descriptors t.text e × (f ≡ Kind t.place)
+IsRuleFault format descriptors (tested t) f = (e : RegexFault) × IsTestFault format descriptors t.text e × (f ≡ Kind t.path)
 IsRuleFault format descriptors (written r) f = (e : RegexFault) × IsRegexFault format descriptors r.text e × (f ≡ regex_fault r.index e)
 
 -- the first text that is refused

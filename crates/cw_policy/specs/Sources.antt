@@ -6,7 +6,7 @@ use Rattle.cw_policy.specs.declared.sources.Source.TheVariants.{Test, Expression
 use Rattle.cw_policy.specs.Rules.{TestText, ExpressionText, RuleText, tested, written}
 
 abbrev pub test_text : TestSource → TestText
-test_text t = record { label = t.label.now; must = t.must; text = t.text.now; place = t.place }
+test_text t = record { label = t.label.now; must = t.must; text = t.text.now; path = t.path }
 
 abbrev pub expression_text : ExpressionSource → ExpressionText
 expression_text e = record { name = e.name.now; text = e.text.now; index = e.index }

@@ -4,10 +4,10 @@ use cw_core::Quantity;
 use cw_regex::RegexFault;
 use thiserror::Error;
 
-/// A place in a policy's tree.
+/// A path in a policy's tree.
 ///
 /// `array` is 0 for the root and 1 to 4 for the arrays `descriptor`, `limit`, `at` and `rule`, `index` the number of the
-/// table in its array, from 0. `key` is the key's place in the list of its table's keys, from 1, and 0 for the table
+/// table in its array, from 0. `key` is the key's number in the list of its table's keys, from 1, and 0 for the table
 /// itself. The root's list is `format`, `refusable`, `split`, `on_refusal`, `detached`, and then the arrays in their
 /// order; it is one list for both formats. `item` is the number of the item of the key's array, from 1, and 0 for the
 /// value itself.

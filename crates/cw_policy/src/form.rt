@@ -8,7 +8,7 @@ ghost use Rattle.cw_regex.specs.Grammar as grammar;
 ghost use Rattle.cw_policy.specs.Form as spec;
 
 use crate::fault::PolicyFault;
-use crate::keys::{Key, Section, is_known, is_required, key_number, key_text, keys_of, place};
+use crate::keys::{Key, Section, is_known, is_required, key_number, key_text, keys_of, path};
 use cw_rights::{is_name, is_name_byte, is_name_start};
 use toml::value::Array;
 use toml::{Table, Value};
@@ -301,13 +301,13 @@ fn table_fault(format: u8, section: Section, index: usize, table: &Table) -> Opt
 {
     let keys = keys_of(section);
     if let Some(key) = missing_key(keys, table) {
-        return Some(PolicyFault::Missing(place(section, index, key_number(key), 0)));
+        return Some(PolicyFault::Missing(path(section, index, key_number(key), 0)));
     }
     if !has_only(format, keys, table) {
-        return Some(PolicyFault::Unknown(place(section, index, 0, 0)));
+        return Some(PolicyFault::Unknown(path(section, index, 0, 0)));
     }
     match wrong_key(keys, table) {
-        Some((key, item)) => Some(PolicyFault::Kind(place(section, index, key_number(key), item))),
+        Some((key, item)) => Some(PolicyFault::Kind(path(section, index, key_number(key), item))),
         None => None,
     }
 }
@@ -337,7 +337,7 @@ fn array_fault(format: u8, section: Section, items: &[Value]) -> Option<PolicyFa
     None
 }
 
-/// The first place where a tree hasn't the form of a policy.
+/// The first path where a tree hasn't the form of a policy.
 #[tactic(auto, unfolding(crate::specs::Form::form_fault))]
 pub fn form_fault(table: &Table) -> Option<PolicyFault>
     ensures { result ≡ spec.form_fault (table_view table.now) }

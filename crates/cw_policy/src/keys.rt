@@ -99,7 +99,7 @@ pub(crate) fn is_known(format: u8, key: Key) -> bool
     }
 }
 
-/// A key's place in the list of its table's keys, from 1.
+/// A key's number in the list of its table's keys, from 1.
 pub(crate) fn key_number(key: Key) -> u8
     ensures { result ≡ spec.key_number key }
 {
@@ -178,9 +178,9 @@ pub(crate) fn narrow(number: usize) -> u32
     }
 }
 
-/// The place of a table (key 0), of a key's value (item 0), or of an item of it.
-pub(crate) fn place(section: Section, index: usize, key: u8, item: usize) -> Path
-    ensures { result ≡ spec.place section index key item }
+/// The path of a table (key 0), of a key's value (item 0), or of an item of it.
+pub(crate) fn path(section: Section, index: usize, key: u8, item: usize) -> Path
+    ensures { result ≡ spec.path section index key item }
 {
     Path {
         array: section_number(section),

@@ -9,7 +9,7 @@ ghost use Rattle.cw_policy.specs.Names as spec;
 
 use crate::fault::PolicyFault;
 use crate::form::{array_at, form_fault, format_of, items_at, member};
-use crate::keys::{Key, Section, key_number, place};
+use crate::keys::{Key, Section, key_number, path};
 use cw_core::{Quantity, limits};
 use cw_rights::right_named;
 use toml::{Table, Value};
@@ -86,7 +86,7 @@ fn unknown_item(section: Section, index: usize, key: u8, item: Option<usize>) ->
     ensures { result ≡ spec.unknown_item section index key item }
 {
     match item {
-        Some(number) => Some(PolicyFault::Unknown(place(section, index, key, number))),
+        Some(number) => Some(PolicyFault::Unknown(path(section, index, key, number))),
         None => None,
     }
 }
@@ -142,7 +142,7 @@ fn limit_unknown(
     ensures { result ≡ spec.limit_unknown format (spec.names_of (items_view descriptors.now)) index (view value.now) }
 {
     if !is_among(descriptors, text_at(field(value, "descriptor"))) {
-        return Some(PolicyFault::Unknown(place(Section::Limit, index, 1, 0)));
+        return Some(PolicyFault::Unknown(path(Section::Limit, index, 1, 0)));
     }
     rights_fault(format, Section::Limit, index, 2, field(value, "keep"))
 }
@@ -194,7 +194,7 @@ fn twice_table(section: Section, index: Option<usize>) -> Option<PolicyFault>
     ensures { result ≡ spec.twice_table section index }
 {
     match index {
-        Some(number) => Some(PolicyFault::Twice(place(section, number, 1, 0))),
+        Some(number) => Some(PolicyFault::Twice(path(section, number, 1, 0))),
         None => None,
     }
 }
@@ -204,7 +204,7 @@ fn twice_item(key: Key, index: Option<usize>) -> Option<PolicyFault>
     ensures { result ≡ spec.twice_item key index }
 {
     match index {
-        Some(number) => Some(PolicyFault::Twice(place(
+        Some(number) => Some(PolicyFault::Twice(path(
             Section::Root,
             0,
             key_number(key),

@@ -98,7 +98,7 @@ fn read_test_rule(
         return Err(PolicyFault::NoMemory);
     }
     match read_test(test.text, descriptors, format) {
-        Err(_) => Err(PolicyFault::Kind(test.place)),
+        Err(_) => Err(PolicyFault::Kind(test.path)),
         Ok(read) => match test_rule(alloc, test, label_number(labels, test.label), read) {
             Ok(rule) => Ok(rule),
             Err(_) => Err(PolicyFault::NoMemory),

@@ -7,19 +7,19 @@ ghost use Rattle.cw_policy.specs.Sources.{text_of};
 
 use crate::fault::Path;
 use crate::form::{array_at, items_at};
-use crate::keys::{Key, Section, narrow, place};
+use crate::keys::{Key, Section, narrow, path};
 use crate::names::{field, name_of, text_at};
 use cw_core::NoMemory;
 use std::alloc::Global;
 use toml::{Table, Value};
 
-/// The text of a test of a table `at`: its label, whether the label must have it or never, and its place.
+/// The text of a test of a table `at`: its label, whether the label must have it or never, and its path.
 #[derive(Clone, Copy, Drop)]
 pub struct TestSource<'a> {
     pub label: &'a str,
     pub must: bool,
     pub text: &'a str,
-    pub place: Path,
+    pub path: Path,
 }
 
 /// The text of an expression, with its rule's name and the number of its table.
@@ -37,7 +37,7 @@ pub enum Source<'a> {
     Expression(ExpressionSource<'a>),
 }
 
-/// The place of `must` or `never` among the keys of `at`, from 1.
+/// The number of `must` or `never` among the keys of `at`, from 1.
 fn test_key(must: bool) -> u8
     ensures { result ≡ spec.test_key must }
 {
@@ -60,7 +60,7 @@ fn add_tests<'a>(
             label,
             must,
             text: name_of(item),
-            place: place(Section::At, index, test_key(must), number),
+            path: path(Section::At, index, test_key(must), number),
         }))?;
         number += 1;
     }

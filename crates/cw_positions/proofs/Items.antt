@@ -31,8 +31,8 @@ use Rattle.cw_points.specs.Points.{points_in_all, points_of, points_from, points
 use Rattle.cw_points.specs.Graphs.{nodes, IsGraph}
 use Rattle.cw_points.specs.Walks.{Stand, stand, first_of, second_of, called, returned, leads, goes}
 use Rattle.cw_points.proofs.Held.{points_length_all}
-use Rattle.cw_points.proofs.Placed.{IsPart}
-use Rattle.cw_points.proofs.Laying.{placed_program}
+use Rattle.cw_points.proofs.Situated.{IsPart}
+use Rattle.cw_points.proofs.Laying.{situated_program}
 use Rattle.cw_points.proofs.Ways.{StackAt, Tied}
 use Rattle.cw_points.proofs.Passing.{Front, front_at}
 use Rattle.cw_points.proofs.Walking.{tied, starts}
@@ -586,7 +586,7 @@ pub items_stand : (policy : PlainPolicy) (source : List ℕ) (file : File) (g : 
 items_stand policy source file g game i runs on =
     let names = names_of policy in
     let plan = plan_of names source file in
-    let has = of_graph names source file g (λ ns ps m. (f : ℕ) → IsPart ns (points plan) f (slice_get plan.routines f) (slice_get ps f)) i (placed_program names source file) in
+    let has = of_graph names source file g (λ ns ps m. (f : ℕ) → IsPart ns (points plan) f (slice_get plan.routines f) (slice_get ps f)) i (situated_program names source file) in
     record {
       some = λ q l. item_here g policy plan has game on (items_length plan ∙ sym (ap length i.nodes)) q l;
       one = one_item plan g policy;

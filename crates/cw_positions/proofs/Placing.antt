@@ -13,14 +13,14 @@ use Rattle.cw_syntax.specs.Frames.{Item, End, new_frame}
 use Rattle.cw_syntax.specs.Runnable.{Lands, LandsAll}
 use Rattle.cw_game.specs.declared.spots.Spot.{Spot}
 use Rattle.cw_game.specs.declared.spots.Spot.TheVariants as spot
-use Rattle.cw_game.specs.Places.{IsLast, Visits, Placed, PlacedAll, TestAt, StepAt, InitAt, CallsAt, At}
+use Rattle.cw_game.specs.Places.{IsLast, Visits, Situated, SituatedAll, TestAt, StepAt, InitAt, CallsAt, At}
 use Rattle.cw_game.proofs.Places.{at_items}
 use Rattle.cw_points.specs.declared.graph.Point.TheVariants as point
 use Rattle.cw_points.specs.declared.graph.Node.{Node}
 use Rattle.cw_points.specs.declared.graph.Part.{Part}
 use Rattle.cw_points.specs.Graphs.{node, step, branch, test_node}
 use Rattle.cw_points.proofs.Held.{HasAt, has_front, has_back}
-use Rattle.cw_points.proofs.Placed.{Placed as PlacedIn, PlacedAll as PlacedAllIn, StepAt as StepIn, InitAt as InitIn, IsPlaced}
+use Rattle.cw_points.proofs.Situated.{Situated as SituatedIn, SituatedAll as SituatedAllIn, StepAt as StepIn, InitAt as InitIn, IsSituated}
 use Rattle.cw_positions.specs.Positions.{is_split, width, base, visits, free, spots_at, spots_in}
 use Rattle.cw_positions.proofs.Lengths.{width_at}
 use Rattle.cw_positions.proofs.Standing.{stands}
@@ -130,57 +130,57 @@ module _ (pol : PlainPolicy) (parts : List Part) (ns : List Node) (its : List It
       (v.0, subst (λ b. Visits spots j 0 (primitives pol b) (at p) v.0) (sym s) v.1, (c.0, λ t. c.1 (sym s ∙ t)))
 
   mutual
-    pub placed : (s : Stm) (looped : Bool) (b c : Option ℕ) (p k : ℕ)
+    pub situated : (s : Stm) (looped : Bool) (b c : Option ℕ) (p k : ℕ)
         → Fits (λ d. d < length pol.descriptors) (λ d. d < length pol.descriptors) (λ l. Unit {0})
         (λ callee. callee.split ≡ is_split parts callee.number) s
-        → Lands looped s → IsThere looped b → IsThere looped c → PlacedIn ns its f x b c s p k
-        → Placed (spots_in pol parts ns) pol (base pol parts ns x) (option_map (base pol parts ns) b) (option_map (base pol parts ns) c) s
+        → Lands looped s → IsThere looped b → IsThere looped c → SituatedIn ns its f x b c s p k
+        → Situated (spots_in pol parts ns) pol (base pol parts ns x) (option_map (base pol parts ns) b) (option_map (base pol parts ns) c) s
         (base pol parts ns p) (base pol parts ns k)
-    placed (Plain y) looped b c p k q l tb tc h = step_at p k h.0
-    placed (Break y) looped b c p k q l tb tc h = jump_at looped b p tb l h.0
-    placed (Continue y) looped b c p k q l tb tc h = jump_at looped c p tc l h.0
-    placed (Return y) looped b c p k q l tb tc h = step_at p x h.0
-    placed (Open y j d) looped b c p k q l tb tc h = (q, (here p (node (point.Open d) f (Some k) (Some j)) h.0).0)
-    placed (Close y j d) looped b c p k q l tb tc h = (q, (here p (node (point.Close d) f (Some k) (Some j)) h.0).0)
-    placed (Call y j callee) looped b c p k q l tb tc h = call_at p j k callee q h.0
-    placed (Group ss) looped b c p k q l tb tc h = placed_all ss looped b c p k q l tb tc h
-    placed (Label y mark j letter s) looped b c p k q l tb tc h =
+    situated (Plain y) looped b c p k q l tb tc h = step_at p k h.0
+    situated (Break y) looped b c p k q l tb tc h = jump_at looped b p tb l h.0
+    situated (Continue y) looped b c p k q l tb tc h = jump_at looped c p tc l h.0
+    situated (Return y) looped b c p k q l tb tc h = step_at p x h.0
+    situated (Open y j d) looped b c p k q l tb tc h = (q, (here p (node (point.Open d) f (Some k) (Some j)) h.0).0)
+    situated (Close y j d) looped b c p k q l tb tc h = (q, (here p (node (point.Close d) f (Some k) (Some j)) h.0).0)
+    situated (Call y j callee) looped b c p k q l tb tc h = call_at p j k callee q h.0
+    situated (Group ss) looped b c p k q l tb tc h = situated_all ss looped b c p k q l tb tc h
+    situated (Label y mark j letter s) looped b c p k q l tb tc h =
         let v = visit_at (at p) j false (spot.Label j letter (at h.0) ∷ []) (here p (node (point.Label letter) f (Some h.0) (Some j)) h.1.0) in
-        (v.0, v.1, (at h.0, v.2.0, placed s looped b c h.0 k q.1 l tb tc h.2))
-    placed (If y s t) looped b c p k q l tb tc h =
-        (at h.0, at h.1, branch_at p h.0 h.1 h.2.0, placed s looped b c h.0 k q.0 l.0 tb tc h.3, placed t looped b c h.1 k q.1 l.1 tb tc h.4)
-    placed (While y s) looped b c p k q l tb tc h = (at h.0, branch_at p h.0 k h.1.0, placed s true (Some k) (Some p) h.0 p q l tt tt h.2)
-    placed (Do y s) looped b c p k q l tb tc h = (at h.0, branch_at h.0 p k h.1.0, placed s true (Some k) (Some h.0) p h.0 q l tt tt h.2)
-    placed (For y init decided stepped s) looped b c p k q l tb tc h = (
+        (v.0, v.1, (at h.0, v.2.0, situated s looped b c h.0 k q.1 l tb tc h.2))
+    situated (If y s t) looped b c p k q l tb tc h =
+        (at h.0, at h.1, branch_at p h.0 h.1 h.2.0, situated s looped b c h.0 k q.0 l.0 tb tc h.3, situated t looped b c h.1 k q.1 l.1 tb tc h.4)
+    situated (While y s) looped b c p k q l tb tc h = (at h.0, branch_at p h.0 k h.1.0, situated s true (Some k) (Some p) h.0 p q l tt tt h.2)
+    situated (Do y s) looped b c p k q l tb tc h = (at h.0, branch_at h.0 p k h.1.0, situated s true (Some k) (Some h.0) p h.0 q l tt tt h.2)
+    situated (For y init decided stepped s) looped b c p k q l tb tc h = (
       at h.0,
       at h.1,
       at h.2,
       init_at init p h.0 h.3,
       test_at decided h.0 h.1 k h.4.0,
       turn_at y stepped h.2 h.0 h.5,
-      placed s true (Some k)
+      situated s true (Some k)
           (Some h.2) h.1 h.2 q l tt tt h.6,
     )
 
-    pub placed_all : (ss : Stms) (looped : Bool) (b c : Option ℕ) (p k : ℕ)
+    pub situated_all : (ss : Stms) (looped : Bool) (b c : Option ℕ) (p k : ℕ)
         → AllFit (λ d. d < length pol.descriptors) (λ d. d < length pol.descriptors) (λ l. Unit {0})
         (λ callee. callee.split ≡ is_split parts callee.number) ss
-        → LandsAll looped ss → IsThere looped b → IsThere looped c → PlacedAllIn ns its f x b c ss p k
-        → PlacedAll (spots_in pol parts ns) pol (base pol parts ns x) (option_map (base pol parts ns) b) (option_map (base pol parts ns) c) ss
+        → LandsAll looped ss → IsThere looped b → IsThere looped c → SituatedAllIn ns its f x b c ss p k
+        → SituatedAll (spots_in pol parts ns) pol (base pol parts ns x) (option_map (base pol parts ns) b) (option_map (base pol parts ns) c) ss
         (base pol parts ns p) (base pol parts ns k)
-    placed_all end looped b c p k q l tb tc h = ap at h
-    placed_all (then s ss) looped b c p k q l tb tc h =
-        (at h.0, placed s looped b c p h.0 q.0 l.0 tb tc h.1, placed_all ss looped b c h.0 k q.1 l.1 tb tc h.2)
+    situated_all end looped b c p k q l tb tc h = ap at h
+    situated_all (then s ss) looped b c p k q l tb tc h =
+        (at h.0, situated s looped b c p h.0 q.0 l.0 tb tc h.1, situated_all ss looped b c h.0 k q.1 l.1 tb tc h.2)
 
   -- a function stands from its entry's positions on
   pub at_routine : (r : Routine) (entry : ℕ)
       → AllFit (λ d. d < length pol.descriptors) (λ d. d < length pol.descriptors) (λ l. Unit {0})
       (λ callee. callee.split ≡ is_split parts callee.number) r.body
-      → LandsAll false r.body → IsPlaced ns its f r entry x
+      → LandsAll false r.body → IsSituated ns its f r entry x
       → At (spots_in pol parts ns) pol (base pol parts ns x) (new_frame f r) (base pol parts ns entry)
   at_routine r entry q l h =
       let m = at h.body in
       let v = visit_at (at entry) r.seam false (spot.Step m ∷ []) (here entry (node point.Entry f (Some h.body) (Some r.seam)) h.begins.0) in
       let last = (here x (node point.Exit f None None) h.ends.0).0 in
-      let body = placed_all r.body false None None h.body x q l tt tt h.holds in
+      let body = situated_all r.body false None None h.body x q l tt tt h.holds in
       (None, None, (v.0, v.1, (m, v.2.0, at_items spots pol (at x) None None r.body (End f ∷ []) m (at x) body (refl, refl, refl, last, refl))))

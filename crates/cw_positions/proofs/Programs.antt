@@ -19,8 +19,8 @@ use Rattle.cw_points.specs.declared.graph.Graph.{Graph}
 use Rattle.cw_points.specs.Points.{points, count_from}
 use Rattle.cw_points.specs.Graphs.{nodes, parts_from, splits_of, exit_of, IsGraph}
 use Rattle.cw_points.specs.Walks.{parts_of}
-use Rattle.cw_points.proofs.Placed.{IsPart, IsPlaced}
-use Rattle.cw_points.proofs.Laying.{placed_program}
+use Rattle.cw_points.proofs.Situated.{IsPart, IsSituated}
+use Rattle.cw_points.proofs.Laying.{situated_program}
 use Rattle.cw_positions.specs.Positions.{base, to, spots_in}
 use Rattle.cw_positions.specs.Closed.{IsClosed, IsWhole, LeadsWithin}
 use Rattle.cw_positions.proofs.Leading.{all_lead, length_nodes}
@@ -59,30 +59,30 @@ module _ (names : Names) (source : List ℕ) (file : File) where
 
   -- a function's part, where it stands
   pub part_of : (f : ℕ) (r : Routine) → slice_get (plan_of names source file).routines f ≡ Some r
-      → (part : Part) × (slice_get (parts_of names source file) f ≡ Some part) × IsPlaced (nodes (plan_of names source file))
+      → (part : Part) × (slice_get (parts_of names source file) f ≡ Some part) × IsSituated (nodes (plan_of names source file))
       (points (plan_of names source file)) f r part.entry.0 part.exit.0
   part_of f r e = go (slice_get (parts_of names source file) f) refl
       (subst (λ o. IsPart (nodes plan) (points plan) f o (slice_get (parts_of names source file) f)) e
-      (placed_program names source file f))
+      (situated_program names source file f))
     where
       go : (q : Option Part) → slice_get (parts_of names source file) f ≡ q
           → IsPart (nodes (plan_of names source file)) (points (plan_of names source file)) f (Some r) q
-          → (part : Part) × (slice_get (parts_of names source file) f ≡ Some part) × IsPlaced (nodes (plan_of names source file))
+          → (part : Part) × (slice_get (parts_of names source file) f ≡ Some part) × IsSituated (nodes (plan_of names source file))
           (points (plan_of names source file)) f r part.entry.0 part.exit.0
       go None s h = absurd h
       go (Some part) s h = (part, s, h)
 
   -- and what stands where a part says
   pub routine_of : (f : ℕ) (part : Part) → slice_get (parts_of names source file) f ≡ Some part
-      → (r : Routine) × (slice_get (plan_of names source file).routines f ≡ Some r) × IsPlaced (nodes (plan_of names source file))
+      → (r : Routine) × (slice_get (plan_of names source file).routines f ≡ Some r) × IsSituated (nodes (plan_of names source file))
       (points (plan_of names source file)) f r part.entry.0 part.exit.0
   routine_of f part e = go (slice_get (plan_of names source file).routines f) refl
       (subst (λ o. IsPart (nodes plan) (points plan) f (slice_get plan.routines f) o) e
-      (placed_program names source file f))
+      (situated_program names source file f))
     where
       go : (q : Option Routine) → slice_get (plan_of names source file).routines f ≡ q
           → IsPart (nodes (plan_of names source file)) (points (plan_of names source file)) f q (Some part)
-          → (r : Routine) × (slice_get (plan_of names source file).routines f ≡ Some r) × IsPlaced (nodes (plan_of names source file))
+          → (r : Routine) × (slice_get (plan_of names source file).routines f ≡ Some r) × IsSituated (nodes (plan_of names source file))
           (points (plan_of names source file)) f r part.entry.0 part.exit.0
       go None s h = absurd h
       go (Some r) s h = (r, s, h)

@@ -33,18 +33,18 @@ pub kept_items : (old new : List LinkData) (l : LinkData) → new ≡ old ++ l �
 kept_items old new l e = subst (λ z. AreKept (links_of old) z) (sym (ap links_of e ∙ map-append link_of old (l ∷ []))) (kept_more (links_of old) (link_of l ∷ []))
 
 -- and a push is an append
-pub pushed : (old new : List LinkData) (calls : Option ℕ) (wait : WaitData) (place : ℕ) (waits : List Wait) → new ≡ old ++ record { wait = wait; below = calls } ∷ [] → place ≡ length old
-    → Stack (links_of old) calls waits → Stack (links_of new) (Some place) (wait_of wait ∷ waits)
-pushed old new calls wait place waits e at st =
+pub pushed : (old new : List LinkData) (calls : Option ℕ) (wait : WaitData) (landing : ℕ) (waits : List Wait) → new ≡ old ++ record { wait = wait; below = calls } ∷ [] → landing ≡ length old
+    → Stack (links_of old) calls waits → Stack (links_of new) (Some landing) (wait_of wait ∷ waits)
+pushed old new calls wait landing waits e at st =
     let l : LinkData = record { wait = wait; below = calls } in
     let is : links_of new ≡ links_of old ++ link_of l ∷ [] = ap links_of e ∙ map-append link_of old (l ∷ []) in
-    let here : slice_get (links_of new) place ≡ Some (link_of l) =
+    let here : slice_get (links_of new) landing ≡ Some (link_of l) =
     ap₂ (λ (z : List Link) (i : ℕ). slice_get z i) is (at ∙ sym (length-map old link_of)) ∙ get_last (links_of old) (link_of l) in
-    on place (link_of l) waits here (kept_items old new l e calls waits st)
+    on landing (link_of l) waits here (kept_items old new l e calls waits st)
 
 -- A step that the program has found is one of the world.
 module _ (names : Names) (g : Game) (t : Table) (held : ℕ → Caps) (Flag : Here → Bool → Type 0) (i : ℕ) (fork : Bool) (by : Move) (ps : List Process) (links : List Link) (p : Process) (h : Here)
-    (there : slice_get ps i ≡ Some p) (at : p.place ≡ Some h) where
+    (there : slice_get ps i ≡ Some p) (at : p.landing ≡ Some h) where
   pub is_other : (b : Bool) → Flag h b → b ≡ not fork → IsNone g t Flag i fork by ps links
   is_other b flag e = other p h there at (subst (λ x. Flag h x) e flag)
 

@@ -12,12 +12,12 @@ use Rattle.cw_model.specs.Runs.{State, WovenStep}
 use Rattle.cw_model.proofs.Moving.{one_party}
 use Rattle.cw_game.specs.Games.{Game}
 use Rattle.cw_trace.specs.Traces.{Names}
-use Rattle.cw_trace.specs.Steps.{Step as RunStep, Follows, state_after, word_by as run_word, words_of as run_words}
+use Rattle.cw_trace.specs.Steps.{Step as RunStep, Follows, state_after, entry_by as run_entry, entries_of as run_entries}
 use Rattle.cw_run.specs.Lines.{own_of}
 use Rattle.cw_run.proofs.Runs.{own_lines, own_trace}
 use Rattle.cw_worlds.specs.Forks.{at_fork}
 use Rattle.cw_worlds.specs.Worlds.{World, Makes, WorldStep}
-use Rattle.cw_procs.specs.Steps.{Word}
+use Rattle.cw_procs.specs.Steps.{Entry}
 use Rattle.cw_procs.specs.Told.{process_lines, told}
 use Rattle.cw_procs.proofs.First.{turn_weavers, NoneBefore, AllRest, first_at, none_first}
 use Rattle.cw_procs.proofs.OneWorld.{no_fork}
@@ -45,8 +45,8 @@ module _ (names : Names) (g : Game) (t : Table) (plan : Plan) (forks : List ℕ)
   abbrev problem : Problem
   problem = record { plan = plan; policy = g.policy }
 
-  abbrev Seg : World → List Word → List ℕ → World → Type 0
-  Seg w words text after = Segment names problem t forks w words text after
+  abbrev Seg : World → List Entry → List ℕ → World → Type 0
+  Seg w entries text after = Segment names problem t forks w entries text after
 
   module _ (i : ℕ) (from : State) where
     abbrev own : List ℕ → List ℕ
@@ -63,30 +63,30 @@ module _ (names : Names) (g : Game) (t : Table) (plan : Plan) (forks : List ℕ)
     told_is w s next by e =
         ap₂ (λ (a b : Option State). process_lines names problem i (option_map (λ (z : State). z.board) a) by (option_map (λ (z : State). z.board) b)) e (get_set w i s next e)
 
-    -- a step of a run that reads no word is the weaver's
-    weavers_step : (s next : State) (by : Move) (more : List Move) → WovenStep problem t s by next → run_word (turn_of s.board.phase) by ++ more ≡ [] → turn_of s.board.phase ≡ Some Weaver
+    -- a step of a run that reads no entry is the weaver's
+    weavers_step : (s next : State) (by : Move) (more : List Move) → WovenStep problem t s by next → run_entry (turn_of s.board.phase) by ++ more ≡ [] → turn_of s.board.phase ≡ Some Weaver
     weavers_step s next by more h e = on (party_of by) (one_party problem s.board by next.board h.0)
       where
         on : (who : Party) → turn_of s.board.phase ≡ Some who → turn_of s.board.phase ≡ Some Weaver
         on Weaver k = k
-        on Environment k = let z = sym (ap (λ o. run_word o by ++ more) k) ∙ e in cc
+        on Environment k = let z = sym (ap (λ o. run_entry o by ++ more) k) ∙ e in cc
 
-    no_more : (s next : State) (by : Move) (more : List Move) → turn_of s.board.phase ≡ Some Weaver → run_word (turn_of s.board.phase) by ++ more ≡ [] → more ≡ []
-    no_more s next by more turn e = sym (ap (λ o. run_word o by ++ more) turn) ∙ e
+    no_more : (s next : State) (by : Move) (more : List Move) → turn_of s.board.phase ≡ Some Weaver → run_entry (turn_of s.board.phase) by ++ more ≡ [] → more ≡ []
+    no_more s next by more turn e = sym (ap (λ o. run_entry o by ++ more) turn) ∙ e
 
     -- The weaver's steps.
-    pub weaves : (w : World) (s : State) (steps : List RunStep) → slice_get w i ≡ Some s → Follows problem t s steps → run_words s steps ≡ [] → NoneBefore w i
+    pub weaves : (w : World) (s : State) (steps : List RunStep) → slice_get w i ≡ Some s → Follows problem t s steps → run_entries s steps ≡ [] → NoneBefore w i
         → Seg w [] (trace s steps) (set w i (state_after s steps))
     weaves w s [] gets h e before = subst (λ z. Seg w [] [] z) (sym (set_same w i s gets)) (none names problem t forks w)
     weaves w s (step ∷ later) gets h e before =
-        let turn = weavers_step s step.next step.by (run_words step.next later) h.0 e in
+        let turn = weavers_step s step.next step.by (run_entries step.next later) h.0 e in
         let at = turn_weavers s.board.phase turn in
         let w2 = set w i step.next in
         let move : WorldStep problem t forks w i (Makes step.by) w2 = (s, step.next, gets, no_fork forks s.board.phase s.board.stack at, h.0, refl) in
         let first = one names problem t forks w w2 i (Makes step.by) (Some i) (first_at w i s gets at before) move refl in
         let first2 = subst (λ l. Seg w [] l w2) (told_is w s step.next step.by gets) first in
         let rest =
-        weaves w2 step.next later (get_set w i s step.next gets) h.1 (no_more s step.next step.by (run_words step.next later) turn e)
+        weaves w2 step.next later (get_set w i s step.next gets) h.1 (no_more s step.next step.by (run_entries step.next later) turn e)
         (λ k z lt g2. before k z lt (get_other w i k step.next z lt g2)) in
         subst (λ z. Seg w [] (lines s.board step.by step.next.board ++ trace step.next later) z) (set_twice w i step.next (state_after step.next later))
         (then_on names problem t forks w w2 (set w2 i (state_after step.next later)) [] [] (lines s.board step.by step.next.board) (trace step.next later) first2 rest)
@@ -98,7 +98,7 @@ module _ (names : Names) (g : Game) (t : Table) (plan : Plan) (forks : List ℕ)
       pub is : steps ≡ record { by = by; next = next } ∷ later
       pub step : WovenStep problem t s by next
       pub follows : Follows problem t next later
-      pub quiet : run_words next later ≡ []
+      pub quiet : run_entries next later ≡ []
 
     same_head : (x y : Move) (xs ys : List Move) → x ∷ xs ≡ y ∷ ys → (x ≡ y) × (xs ≡ ys)
     same_head x y xs ys e = (ap (head_or x) e, ap tail_of e)
@@ -111,10 +111,10 @@ module _ (names : Names) (g : Game) (t : Table) (plan : Plan) (forks : List ℕ)
         tail_of [] = []
         tail_of (m ∷ ms) = ms
 
-    pub answered : (s : State) (by : Move) (steps : List RunStep) → turn_of s.board.phase ≡ Some Environment → Follows problem t s steps → run_words s steps ≡ by ∷ [] → Answered s by steps
+    pub answered : (s : State) (by : Move) (steps : List RunStep) → turn_of s.board.phase ≡ Some Environment → Follows problem t s steps → run_entries s steps ≡ by ∷ [] → Answered s by steps
     answered s by [] turn h e = cc
     answered s by (step ∷ later) turn h e =
-        let k = same_head step.by by (run_words step.next later) [] (sym (ap (λ o. run_word o step.by ++ run_words step.next later) turn) ∙ e) in
+        let k = same_head step.by by (run_entries step.next later) [] (sym (ap (λ o. run_entry o step.by ++ run_entries step.next later) turn) ∙ e) in
         record {
           next = step.next;
           later = later;
@@ -126,7 +126,7 @@ module _ (names : Names) (g : Game) (t : Table) (plan : Plan) (forks : List ℕ)
 
     -- A move of the process in the world.
     pub moves_on : (w : World) (s : State) (by : Move) (steps : List RunStep) → slice_get w i ≡ Some s → AllRest w → at_fork forks s.board ≡ false → turn_of s.board.phase ≡ Some Environment
-        → Follows problem t s steps → run_words s steps ≡ by ∷ [] → Seg w (record { process = i; act = Makes by } ∷ []) (trace s steps) (set w i (state_after s steps))
+        → Follows problem t s steps → run_entries s steps ≡ by ∷ [] → Seg w (record { process = i; act = Makes by } ∷ []) (trace s steps) (set w i (state_after s steps))
     moves_on w s by steps gets rest away turn h e =
         let a = answered s by steps turn h e in
         let w2 = set w i a.next in

@@ -20,14 +20,14 @@ use Rattle.cw_model.specs.Runs.{State, WovenStep}
 use Rattle.cw_game.specs.Games.{Game}
 use Rattle.cw_game.proofs.Moves.{step_of}
 use Rattle.cw_trace.specs.Traces.{Names, move_lines, reached_lines, label_lines}
-use Rattle.cw_trace.specs.Steps.{Step as RunStep, Follows, state_after, words_of as run_words}
+use Rattle.cw_trace.specs.Steps.{Step as RunStep, Follows, state_after, entries_of as run_entries}
 use Rattle.cw_run.specs.Lines.{own_of}
 use Rattle.cw_run.proofs.Runs.{own_lines, own_trace}
 use Rattle.cw_worlds.specs.Forks.{at_fork, forks_in}
 use Rattle.cw_worlds.specs.Worlds.{World, Forks}
 use Rattle.cw_worlds.proofs.Meeting.{ForkItem, fork_if, fork_test, fork_item, board_on}
 use Rattle.cw_worlds.proofs.Sets.{among_set}
-use Rattle.cw_procs.specs.Steps.{Word, is_weavers_in}
+use Rattle.cw_procs.specs.Steps.{Entry, is_weavers_in}
 use Rattle.cw_procs.specs.Told.{fork_line}
 use Rattle.cw_procs.proofs.First.{NoneBefore, AllRest, none_first}
 use Rattle.cw_procs.proofs.Segments.{Segment, then_on, one}
@@ -69,8 +69,8 @@ module _ (names : Names) (g : Game) (t : Table) (plan : Plan) (forks : List ℕ)
   abbrev problem : Problem
   problem = record { plan = plan; policy = g.policy }
 
-  abbrev Seg : World → List Word → List ℕ → World → Type 0
-  Seg w words text after = Segment names problem t forks w words text after
+  abbrev Seg : World → List Entry → List ℕ → World → Type 0
+  Seg w entries text after = Segment names problem t forks w entries text after
 
   -- A fork tells nothing of its own.
   fork_moves : (stack : List Frame) (kept : List (Option Caps)) (caps : Caps) (word : Letters) (phase : Phase) (by : Move) → forks_in forks phase stack ≡ true
@@ -104,14 +104,14 @@ module _ (names : Names) (g : Game) (t : Table) (plan : Plan) (forks : List ℕ)
 
   -- The fork, with the moves of the weaver after it.
   pub forks_on : (i : ℕ) (from : State) (w : World) (s : State) (rights lefts : List RunStep) → slice_get w i ≡ Some s → AllRest w → at_fork forks s.board ≡ true
-      → turn_of s.board.phase ≡ Some Environment → Follows problem t s rights → run_words s rights ≡ Right ∷ [] → Follows problem t s lefts → run_words s lefts ≡ Left ∷ []
+      → turn_of s.board.phase ≡ Some Environment → Follows problem t s rights → run_entries s rights ≡ Right ∷ [] → Follows problem t s lefts → run_entries s lefts ≡ Left ∷ []
       → is_weavers_in (state_after s rights).board.phase ≡ false
       → Seg w (record { process = i; act = Forks } ∷ [])
       (fork_line i (length w) ++ (own_trace names g t plan from (own_of (Some i)) s rights ++ own_trace names g t plan from (own_of (Some (length w))) s lefts))
       (set w i (state_after s rights) ++ state_after s lefts ∷ [])
   forks_on i from w s rights lefts gets rest here turn hr er hl el quiet =
       let n = length w in
-      let word : Word = record { process = i; act = Forks } in
+      let word : Entry = record { process = i; act = Forks } in
       let a = answered names g t plan forks i from s Right rights turn hr er in
       let b = answered names g t plan forks n from s Left lefts turn hl el in
       let sp = state_after s rights in

@@ -45,8 +45,8 @@ use Rattle.cw_run.proofs.Sits.{Sits, Least}
 use Rattle.cw_steps.specs.declared.step.Step.{Step as StepData}
 use Rattle.cw_items.proofs.Fronts.{fronts_are_of_points}
 use Rattle.cw_worlds.specs.Forks.{fork_places, is_fork_item, forks_in as forks_at_front, at_fork}
-use Rattle.cw_procs.specs.Steps.{Word, End, Done, BadStep}
-use Rattle.cw_procs.specs.Played.{word_of, TellsWorld}
+use Rattle.cw_procs.specs.Steps.{Entry, End, Done, BadStep}
+use Rattle.cw_procs.specs.Played.{entry_of, TellsWorld}
 use Rattle.cw_procs.specs.Walks.{Link, Process, Cover, IsFlag, Acted, one_if}
 use Rattle.cw_procs.proofs.Keeping.{Keeps, begins, went_on, done, bad}
 
@@ -57,11 +57,11 @@ plan_here h source file = plan_of (names_of (policy_of h.states.policy)) source 
 one_more : (steps : List StepData) (i : ℕ) (s : StepData) → i < length steps → s ≡ get_or steps i s → take (i + 1) steps ≡ take i steps ++ s ∷ []
 one_more steps i s lt is = take_more steps i s lt ∙ ap (λ w. take i steps ++ w ∷ []) (sym is)
 
-words_taken : (steps : List StepData) (i : ℕ) → take i (map word_of steps) ≡ map word_of (take i steps)
-words_taken [] zero = refl
-words_taken [] (suc i) = refl
-words_taken (s ∷ steps) zero = refl
-words_taken (s ∷ steps) (suc i) = ap (λ l. word_of s ∷ l) (words_taken steps i)
+entries_taken : (steps : List StepData) (i : ℕ) → take i (map entry_of steps) ≡ map entry_of (take i steps)
+entries_taken [] zero = refl
+entries_taken [] (suc i) = refl
+entries_taken (s ∷ steps) zero = refl
+entries_taken (s ∷ steps) (suc i) = ap (λ l. entry_of s ∷ l) (entries_taken steps i)
 
 -- how many of some kind there are so far
 pub room_for : (kind : StepData → Bool) (steps : List StepData) (i : ℕ) (s : StepData) (have room spare total : ℕ) → i < length steps → s ≡ get_or steps i s
@@ -159,48 +159,48 @@ module _ (h : Held) (source : List ℕ) (file : File) (t : Table) (names : Names
       (ap (λ (l : List Bool). slice_get l point) (sym marked) ∙ is) in
       fork_told g forks s.board.stack s.board.kept s.board.caps s.board.word s.board.phase here.pos here.state (map ret_of waits) k.0 sits.stands k.1 ∙ k.2
 
-  abbrev Kept : List Word → List Process → List Link → List ℕ → List ℕ → Type 0
-  Kept words ps links old new = Keeps names g t plan forks words ps links old new
+  abbrev Kept : List Entry → List Process → List Link → List ℕ → List ℕ → Type 0
+  Kept entries ps links old new = Keeps names g t plan forks entries ps links old new
 
   pub loop_begun : (here : Here) (ps : List Process) (links : List Link) (old new : List ℕ) → Arrives names g t held (own_of (Some 0)) (start_here g t) here old new
-      → ps ≡ record { place = Some here; calls = None } ∷ [] → links ≡ [] → Kept [] ps links old new
+      → ps ≡ record { landing = Some here; calls = None } ∷ [] → links ≡ [] → Kept [] ps links old new
   loop_begun here ps links old new a ep el =
       subst (λ l. Kept [] ps l old new) (sym el) (subst (λ l. Kept [] l [] old new) (sym ep)
       (begins names g t plan of.states of.laid of.routines held holds forks safe (IsFlag h flags) flagged here old new a))
 
   pub loop_went : (steps : List StepData) (i : ℕ) (s : StepData) (ps ps2 : List Process) (links links2 : List Link) (old mid new : List ℕ) (b : Bool) → i < length steps
       → s ≡ get_or steps i s → b ≡ true
-      → Kept (map word_of (take i steps)) ps links old mid
-      → Acted names g t held (IsFlag h flags) s.process s.fork s.by b ps ps2 links links2 mid new → Kept (map word_of (take (i + 1) steps)) ps2 links2 old new
+      → Kept (map entry_of (take i steps)) ps links old mid
+      → Acted names g t held (IsFlag h flags) s.process s.fork s.by b ps ps2 links links2 mid new → Kept (map entry_of (take (i + 1) steps)) ps2 links2 old new
   loop_went steps i s ps ps2 links links2 old mid new b lt is eb k a =
       let a2 = subst (λ y. Acted names g t held (IsFlag h flags) s.process s.fork s.by y ps ps2 links links2 mid new) eb a in
-      let e : map word_of (take i steps) ++ word_of s ∷ [] ≡ map word_of (take (i + 1) steps) =
-      sym (ap (map word_of) (one_more steps i s lt is) ∙ map-append word_of (take i steps) (s ∷ [])) in
+      let e : map entry_of (take i steps) ++ entry_of s ∷ [] ≡ map entry_of (take (i + 1) steps) =
+      sym (ap (map entry_of) (one_more steps i s lt is) ∙ map-append entry_of (take i steps) (s ∷ [])) in
       subst (λ l. Kept l ps2 links2 old new) e
-      (went_on names g t plan of.states of.laid of.routines held holds forks safe (IsFlag h flags) flagged (map word_of (take i steps)) ps ps2 links links2 old mid new s.process s.fork s.by k a2)
+      (went_on names g t plan of.states of.laid of.routines held holds forks safe (IsFlag h flags) flagged (map entry_of (take i steps)) ps ps2 links links2 old mid new s.process s.fork s.by k a2)
 
   abbrev Tells : List StepData → End → List ℕ → List ℕ → Type 0
-  Tells steps end old new = TellsWorld (problem_of policy source file) (trace_names_of source file plan) t forks (map word_of steps) end old new
+  Tells steps end old new = TellsWorld (problem_of policy source file) (trace_names_of source file plan) t forks (map entry_of steps) end old new
 
-  named : (steps : List StepData) (end : End) (old new : List ℕ) → names ≡ trace_names_of source file plan → TellsWorld (problem_of policy source file) names t forks (map word_of steps) end old new
+  named : (steps : List StepData) (end : End) (old new : List ℕ) → names ≡ trace_names_of source file plan → TellsWorld (problem_of policy source file) names t forks (map entry_of steps) end old new
       → Tells steps end old new
-  named steps end old new e k = subst (λ ns. TellsWorld (problem_of policy source file) ns t forks (map word_of steps) end old new) e k
+  named steps end old new e k = subst (λ ns. TellsWorld (problem_of policy source file) ns t forks (map entry_of steps) end old new) e k
 
   pub loop_bad : (steps : List StepData) (i : ℕ) (s : StepData) (ps ps2 : List Process) (links links2 : List Link) (old mid new : List ℕ) (b : Bool) → names ≡ trace_names_of source file plan
-      → i < length steps → s ≡ get_or steps i s → b ≡ false → Kept (map word_of (take i steps)) ps links old mid
+      → i < length steps → s ≡ get_or steps i s → b ≡ false → Kept (map entry_of (take i steps)) ps links old mid
       → Acted names g t held (IsFlag h flags) s.process s.fork s.by b ps ps2 links links2 mid new → Tells steps (BadStep i) old new
   loop_bad steps i s ps ps2 links links2 old mid new b e lt is eb k a =
       let a2 = subst (λ y. Acted names g t held (IsFlag h flags) s.process s.fork s.by y ps ps2 links links2 mid new) eb a in
       named steps (BadStep i) old new e
-      (subst (λ l. TellsWorld (problem_of policy source file) names t forks (map word_of steps) (BadStep i) old l) (sym a2.1)
-      (bad names g t plan of.states of.laid of.routines held holds forks safe (IsFlag h flags) flagged (map word_of steps) i ps links old mid s.process s.fork s.by
-      (subst (λ l. Kept l ps links old mid) (sym (words_taken steps i)) k)
-      (slice_get-map word_of steps i ∙ ap (option_map word_of) (slice_get_read steps (length steps) i s refl lt is)) a2.0))
+      (subst (λ l. TellsWorld (problem_of policy source file) names t forks (map entry_of steps) (BadStep i) old l) (sym a2.1)
+      (bad names g t plan of.states of.laid of.routines held holds forks safe (IsFlag h flags) flagged (map entry_of steps) i ps links old mid s.process s.fork s.by
+      (subst (λ l. Kept l ps links old mid) (sym (entries_taken steps i)) k)
+      (slice_get-map entry_of steps i ∙ ap (option_map entry_of) (slice_get_read steps (length steps) i s refl lt is)) a2.0))
 
   pub loop_done : (steps : List StepData) (i : ℕ) (ps : List Process) (links : List Link) (old new : List ℕ) (n : ℕ) → names ≡ trace_names_of source file plan → length steps ≤ i → n ≡ length ps
-      → Kept (map word_of (take i steps)) ps links old new → Tells steps (Done n) old new
+      → Kept (map entry_of (take i steps)) ps links old new → Tells steps (Done n) old new
   loop_done steps i ps links old new n e le en k =
       named steps (Done n) old new e
-      (subst (λ m. TellsWorld (problem_of policy source file) names t forks (map word_of steps) (Done m) old new) (sym en)
-      (done names g t plan of.states of.laid of.routines held holds forks safe (IsFlag h flags) flagged (map word_of steps) ps links old new
-      (subst (λ l. Kept (map word_of l) ps links old new) (take_all i steps le) k)))
+      (subst (λ m. TellsWorld (problem_of policy source file) names t forks (map entry_of steps) (Done m) old new) (sym en)
+      (done names g t plan of.states of.laid of.routines held holds forks safe (IsFlag h flags) flagged (map entry_of steps) ps links old new
+      (subst (λ l. Kept (map entry_of l) ps links old new) (take_all i steps le) k)))

@@ -4,15 +4,15 @@ use Rattle.cw_certs.specs.Tables.{Table}
 use Rattle.cw_model.specs.Boards.{Problem}
 use Rattle.cw_trace.specs.Traces.{Names}
 use Rattle.cw_worlds.specs.Worlds.{World, Act, WorldStep, Step, Goes, world_after}
-use Rattle.cw_procs.specs.Steps.{Word, weavers_first, IsInTurn, AreInTurn, word_by, words_of}
+use Rattle.cw_procs.specs.Steps.{Entry, weavers_first, IsInTurn, AreInTurn, entry_by, entries_of}
 use Rattle.cw_procs.specs.Told.{told, world_trace}
 
 module _ (names : Names) (p : Problem) (t : Table) (forks : List ℕ) where
-  pub record Segment (w : World) (words : List Word) (text : List ℕ) (after : World) : Type 0 where
+  pub record Segment (w : World) (entries : List Entry) (text : List ℕ) (after : World) : Type 0 where
     pub steps : List Step
     pub goes : Goes p t forks w steps
     pub turns : AreInTurn w steps
-    pub reads : words_of w steps ≡ words
+    pub reads : entries_of w steps ≡ entries
     pub tells : world_trace names p w steps ≡ text
     pub comes : world_after w steps ≡ after
 
@@ -27,11 +27,11 @@ module _ (names : Names) (p : Problem) (t : Table) (forks : List ℕ) where
   turns_on w [] more h k = k
   turns_on w (s ∷ steps) more h k = (h.0, turns_on s.next steps more h.1 k)
 
-  words_on : (w : World) (steps more : List Step) → words_of w (steps ++ more) ≡ words_of w steps ++ words_of (world_after w steps) more
-  words_on w [] more = refl
-  words_on w (s ∷ steps) more =
-      ap (λ l. word_by (weavers_first w) s ++ l) (words_on s.next steps more)
-      ∙ sym (append_assoc (word_by (weavers_first w) s) (words_of s.next steps) (words_of (world_after s.next steps) more))
+  entries_on : (w : World) (steps more : List Step) → entries_of w (steps ++ more) ≡ entries_of w steps ++ entries_of (world_after w steps) more
+  entries_on w [] more = refl
+  entries_on w (s ∷ steps) more =
+      ap (λ l. entry_by (weavers_first w) s ++ l) (entries_on s.next steps more)
+      ∙ sym (append_assoc (entry_by (weavers_first w) s) (entries_of s.next steps) (entries_of (world_after s.next steps) more))
 
   told_on : (w : World) (steps more : List Step) → world_trace names p w (steps ++ more) ≡ world_trace names p w steps ++ world_trace names p (world_after w steps) more
   told_on w [] more = refl
@@ -44,28 +44,28 @@ module _ (names : Names) (p : Problem) (t : Table) (forks : List ℕ) where
   after_on w (s ∷ steps) more = after_on s.next steps more
 
   -- One after the other.
-  pub then_on : (w x y : World) (words more : List Word) (text added : List ℕ) → Segment w words text x → Segment x more added y → Segment w (words ++ more) (text ++ added) y
-  then_on w x y words more text added h k =
+  pub then_on : (w x y : World) (entries more : List Entry) (text added : List ℕ) → Segment w entries text x → Segment x more added y → Segment w (entries ++ more) (text ++ added) y
+  then_on w x y entries more text added h k =
       let k2 = subst (λ z. Segment z more added y) (sym h.comes) k in
       record {
         steps = h.steps ++ k2.steps;
         goes = goes_on w h.steps k2.steps h.goes k2.goes;
         turns = turns_on w h.steps k2.steps h.turns k2.turns;
-        reads = words_on w h.steps k2.steps ∙ ap₂ (λ l m. l ++ m) h.reads k2.reads;
+        reads = entries_on w h.steps k2.steps ∙ ap₂ (λ l m. l ++ m) h.reads k2.reads;
         tells = told_on w h.steps k2.steps ∙ ap₂ (λ l m. l ++ m) h.tells k2.tells;
         comes = after_on w h.steps k2.steps ∙ k2.comes;
       }
 
-  -- One step, as a word of the list where no weaver moves.
+  -- One step, as an entry of the list where no weaver moves.
   pub one : (w next : World) (i : ℕ) (act : Act) (first : Option ℕ) → weavers_first w ≡ first → WorldStep p t forks w i act next → IsInTurn first i
-      → Segment w (word_by first (record { process = i; act = act; next = next })) (told names p w i act next) next
+      → Segment w (entry_by first (record { process = i; act = act; next = next })) (told names p w i act next) next
   one w next i act first e h turn =
       let step : Step = record { process = i; act = act; next = next } in
       record {
         steps = step ∷ [];
         goes = (h, tt);
         turns = (subst (λ o. IsInTurn o i) (sym e) turn, tt);
-        reads = append-nil (word_by (weavers_first w) step) ∙ ap (λ o. word_by o step) e;
+        reads = append-nil (entry_by (weavers_first w) step) ∙ ap (λ o. entry_by o step) e;
         tells = append-nil (told names p w i act next);
         comes = refl;
       }

@@ -8,7 +8,7 @@ use Rattle.cw_steps.specs.declared.step.Step.{Step as StepData}
 use Rattle.cw_worlds.specs.Worlds.{Act, Makes, Forks, Step, start_world}
 use Rattle.cw_procs.specs.declared.world.WorldEnd.{WorldEnd}
 use Rattle.cw_procs.specs.declared.world.WorldEnd.TheVariants as world_end
-use Rattle.cw_procs.specs.Steps.{Word, End, Done, BadStep, IsWorldBy}
+use Rattle.cw_procs.specs.Steps.{Entry, End, Done, BadStep, IsWorldBy}
 use Rattle.cw_procs.specs.Told.{world_trace}
 
 -- what the program's data stand for
@@ -20,11 +20,11 @@ abbrev pub act_of : Bool → Move → Act
 act_of true by = Forks
 act_of false by = Makes by
 
-abbrev pub word_of : StepData → Word
-word_of s = record { process = s.process; act = act_of s.fork s.by }
+abbrev pub entry_of : StepData → Entry
+entry_of s = record { process = s.process; act = act_of s.fork s.by }
 
 -- These bytes were appended: the trace of the world by the list of steps, which ends so.
-pub record TellsWorld (p : Problem) (names : Names) (t : Table) (forks : List ℕ) (list : List Word) (end : End) (old new : List ℕ) : Type 0 where
+pub record TellsWorld (p : Problem) (names : Names) (t : Table) (forks : List ℕ) (list : List Entry) (end : End) (old new : List ℕ) : Type 0 where
   pub steps : List Step
   pub world : IsWorldBy p t forks list end steps
   pub told : new ≡ old ++ world_trace names p (start_world p t) steps

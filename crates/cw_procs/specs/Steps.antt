@@ -6,7 +6,7 @@ use Rattle.cw_model.specs.Boards.{Problem, Phase, Visit, Refused}
 use Rattle.cw_worlds.specs.Worlds.{World, Act, WorldStep, Step, Goes, world_after, start_world}
 
 -- What a line of the list says: a process, and what it does.
-pub record Word : Type 0 where
+pub record Entry : Type 0 where
   pub process : ℕ
   pub act : Act
 
@@ -29,33 +29,33 @@ abbrev pub AreInTurn : World → List Step → Type 0
 AreInTurn w [] = Unit {0}
 AreInTurn w (s ∷ later) = IsInTurn (weavers_first w) s.process × AreInTurn s.next later
 
--- the step as a word of the list, where no weaver moves
-abbrev pub word_by : Option ℕ → Step → List Word
-word_by None s = record { process = s.process; act = s.act } ∷ []
-word_by (Some j) s = []
+-- the step as an entry of the list, where no weaver moves
+abbrev pub entry_by : Option ℕ → Step → List Entry
+entry_by None s = record { process = s.process; act = s.act } ∷ []
+entry_by (Some j) s = []
 
 -- the steps that the environment makes, in order
-abbrev pub words_of : World → List Step → List Word
-words_of w [] = []
-words_of w (s ∷ later) = word_by (weavers_first w) s ++ words_of s.next later
+abbrev pub entries_of : World → List Step → List Entry
+entries_of w [] = []
+entries_of w (s ∷ later) = entry_by (weavers_first w) s ++ entries_of s.next later
 
--- How a world by a list ends: after all steps, with so many processes; or at the word with this number, from 0, which is no step of the world.
+-- How a world by a list ends: after all steps, with so many processes; or at the entry with this number, from 0, which is no step of the world.
 pub data End : Type 0 where
   Done : ℕ → End
   BadStep : ℕ → End
 
-abbrev pub IsNoStep : Problem → Table → List ℕ → World → Word → Type 0
-IsNoStep p t forks w word = (next : World) → WorldStep p t forks w word.process word.act next → ⊥
+abbrev pub IsNoStep : Problem → Table → List ℕ → World → Entry → Type 0
+IsNoStep p t forks w entry = (next : World) → WorldStep p t forks w entry.process entry.act next → ⊥
 
 -- what has been read of the list, and what holds where the world ends
-abbrev pub EndsBy : Problem → Table → List ℕ → List Word → End → World → List Word → Type 0
-EndsBy p t forks list (Done n) w words = (words ≡ list) × (n ≡ length w)
-EndsBy p t forks list (BadStep i) w words = (words ≡ take i list) × ((word : Word) × (slice_get list i ≡ Some word) × IsNoStep p t forks w word)
+abbrev pub EndsBy : Problem → Table → List ℕ → List Entry → End → World → List Entry → Type 0
+EndsBy p t forks list (Done n) w entries = (entries ≡ list) × (n ≡ length w)
+EndsBy p t forks list (BadStep i) w entries = (entries ≡ take i list) × ((entry : Entry) × (slice_get list i ≡ Some entry) × IsNoStep p t forks w entry)
 
 -- These are the steps of the world by the list, from the start.
-pub record IsWorldBy (p : Problem) (t : Table) (forks : List ℕ) (list : List Word) (end : End) (steps : List Step) : Type 0 where
+pub record IsWorldBy (p : Problem) (t : Table) (forks : List ℕ) (list : List Entry) (end : End) (steps : List Step) : Type 0 where
   pub goes : Goes p t forks (start_world p t) steps
   pub turns : AreInTurn (start_world p t) steps
-  -- the weaver has made its moves, after the last word too
+  -- the weaver has made its moves, after the last entry too
   pub rests : weavers_first (world_after (start_world p t) steps) ≡ None
-  pub ends : EndsBy p t forks list end (world_after (start_world p t) steps) (words_of (start_world p t) steps)
+  pub ends : EndsBy p t forks list end (world_after (start_world p t) steps) (entries_of (start_world p t) steps)

@@ -7,12 +7,12 @@ use Rattle.cw_certs.specs.Tables.{Table}
 use Rattle.cw_game.specs.Games.{Game}
 use Rattle.cw_product.specs.Moves.{IsPosition}
 use Rattle.cw_product.specs.Product.{Held, game_of}
-use Rattle.cw_product.specs.Places.{IsPointOf}
+use Rattle.cw_product.specs.Sites.{IsPointOf}
 use Rattle.cw_trace.specs.Traces.{Names}
 use Rattle.cw_trace.specs.Told.{lines_at}
 use Rattle.cw_steps.specs.declared.step.Step.{Step as StepData}
 use Rattle.cw_run.specs.Lines.{own_of}
-use Rattle.cw_run.specs.Walks.{Here, Wait, Next, wait_of, place_of, place_in, waits_after, next_here, LandsAt, is_on}
+use Rattle.cw_run.specs.Walks.{Here, Wait, Next, wait_of, landing_of, landing_in, waits_after, next_here, LandsAt, is_on}
 use Rattle.cw_procs.specs.Told.{fork_line}
 use Rattle.cw_procs.specs.declared.stacks.Link.{Link as LinkData}
 use Rattle.cw_procs.specs.declared.world.Process.{Process as ProcessData}
@@ -39,17 +39,17 @@ AreKept links more = (calls : Option ℕ) (ws : List Wait) → Stack links calls
 
 -- A process: where it is, none where it is over, and its calls that wait.
 pub record Process : Type 0 where
-  pub place : Option Here
+  pub landing : Option Here
   pub calls : Option ℕ
 
 abbrev pub process_of : ProcessData → Process
-process_of p = record { place = place_in p.place; calls = p.calls }
+process_of p = record { landing = landing_in p.landing; calls = p.calls }
 
 -- The process goes on where a move leads: its calls that wait, and what is told.
 pub record Moved (names : Names) (g : Game) (t : Table) (held : ℕ → Caps) (own : List ℕ → List ℕ) (h : Here) (by : Move) (n : Next) (calls : Option ℕ) (links links2 : List Link) (p : Process)
     (old new : List ℕ) : Type 0 where
   pub stacks : (waits : List Wait) → Stack links calls waits → Stack links2 p.calls (waits_after n waits)
-  pub lands : LandsAt names g t held own n (place_of n) p.place (old ++ own (lines_at names g.policy g.main (slice_get g.spots h.pos) by)) new
+  pub lands : LandsAt names g t held own n (landing_of n) p.landing (old ++ own (lines_at names g.policy g.main (slice_get g.spots h.pos) by)) new
 
 -- where a move leads, whatever the calls that wait are
 abbrev pub LeadsTo : Game → Table → Here → Option ℕ → List Link → Move → Option Next → Type 0
@@ -88,18 +88,18 @@ IsFlag held flags h b = (point : ℕ) × IsPointOf held h.pos point × (slice_ge
 -- Why a step is none of the world.
 pub data IsNone (g : Game) (t : Table) (Flag : Here → Bool → Type 0) (i : ℕ) (fork : Bool) (by : Move) (ps : List Process) (links : List Link) : Type 0 where
   absent : slice_get ps i ≡ None → IsNone g t Flag i fork by ps links
-  over : (p : Process) → slice_get ps i ≡ Some p → p.place ≡ None → IsNone g t Flag i fork by ps links
-  other : (p : Process) (h : Here) → slice_get ps i ≡ Some p → p.place ≡ Some h → Flag h (not fork) → IsNone g t Flag i fork by ps links
-  stuck : (p : Process) (h : Here) → slice_get ps i ≡ Some p → p.place ≡ Some h → fork ≡ false → LeadsTo g t h p.calls links by None → IsNone g t Flag i fork by ps links
-  unforked : (p : Process) (h : Here) → slice_get ps i ≡ Some p → p.place ≡ Some h → fork ≡ true
+  over : (p : Process) → slice_get ps i ≡ Some p → p.landing ≡ None → IsNone g t Flag i fork by ps links
+  other : (p : Process) (h : Here) → slice_get ps i ≡ Some p → p.landing ≡ Some h → Flag h (not fork) → IsNone g t Flag i fork by ps links
+  stuck : (p : Process) (h : Here) → slice_get ps i ≡ Some p → p.landing ≡ Some h → fork ≡ false → LeadsTo g t h p.calls links by None → IsNone g t Flag i fork by ps links
+  unforked : (p : Process) (h : Here) → slice_get ps i ≡ Some p → p.landing ≡ Some h → fork ≡ true
       → LeadsTo g t h p.calls links Right None ⊎ LeadsTo g t h p.calls links Left None → IsNone g t Flag i fork by ps links
 
 -- What a step leaves of the processes, the links and the text.
 pub data IsStep (names : Names) (g : Game) (t : Table) (held : ℕ → Caps) (Flag : Here → Bool → Type 0) (i : ℕ) (fork : Bool) (by : Move) (ps ps2 : List Process) (links links2 : List Link)
     (old new : List ℕ) : Type 0 where
-  moves : (p q : Process) (h : Here) (n : Next) → slice_get ps i ≡ Some p → p.place ≡ Some h → Flag h false → fork ≡ false → LeadsTo g t h p.calls links by (Some n) → AreKept links links2
+  moves : (p q : Process) (h : Here) (n : Next) → slice_get ps i ≡ Some p → p.landing ≡ Some h → Flag h false → fork ≡ false → LeadsTo g t h p.calls links by (Some n) → AreKept links links2
       → Moved names g t held (own_of (Some i)) h by n p.calls links links2 q old new → ps2 ≡ set ps i q → IsStep names g t held Flag i fork by ps ps2 links links2 old new
-  forks : (mid : List Link) (half : List ℕ) (p q r : Process) (h : Here) (n m : Next) → slice_get ps i ≡ Some p → p.place ≡ Some h → Flag h true → fork ≡ true
+  forks : (mid : List Link) (half : List ℕ) (p q r : Process) (h : Here) (n m : Next) → slice_get ps i ≡ Some p → p.landing ≡ Some h → Flag h true → fork ≡ true
       → LeadsTo g t h p.calls links Right (Some n) → LeadsTo g t h p.calls links Left (Some m) → AreKept links mid → AreKept mid links2
       → Moved names g t held (own_of (Some i)) h Right n p.calls links mid q (old ++ fork_line i (length ps)) half
       → Moved names g t held (own_of (Some (length ps))) h Left m p.calls mid links2 r half new → ps2 ≡ set ps i q ++ r ∷ []

@@ -22,7 +22,7 @@ pub(crate) fn innermost(links: &[Link], calls: Option<u32>) -> Option<Wait>
 {
     match calls {
         None => None,
-        Some(place) => match links.get(place as usize) {
+        Some(landing) => match links.get(landing as usize) {
             None => None,
             Some(link) => Some(link.wait),
         },
@@ -35,7 +35,7 @@ fn below(links: &[Link], calls: Option<u32>) -> Option<u32>
 {
     match calls {
         None => None,
-        Some(place) => match links.get(place as usize) {
+        Some(landing) => match links.get(landing as usize) {
             None => None,
             Some(link) => link.below,
         },
@@ -52,9 +52,9 @@ fn wait_for(links: &mut Vec<Link>, calls: Option<u32>, wait: Wait) -> Option<u32
     ensures length { vec_len links.new ≡ vec_len links.old + 1 }
     ensures capacity { vec_capacity links.new ≡ vec_capacity links.old }
 {
-    let place = links.as_slice().len() as u32;
+    let landing = links.as_slice().len() as u32;
     links.push_reserved(Link { wait, below: calls });
-    Some(place)
+    Some(landing)
 }
 
 /// The calls that wait after a move.

@@ -16,12 +16,12 @@ ghost use Rattle.cw_product.specs.Uses.{uses_of};
 ghost use Rattle.cw_model.specs.Boards.{problem_of};
 ghost use Rattle.cw_game.specs.Conditions.{IsGoodTable};
 ghost use Rattle.cw_io.specs.Written.{Follows};
-ghost use Rattle.cw_trace.specs.Labels.{told, names_of as trace_names_of};
+ghost use Rattle.cw_trace.specs.Labels.{name_lists, names_of as trace_names_of};
 ghost use Rattle.cw_run.specs.Lines.{own_of};
-ghost use Rattle.cw_run.specs.Walks.{here_of, wait_of, next_is, place_in, entered, enters, IsHere, IsWait, IsPlace, IsNextIn};
+ghost use Rattle.cw_run.specs.Walks.{here_of, wait_of, next_is, landing_in, entered, enters, IsHere, IsWait, IsLanding, IsNextIn};
 ghost use Rattle.cw_worlds.specs.Forks.{fork_places};
 ghost use Rattle.cw_procs.specs.Told.{fork_line};
-ghost use Rattle.cw_procs.specs.Played.{end_of, word_of, TellsWorld};
+ghost use Rattle.cw_procs.specs.Played.{end_of, entry_of, TellsWorld};
 ghost use Rattle.cw_procs.specs.Walks.{links_of, process_of, AreKept, Moved, LeadsTo, MovesBy, Parts, ForksBy, Cover, IsFlag, Acted, is_fork, is_entry, forks_in, entries_in, one_if};
 
 use crate::stacks::{Link, follow, innermost};
@@ -30,7 +30,7 @@ use cw_core::NoMemory;
 use cw_io::{Sink, Writer};
 use cw_items::fork_points;
 use cw_product::Game;
-use cw_run::{Here, Next, Place, begin, land, lead, put_own_move};
+use cw_run::{Here, Landing, Next, begin, land, lead, put_own_move};
 use cw_steps::Step;
 use cw_syntax::checked::Checked;
 use cw_trace::{Names, trace_names};
@@ -48,7 +48,7 @@ pub enum WorldEnd {
 /// A process: where it is, and its calls that wait.
 #[derive(Clone, Copy, Drop)]
 pub(crate) struct Process {
-    pub place: Place,
+    pub landing: Landing,
     pub calls: Option<u32>,
 }
 
@@ -86,7 +86,7 @@ fn forks_at(game: &Game, flags: &[bool], here: Here) -> bool
     requires flags { Cover game.now flags.now }
     ensures flag { IsFlag game.now flags.now (here_of here) result }
 {
-    flags[game.place(here.pos).point.0 as usize]
+    flags[game.site(here.pos).point.0 as usize]
 }
 
 /// Puts `PROCESS fork CHILD`.
@@ -147,9 +147,9 @@ fn go<S: Sink>(
     requires room { vec_len links.old + entered (next_is next) ≤ vec_capacity links.old }
     requires few { vec_len links.old < 2 ^ 32 }
     requires follows { Follows S.taken S.faults S.refused writer.old out.old }
-    ensures moved { Moved (told names.now) (game_of game.now) table.now (caps_at (lists_of game.now.states)) (own_of (Some number)) (here_of here) by (next_is next) calls
+    ensures moved { Moved (name_lists names.now) (game_of game.now) table.now (caps_at (lists_of game.now.states)) (own_of (Some number)) (here_of here) by (next_is next) calls
         (links_of links.old.items) (links_of links.new.items) (process_of result) writer.old.text writer.new.text }
-    ensures range { IsPlace (game_of game.now) (place_in result.place) }
+    ensures range { IsLanding (game_of game.now) (landing_in result.landing) }
     ensures kept { AreKept (links_of links.old.items) (links_of links.new.items) }
     ensures links { All (λ l. IsWait (game_of game.now) (wait_of l.wait)) links.new.items }
     ensures length { vec_len links.new ≡ vec_len links.old + entered (next_is next) }
@@ -169,8 +169,8 @@ fn go<S: Sink>(
         out,
     );
     let calls = follow(links, calls, next);
-    let place = land(game, table, names, Some(number), next, writer, out);
-    Process { place, calls }
+    let landing = land(game, table, names, Some(number), next, writer, out);
+    Process { landing, calls }
 }
 
 /// A move of the process with this number: the process after it, or none where it is no move there.
@@ -191,9 +191,9 @@ fn move_one<S: Sink>(
     requires room { vec_len links.old + enters by ≤ vec_capacity links.old }
     requires few { vec_len links.old < 2 ^ 32 }
     requires follows { Follows S.taken S.faults S.refused writer.old out.old }
-    ensures moves { MovesBy (told names.now) (game_of game.now) table.now (caps_at (lists_of game.now.states)) number (here_of here) calls by (option_map process_of result)
+    ensures moves { MovesBy (name_lists names.now) (game_of game.now) table.now (caps_at (lists_of game.now.states)) number (here_of here) calls by (option_map process_of result)
         (links_of links.old.items) (links_of links.new.items) writer.old.text writer.new.text }
-    ensures range { IfSome result (λ p. IsPlace (game_of game.now) (place_in p.place)) }
+    ensures range { IfSome result (λ p. IsLanding (game_of game.now) (landing_in p.landing)) }
     ensures links { All (λ l. IsWait (game_of game.now) (wait_of l.wait)) links.new.items }
     ensures length { vec_len links.new ≤ vec_len links.old + enters by }
     ensures capacity { vec_capacity links.new ≡ vec_capacity links.old }
@@ -232,10 +232,10 @@ fn part<S: Sink>(
     requires room { vec_len links.old ≤ vec_capacity links.old }
     requires few { vec_len links.old < 2 ^ 32 }
     requires follows { Follows S.taken S.faults S.refused writer.old out.old }
-    ensures parts { Parts (told names.now) (game_of game.now) table.now (caps_at (lists_of game.now.states)) number child (here_of here) calls (next_is right) (next_is left)
+    ensures parts { Parts (name_lists names.now) (game_of game.now) table.now (caps_at (lists_of game.now.states)) number child (here_of here) calls (next_is right) (next_is left)
         (process_of result.0) (process_of result.1) (links_of links.old.items) (links_of links.new.items) writer.old.text writer.new.text }
-    ensures parent { IsPlace (game_of game.now) (place_in result.0.place) }
-    ensures child { IsPlace (game_of game.now) (place_in result.1.place) }
+    ensures parent { IsLanding (game_of game.now) (landing_in result.0.landing) }
+    ensures child { IsLanding (game_of game.now) (landing_in result.1.landing) }
     ensures links { All (λ l. IsWait (game_of game.now) (wait_of l.wait)) links.new.items }
     ensures length { vec_len links.new ≡ vec_len links.old }
     ensures capacity { vec_capacity links.new ≡ vec_capacity links.old }
@@ -290,10 +290,10 @@ fn fork_one<S: Sink>(
     requires room { vec_len links.old ≤ vec_capacity links.old }
     requires few { vec_len links.old < 2 ^ 32 }
     requires follows { Follows S.taken S.faults S.refused writer.old out.old }
-    ensures forks { ForksBy (told names.now) (game_of game.now) table.now (caps_at (lists_of game.now.states)) number child (here_of here) calls
+    ensures forks { ForksBy (name_lists names.now) (game_of game.now) table.now (caps_at (lists_of game.now.states)) number child (here_of here) calls
         (option_map (λ two. (process_of two.0, process_of two.1)) result) (links_of links.old.items) (links_of links.new.items) writer.old.text writer.new.text }
-    ensures parent { IfSome result (λ two. IsPlace (game_of game.now) (place_in two.0.place)) }
-    ensures child { IfSome result (λ two. IsPlace (game_of game.now) (place_in two.1.place)) }
+    ensures parent { IfSome result (λ two. IsLanding (game_of game.now) (landing_in two.0.landing)) }
+    ensures child { IfSome result (λ two. IsLanding (game_of game.now) (landing_in two.1.landing)) }
     ensures links { All (λ l. IsWait (game_of game.now) (wait_of l.wait)) links.new.items }
     ensures length { vec_len links.new ≡ vec_len links.old }
     ensures capacity { vec_capacity links.new ≡ vec_capacity links.old }
@@ -327,20 +327,20 @@ fn act_at<S: Sink>(
 ) -> bool
     requires process { slice_get processes.old.items step.process ≡ Some process }
     requires within { step.process < vec_len processes.old }
-    requires place { place_in process.place ≡ Some (here_of here) }
+    requires landing { landing_in process.landing ≡ Some (here_of here) }
     requires here { IsHere (game_of game.now) (here_of here) }
     requires flags { Cover game.now flags.now }
     requires links { All (λ l. IsWait (game_of game.now) (wait_of l.wait)) links.old.items }
-    requires processes { All (λ p. IsPlace (game_of game.now) (place_in p.place)) processes.old.items }
+    requires processes { All (λ p. IsLanding (game_of game.now) (landing_in p.landing)) processes.old.items }
     requires entries { vec_len links.old + one_if (is_entry step) ≤ vec_capacity links.old }
     requires forks { vec_len processes.old + one_if (is_fork step) ≤ vec_capacity processes.old }
     requires few_links { vec_len links.old < 2 ^ 32 }
     requires few_processes { vec_len processes.old < 2 ^ 32 }
     requires follows { Follows S.taken S.faults S.refused writer.old out.old }
-    ensures acted { Acted (told names.now) (game_of game.now) table.now (caps_at (lists_of game.now.states)) (IsFlag game.now flags.now) step.process step.fork step.by result
+    ensures acted { Acted (name_lists names.now) (game_of game.now) table.now (caps_at (lists_of game.now.states)) (IsFlag game.now flags.now) step.process step.fork step.by result
         (map process_of processes.old.items) (map process_of processes.new.items) (links_of links.old.items) (links_of links.new.items) writer.old.text writer.new.text }
     ensures links { All (λ l. IsWait (game_of game.now) (wait_of l.wait)) links.new.items }
-    ensures processes { All (λ p. IsPlace (game_of game.now) (place_in p.place)) processes.new.items }
+    ensures processes { All (λ p. IsLanding (game_of game.now) (landing_in p.landing)) processes.new.items }
     ensures entries { vec_len links.new ≤ vec_len links.old + one_if (is_entry step) }
     ensures forks { vec_len processes.new ≤ vec_len processes.old + one_if (is_fork step) }
     ensures link_room { vec_capacity links.new ≡ vec_capacity links.old }
@@ -419,16 +419,16 @@ fn act<S: Sink>(
 ) -> bool
     requires flags { Cover game.now flags.now }
     requires links { All (λ l. IsWait (game_of game.now) (wait_of l.wait)) links.old.items }
-    requires processes { All (λ p. IsPlace (game_of game.now) (place_in p.place)) processes.old.items }
+    requires processes { All (λ p. IsLanding (game_of game.now) (landing_in p.landing)) processes.old.items }
     requires entries { vec_len links.old + one_if (is_entry step) ≤ vec_capacity links.old }
     requires forks { vec_len processes.old + one_if (is_fork step) ≤ vec_capacity processes.old }
     requires few_links { vec_len links.old < 2 ^ 32 }
     requires few_processes { vec_len processes.old < 2 ^ 32 }
     requires follows { Follows S.taken S.faults S.refused writer.old out.old }
-    ensures acted { Acted (told names.now) (game_of game.now) table.now (caps_at (lists_of game.now.states)) (IsFlag game.now flags.now) step.process step.fork step.by result
+    ensures acted { Acted (name_lists names.now) (game_of game.now) table.now (caps_at (lists_of game.now.states)) (IsFlag game.now flags.now) step.process step.fork step.by result
         (map process_of processes.old.items) (map process_of processes.new.items) (links_of links.old.items) (links_of links.new.items) writer.old.text writer.new.text }
     ensures links { All (λ l. IsWait (game_of game.now) (wait_of l.wait)) links.new.items }
-    ensures processes { All (λ p. IsPlace (game_of game.now) (place_in p.place)) processes.new.items }
+    ensures processes { All (λ p. IsLanding (game_of game.now) (landing_in p.landing)) processes.new.items }
     ensures entries { vec_len links.new ≤ vec_len links.old + one_if (is_entry step) }
     ensures forks { vec_len processes.new ≤ vec_len processes.old + one_if (is_fork step) }
     ensures link_room { vec_capacity links.new ≡ vec_capacity links.old }
@@ -439,9 +439,9 @@ fn act<S: Sink>(
     let Some(process) = process_at(processes, step.process) else {
         return false;
     };
-    match process.place {
-        Place::Over => false,
-        Place::At(here) => act_at(
+    match process.landing {
+        Landing::Over => false,
+        Landing::At(here) => act_at(
             game, table, names, flags, process, here, step, processes, links, writer, out,
         ),
     }
@@ -472,7 +472,7 @@ pub fn run_world<S: Sink>(
     ensures world { IfOk result (λ end. TellsWorld
         (problem_of (policy_of game.now.states.policy) checked.now.source.now (file_of checked.now.program))
         (trace_names_of checked.now.source.now (file_of checked.now.program) (plan_of (names_of (policy_of game.now.states.policy)) checked.now.source.now (file_of checked.now.program)))
-        table.now (fork_places checked.now.source.now (file_of checked.now.program)) (map word_of steps.now) (end_of end) writer.old.text writer.new.text) }
+        table.now (fork_places checked.now.source.now (file_of checked.now.program)) (map entry_of steps.now) (end_of end) writer.old.text writer.new.text) }
     ensures refused { OnErr result ((writer.new ≡ writer.old) × (out.new ≡ out.old)) }
     ensures begun { writer.new.begun ≡ writer.old.begun }
     ensures follows { Follows S.taken S.faults S.refused writer.new out.new }
@@ -481,9 +481,9 @@ pub fn run_world<S: Sink>(
     let flags = fork_points(alloc, checked)?;
     let mut links = Vec::with_capacity(alloc, entries(steps))?;
     let mut processes = Vec::with_capacity(alloc, forks(steps) + 1)?;
-    let first = Place::At(begin(game, table, &names, Some(0), writer, out));
+    let first = Landing::At(begin(game, table, &names, Some(0), writer, out));
     processes.push_reserved(Process {
-        place: first,
+        landing: first,
         calls: None,
     });
     for i in 0..steps.len() {

@@ -10,7 +10,7 @@ use Rattle.cw_points.specs.declared.graph.Graph.{Graph}
 use Rattle.cw_positions.specs.Positions.{base_of, bases, base, spots, width}
 use Rattle.cw_positions.proofs.Begins.{begin_next, begin_within}
 use Rattle.cw_positions.proofs.Lengths.{length_all}
-use Rattle.cw_product.specs.Places.{IsPointOf}
+use Rattle.cw_product.specs.Sites.{IsPointOf}
 use Rattle.cw_product.specs.Product.{Held, game_of}
 use Rattle.cw_product.proofs.Begun.{bases_length}
 use Rattle.cw_lemmas.proofs.Numbers.{le_from_not_lt as not_more}

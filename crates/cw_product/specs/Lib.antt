@@ -4,7 +4,7 @@ pub mod Kept
 pub mod Made
 pub mod Moves
 pub mod MovesAt
-pub mod Places
+pub mod Sites
 pub mod Product
 pub mod Routed
 pub mod Routes

@@ -2,7 +2,7 @@
 
 use crate::fault::GameFault;
 use crate::moves::{branched, gone_on, visited};
-use crate::place::{Place, begun, is_asked, is_split, stage_of};
+use crate::site::{Site, begun, is_asked, is_split, stage_of};
 use crate::stages::stages_of;
 use crate::turn::Turn;
 use crate::uses::uses_of;
@@ -65,7 +65,7 @@ impl<'g> Game<'g> {
     ghost use Rattle.cw_game.specs.Standing.{IsGameOf};
     ghost use Rattle.cw_product.specs.Moves.{IsPosition, IsState, pair_of, numbers, next_in, next_at, turn_in, violated_at};
     ghost use Rattle.cw_product.specs.MovesAt.{first_move, second_move};
-    ghost use Rattle.cw_product.specs.Places.{IsPointOf, stage_in, is_asked_in, is_split_in};
+    ghost use Rattle.cw_product.specs.Sites.{IsPointOf, stage_in, is_asked_in, is_split_in};
     ghost use Rattle.cw_product.specs.Kept.{IsSound, IsFine, IsPart, IsPrimitive, IsDescriptor, IsLabel};
     ghost use Rattle.cw_game.specs.Conditions.{is_seam, is_stage};
     ghost use Rattle.cw_positions.specs.Positions.{base_of};
@@ -492,7 +492,7 @@ impl<'g> Game<'g> {
     }
 
     /// Where a position stands in the program.
-    pub fn place(&self, pos: PosId) -> Place
+    pub fn site(&self, pos: PosId) -> Site
         requires { IsPosition (game_of self.now) pos.0 }
         ensures point { IsPointOf self.now pos.0 result.point.0 }
         ensures stage { Some result.stage ≡ option_map stage_in (slice_get (game_of self.now).spots pos.0) }
@@ -500,7 +500,7 @@ impl<'g> Game<'g> {
         ensures split { Some result.split ≡ option_map is_split_in (slice_get (game_of self.now).spots pos.0) }
     {
         let spot = self.spot(pos);
-        Place {
+        Site {
             point: self.point(pos),
             stage: stage_of(spot),
             asked: is_asked(spot),

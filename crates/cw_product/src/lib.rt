@@ -4,12 +4,12 @@
 mod fault;
 mod game;
 mod moves;
-mod place;
+mod site;
 mod stages;
 mod turn;
 mod uses;
 
 pub use fault::GameFault;
 pub use game::Game;
-pub use place::Place;
+pub use site::Site;
 pub use turn::Turn;

@@ -2,7 +2,7 @@
 use Rattle.std.proofs.Common.{◌≡◌, ℕ, zero, suc, ◌≤◌, ◌<◌, ◌+◌, ◌-◌, max, List, [], ◌∷◌, ◌++◌, refl, sym, ap, subst, ◌∙◌, append_assoc, inl, inr, ◌⊎◌, Some, arith}
 use Rattle.cw_syntax.specs.Trees.{Tree}
 use Rattle.cw_syntax.specs.declared.program.Op.TheVariants as op
-use Rattle.cw_grammar.specs.declared.words.Lexeme.{Lexeme}
+use Rattle.cw_grammar.specs.declared.terminals.Lexeme.{Lexeme}
 use Rattle.cw_grammar.specs.declared.rules.Rule.{Rule}
 use Rattle.cw_grammar.specs.declared.rules.Rule.TheVariants.{Level}
 use Rattle.cw_grammar.specs.Operators as operators
@@ -33,7 +33,7 @@ pub raise : (n l m : ℕ) → l ≤ m → (ts : List Lexeme) (x : Tree) → IsDe
 raise zero l m le ts x h = absurd h
 raise (suc n) l m le ts x h = let e : m ≡ (m - l) + l = omega arith in rw e (raise_by n l (m - l) ts x h)
 
-binary : (n below number : ℕ) (a b : List Lexeme) (t : Lexeme) (x y : Tree) → operators.binary t.word ≡ Some (number, suc below) → IsDerived n (Level (suc below)) a x
+binary : (n below number : ℕ) (a b : List Lexeme) (t : Lexeme) (x y : Tree) → operators.binary t.terminal ≡ Some (number, suc below) → IsDerived n (Level (suc below)) a x
     → IsDerived n (Level below) b y → Stands (Level (suc below)) (a ++ (t ∷ b))
 binary n below number a b t x y e p q = record {
   nesting = suc n;
@@ -41,7 +41,7 @@ binary n below number a b t x y e p q = record {
   derives = inr (a, t, b, number, x, y, refl, e, p, q, refl);
 }
 
-module _ (a : List Lexeme) (t : Lexeme) (number below : ℕ) (e : operators.binary t.word ≡ Some (number, suc below)) (first : Stands (Level 0) a) where
+module _ (a : List Lexeme) (t : Lexeme) (number below : ℕ) (e : operators.binary t.terminal ≡ Some (number, suc below)) (first : Stands (Level 0) a) where
   -- before what is of a tighter level, the operator is the outermost one
   outermost : (n : ℕ) (b : List Lexeme) (y : Tree) → IsDerived n (Level below) b y → Stands (Level (suc below)) (a ++ (t ∷ b))
   outermost n b y h =
@@ -76,6 +76,6 @@ module _ (a : List Lexeme) (t : Lexeme) (number below : ℕ) (e : operators.bina
   before (suc n) l lt b y h = at_level n (before n) l lt b y h
 
 -- an operand, an operator, and an expression without assignment
-pub joined : (a b : List Lexeme) (t : Lexeme) (number below : ℕ) → below < 10 → operators.binary t.word ≡ Some (number, suc below) → Stands (Level 0) a → Stands (Level 10) b
+pub joined : (a b : List Lexeme) (t : Lexeme) (number below : ℕ) → below < 10 → operators.binary t.terminal ≡ Some (number, suc below) → Stands (Level 0) a → Stands (Level 10) b
     → Stands (Level 10) (a ++ (t ∷ b))
 joined a b t number below lt e first h = before a t number below e first h.nesting 10 lt b h.tree h.derives

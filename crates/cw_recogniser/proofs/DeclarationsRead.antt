@@ -3,9 +3,9 @@ use Rattle.std.proofs.Common.{◌≡◌, ℕ, ◌<◌, Bool, true, false, List, 
 use Rattle.std.proofs.lemmas.List.{append-nil}
 use Rattle.std.specs.Prelude.{is_some}
 use Rattle.cw_syntax.specs.Trees.{Tree, Trees, none, more, Declared, Declaration}
-use Rattle.cw_grammar.specs.declared.words.Word.{Word}
-use Rattle.cw_grammar.specs.declared.words.Word.TheVariants as w
-use Rattle.cw_grammar.specs.declared.words.Lexeme.{Lexeme}
+use Rattle.cw_grammar.specs.declared.terminals.Terminal.{Terminal}
+use Rattle.cw_grammar.specs.declared.terminals.Terminal.TheVariants as w
+use Rattle.cw_grammar.specs.declared.terminals.Lexeme.{Lexeme}
 use Rattle.cw_grammar.specs.Lexemes.{Is, IsFlag, IsOptional, AreSeparated, IsBetween, IsEnded}
 use Rattle.cw_grammar.specs.Types.{AreStars}
 use Rattle.cw_grammar.specs.Expressions.{IsExpression}
@@ -14,11 +14,11 @@ use Rattle.cw_recogniser.specs.declared.kinds.TerminalKind.{TerminalKind}
 use Rattle.cw_recogniser.specs.declared.kinds.TerminalKind.TheVariants as k
 use Rattle.cw_recogniser.specs.declared.symbols.Symbol.{Symbol}
 use Rattle.cw_recogniser.specs.declared.symbols.Symbol.TheVariants as s
-use Rattle.cw_recogniser.specs.Kinds.{kind_of_word}
+use Rattle.cw_recogniser.specs.Kinds.{kind_of_terminal}
 use Rattle.cw_recogniser.specs.Machine.{Next, onto, after, expression}
 use Rattle.cw_recogniser.proofs.Accepting.{Accepts, step, skip, pass, instead}
 use Rattle.cw_recogniser.proofs.Heads.{head, head_is, untaken, head_wider, is_end}
-use Rattle.cw_grammar.proofs.Wording.{one_word}
+use Rattle.cw_grammar.proofs.Wording.{one_terminal}
 use Rattle.cw_recogniser.proofs.TypesRead.{EndsType, reads_stars, stars_end, Declares, reads_specifiers}
 use Rattle.cw_recogniser.proofs.ExpressionsRead.{reads}
 
@@ -84,12 +84,12 @@ no_initialiser k.Assign e = absurd cc
 no_initialiser _ e = refl
 
 module _ (n : ℕ) where
-  -- an expression that may be absent, before a mark
-  pub reads_optional : (x : Option Tree) (ts : List Lexeme) (word : Word) (c : Lexeme) (rest : List Lexeme) (below : List Symbol) → IsOptional (IsExpression n) ts x → Is word c
-      → is_end (kind_of_word word) ≡ true → Accepts below (c ∷ rest) → Accepts (s.MaybeExpression ∷ below) (ts ++ (c ∷ rest))
-  reads_optional None ts word c rest below d is e h = rw d (skip refl (untaken s.MaybeExpression is_end no_begin (c ∷ rest) (head_is is_end word c rest is e)) h)
-  reads_optional (Some x) ts word c rest below d is e h =
-      instead {first = s.Expression} {symbol = s.MaybeExpression} [] refl maybe_begins ((reads n).expression ts x (c ∷ rest) below d (head_is is_end word c rest is e) h)
+  -- an expression that may be absent, before a punctuator
+  pub reads_optional : (x : Option Tree) (ts : List Lexeme) (terminal : Terminal) (c : Lexeme) (rest : List Lexeme) (below : List Symbol) → IsOptional (IsExpression n) ts x → Is terminal c
+      → is_end (kind_of_terminal terminal) ≡ true → Accepts below (c ∷ rest) → Accepts (s.MaybeExpression ∷ below) (ts ++ (c ∷ rest))
+  reads_optional None ts terminal c rest below d is e h = rw d (skip refl (untaken s.MaybeExpression is_end no_begin (c ∷ rest) (head_is is_end terminal c rest is e)) h)
+  reads_optional (Some x) ts terminal c rest below d is e h =
+      instead {first = s.Expression} {symbol = s.MaybeExpression} [] refl maybe_begins ((reads n).expression ts x (c ∷ rest) below d (head_is is_end terminal c rest is e) h)
 
   reads_array : (array : Option (Option Tree)) (ts rest : List Lexeme) (below : List Symbol) → IsArray (IsExpression n) ts array → head is_value_end rest ≡ true
       → Accepts below rest → Accepts (s.Array ∷ below) (ts ++ rest)
@@ -106,11 +106,11 @@ module _ (n : ℕ) where
 
   reads_trailing : (trailing : Bool) (b : List Lexeme) (c : Lexeme) (rest : List Lexeme) (below : List Symbol) → IsFlag w.Comma b trailing → Is w.CloseBrace c → Accepts below rest
       → Accepts (s.MoreElements ∷ s.CloseBrace ∷ below) (b ++ (c ∷ rest))
-  reads_trailing true b c rest below g is h = let x = one_word b w.Comma g in rw x.1 (step x.2 refl (pass is refl refl (step is refl h)))
+  reads_trailing true b c rest below g is h = let x = one_terminal b w.Comma g in rw x.1 (step x.2 refl (pass is refl refl (step is refl h)))
   reads_trailing false b c rest below g is h = rw g (pass is refl refl (step is refl h))
 
   trailing_ends : (trailing : Bool) (b : List Lexeme) (c : Lexeme) (rest : List Lexeme) → IsFlag w.Comma b trailing → Is w.CloseBrace c → head is_end (b ++ (c ∷ rest)) ≡ true
-  trailing_ends true b c rest g is = let x = one_word b w.Comma g in rw (x.1, x.2) refl
+  trailing_ends true b c rest g is = let x = one_terminal b w.Comma g in rw (x.1, x.2) refl
   trailing_ends false b c rest g is = rw (g, is) refl
 
   reads_elements : (es : List Tree) (ts : List Lexeme) (c : Lexeme) (rest : List Lexeme) (below : List Symbol) → AreElements (IsExpression n) ts es → Is w.CloseBrace c

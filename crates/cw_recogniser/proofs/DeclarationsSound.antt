@@ -2,8 +2,8 @@
 use Rattle.std.proofs.Common.{◌≡◌, ℕ, max, true, false, List, [], ◌∷◌, ◌++◌, refl, sym, ap, subst, ◌∙◌, append_assoc, Some, None, arith}
 use Rattle.std.proofs.lemmas.List.{append-nil}
 use Rattle.cw_syntax.specs.Trees.{Tree, Trees, none, more, Declaration}
-use Rattle.cw_grammar.specs.declared.words.Word.TheVariants as w
-use Rattle.cw_grammar.specs.declared.words.Lexeme.{Lexeme}
+use Rattle.cw_grammar.specs.declared.terminals.Terminal.TheVariants as w
+use Rattle.cw_grammar.specs.declared.terminals.Lexeme.{Lexeme}
 use Rattle.cw_grammar.specs.declared.rules.Rule.TheVariants.{Expression}
 use Rattle.cw_grammar.specs.Lexemes.{Is, name_of, from_of, to_of, IsBetween, trees}
 use Rattle.cw_grammar.specs.Expressions.{IsExpression}
@@ -11,7 +11,7 @@ use Rattle.cw_grammar.specs.Declarations.{pointer, AreElements, IsInitialiser, I
 use Rattle.cw_recogniser.specs.declared.kinds.TerminalKind.{TerminalKind}
 use Rattle.cw_recogniser.specs.declared.kinds.TerminalKind.TheVariants as k
 use Rattle.cw_recogniser.specs.declared.symbols.Symbol.TheVariants as s
-use Rattle.cw_recogniser.specs.Kinds.{kind_of_word}
+use Rattle.cw_recogniser.specs.Kinds.{kind_of_terminal}
 use Rattle.cw_recogniser.specs.Machine.{after, array, initialiser, initial, more_elements, more_items, expression, specifiers, declaration}
 use Rattle.cw_grammar.proofs.Deeper.{expression_deeper, separated_weaker, array_weaker, initialiser_weaker, item_weaker}
 use Rattle.cw_recogniser.proofs.Chains.{Stands}
@@ -22,14 +22,14 @@ use Rattle.cw_recogniser.proofs.ExpressionsSound.{expression_sound}
 pub array_none : SomeArray []
 array_none = (0, None, refl)
 
-pub array_sound : (kind : TerminalKind) (t : Lexeme) (a rest : List Lexeme) → kind_of_word t.word ≡ kind → Given (array kind) a rest → SomeArray (t ∷ a)
+pub array_sound : (kind : TerminalKind) (t : Lexeme) (a rest : List Lexeme) → kind_of_terminal t.terminal ≡ kind → Given (array kind) a rest → SomeArray (t ∷ a)
 array_sound k.OpenBracket t a rest e (b, c, f, (n, x, d), (z, g, q)) = (n, Some x, (t, b, z, rw (f, g) refl, exact t k.OpenBracket w.OpenBracket e refl, q, d))
 array_sound _ t a rest e h = absurd h
 
 pub initialiser_none : SomeInitialiser []
 initialiser_none = (0, none, false, refl)
 
-pub initialiser_sound : (kind : TerminalKind) (t : Lexeme) (a rest : List Lexeme) → kind_of_word t.word ≡ kind → Given (initialiser kind) a rest → SomeInitialiser (t ∷ a)
+pub initialiser_sound : (kind : TerminalKind) (t : Lexeme) (a rest : List Lexeme) → kind_of_terminal t.terminal ≡ kind → Given (initialiser kind) a rest → SomeInitialiser (t ∷ a)
 initialiser_sound k.Assign t a rest e h = h t (exact t k.Assign w.Assign e refl)
 initialiser_sound _ t a rest e h = absurd h
 
@@ -38,7 +38,7 @@ initialiser_sound _ t a rest e h = absurd h
 pub more_elements_none : (rest : List Lexeme) → Means s.MoreElements [] rest
 more_elements_none rest b h = (h.nesting, h.tree ∷ [], (b, [], false, refl, omega arith, h.derives, refl))
 
-pub more_elements_sound : (kind : TerminalKind) (t : Lexeme) (a rest : List Lexeme) → kind_of_word t.word ≡ kind → Given (more_elements kind) a rest → Means s.MoreElements (t ∷ a) rest
+pub more_elements_sound : (kind : TerminalKind) (t : Lexeme) (a rest : List Lexeme) → kind_of_terminal t.terminal ≡ kind → Given (more_elements kind) a rest → Means s.MoreElements (t ∷ a) rest
 more_elements_sound k.Comma t a rest e h = λ b p. h b t p (exact t k.Comma w.Comma e refl)
 more_elements_sound _ t a rest e h = absurd h
 
@@ -62,7 +62,7 @@ before_elements b c ts h is (n, x ∷ xs, (a, d, trailing, e, some, p, g)) =
       ),
     )
 
-pub elements_sound : (kind : TerminalKind) (t : Lexeme) (a rest : List Lexeme) → kind_of_word t.word ≡ kind → Given (after s.Elements kind) a rest → Means s.Elements (t ∷ a) rest
+pub elements_sound : (kind : TerminalKind) (t : Lexeme) (a rest : List Lexeme) → kind_of_terminal t.terminal ≡ kind → Given (after s.Elements kind) a rest → Means s.Elements (t ∷ a) rest
 elements_sound kind t a rest e h = λ b c p is.
     let x = split_onto (expression kind) s.MoreElements [] a rest h in
     let y = x.4 (t ∷ x.0) (expression_sound kind t x.0 (x.1 ++ rest) e x.3) in
@@ -79,7 +79,7 @@ braced n ts none h = h
 braced n ts (more x none) h = h
 braced n ts (more x (more y z)) h = h
 
-pub initial_sound : (kind : TerminalKind) (t : Lexeme) (a rest : List Lexeme) → kind_of_word t.word ≡ kind → Given (initial kind) a rest → Means s.Initial (t ∷ a) rest
+pub initial_sound : (kind : TerminalKind) (t : Lexeme) (a rest : List Lexeme) → kind_of_terminal t.terminal ≡ kind → Given (initial kind) a rest → Means s.Initial (t ∷ a) rest
 initial_sound k.OpenBrace t a rest e (b, c, f, h, (u, v, g, elements, (z, i, q))) = λ m is.
     let x = elements b h in (
       x.0,
@@ -142,7 +142,7 @@ items_of a rest (b, c, f, stars, (m, d, g, (z, i, q), (u, v, j, p, (x, y, l, o, 
     subst (λ (e : List Lexeme). SomeItems e) (sym (rw (f, g, i, j, l) (sym (append_assoc b (z ∷ (u ++ x)) y ∙ ap (λ (e : List Lexeme). b ++ (z ∷ e)) (append_assoc u x y)))))
     (others (b ++ (z ∷ (u ++ x))) (item_of b z u x stars q p o))
 
-pub more_items_sound : (kind : TerminalKind) (t : Lexeme) (a rest : List Lexeme) → kind_of_word t.word ≡ kind → Given (more_items kind) a rest → Means s.MoreItems (t ∷ a) rest
+pub more_items_sound : (kind : TerminalKind) (t : Lexeme) (a rest : List Lexeme) → kind_of_terminal t.terminal ≡ kind → Given (more_items kind) a rest → Means s.MoreItems (t ∷ a) rest
 more_items_sound k.Comma t a rest e h = λ b i. before_items b t a i (exact t k.Comma w.Comma e refl) (items_of a rest h)
 more_items_sound _ t a rest e h = absurd h
 
@@ -160,7 +160,7 @@ declaration_of a b z (specs, are) items is =
       (a, b ++ (z ∷ []), specs, refl, are, refl, refl, refl, omega arith, (b, z, refl, is, x.3), refl, refl),
     )
 
-pub declaration_sound : (kind : TerminalKind) (t : Lexeme) (a rest : List Lexeme) → kind_of_word t.word ≡ kind → Given (declaration kind) a rest → SomeDeclaration (t ∷ a)
+pub declaration_sound : (kind : TerminalKind) (t : Lexeme) (a rest : List Lexeme) → kind_of_terminal t.terminal ≡ kind → Given (declaration kind) a rest → SomeDeclaration (t ∷ a)
 declaration_sound kind t a rest e h =
     let x = split_onto (specifiers kind) s.TwoStars (s.Name ∷ s.Array ∷ s.Initialiser ∷ s.MoreItems ∷ s.Semicolon ∷ []) a rest h in
     let y = split_follow (s.TwoStars ∷ s.Name ∷ s.Array ∷ s.Initialiser ∷ s.MoreItems ∷ []) s.Semicolon [] x.1 rest x.4 in

@@ -2,9 +2,9 @@
 use Rattle.std.proofs.Common.{◌≡◌, ℕ, zero, suc, true, false, List, [], ◌∷◌, ◌++◌, refl, ap, subst, ◌∙◌, append_assoc, inl, inr, Some, None}
 use Rattle.std.specs.Prelude.{is_some}
 use Rattle.cw_syntax.specs.Trees.{Tree}
-use Rattle.cw_grammar.specs.declared.words.Word.{Word}
-use Rattle.cw_grammar.specs.declared.words.Word.TheVariants as w
-use Rattle.cw_grammar.specs.declared.words.Lexeme.{Lexeme}
+use Rattle.cw_grammar.specs.declared.terminals.Terminal.{Terminal}
+use Rattle.cw_grammar.specs.declared.terminals.Terminal.TheVariants as w
+use Rattle.cw_grammar.specs.declared.terminals.Lexeme.{Lexeme}
 use Rattle.cw_grammar.specs.declared.rules.Rule.TheVariants.{Expression, Level, Unary, Postfix}
 use Rattle.cw_grammar.specs.Lexemes.{Is, AreSeparated}
 use Rattle.cw_grammar.specs.Expressions.{loosest, AreStrings, IsPrimary, IsPostfix, IsUnary, IsOperand, IsLevel, IsDerived}
@@ -12,10 +12,10 @@ use Rattle.cw_recogniser.specs.declared.kinds.TerminalKind.{TerminalKind}
 use Rattle.cw_recogniser.specs.declared.kinds.TerminalKind.TheVariants as k
 use Rattle.cw_recogniser.specs.declared.symbols.Symbol.{Symbol}
 use Rattle.cw_recogniser.specs.declared.symbols.Symbol.TheVariants as s
-use Rattle.cw_recogniser.specs.Kinds.{kind_of_word}
+use Rattle.cw_recogniser.specs.Kinds.{kind_of_terminal}
 use Rattle.cw_recogniser.specs.Machine.{onto, either, after, unary, expression, qualified, type_name}
 use Rattle.cw_recogniser.proofs.Accepting.{Accepts, step, step_kind, skip, pass, instead}
-use Rattle.cw_recogniser.proofs.WordKinds.{sign_begins, step_begins, suffix_is, is_between, binary_goes_on, binary_may_assign, binary_between, assign_goes_on, assign_between}
+use Rattle.cw_recogniser.proofs.TerminalKinds.{sign_begins, step_begins, suffix_is, is_between, binary_goes_on, binary_may_assign, binary_between, assign_goes_on, assign_between}
 use Rattle.cw_recogniser.proofs.Heads.{head, head_is, untaken, head_wider, is_end, is_halt, is_follower, end_halts, halt_follows, no_tail, no_suffix, no_call, no_text}
 use Rattle.cw_recogniser.proofs.TypesRead.{reads_type_name}
 
@@ -180,8 +180,8 @@ module _ (n : ℕ) (r : Reads n) where
 
   module _ (symbol : Symbol) (more : List Symbol) (starts : Starts symbol more) (rest : List Lexeme) (below : List Symbol) (f : head is_follower rest ≡ true)
       (h : Accepts (s.Suffixes ∷ (more ++ below)) rest) where
-    begun : (word : Word) (t : Lexeme) → Is word t → is_some (unary (kind_of_word word)) ≡ true → after symbol (kind_of_word t.word) ≡ onto (unary (kind_of_word word)) more
-    begun word t is e = ap (λ (v : Word). after symbol (kind_of_word v)) is ∙ starts.begins (kind_of_word word) e
+    begun : (terminal : Terminal) (t : Lexeme) → Is terminal t → is_some (unary (kind_of_terminal terminal)) ≡ true → after symbol (kind_of_terminal t.terminal) ≡ onto (unary (kind_of_terminal terminal)) more
+    begun terminal t is e = ap (λ (v : Terminal). after symbol (kind_of_terminal v)) is ∙ starts.begins (kind_of_terminal terminal) e
 
     reads_call : (m t c : Lexeme) (inner : List Lexeme) (xs : List Tree) → Is w.Name m → Is w.Open t → Is w.Close c → AreSeparated (IsDerived n Expression) inner xs
         → Accepts (symbol ∷ below) (m ∷ t ∷ (inner ++ (c ∷ rest)))
@@ -205,23 +205,23 @@ module _ (n : ℕ) (r : Reads n) where
         (head_is is_follower w.OpenBracket o (inner ++ (l ∷ rest)) p refl)
         (step p refl (r.expression inner z (l ∷ rest) (s.CloseBracket ∷ s.Suffixes ∷ (more ++ below)) i (head_is is_end w.CloseBracket l rest q refl) (step q refl h))))
     reads_postfix a x (inr (inr (b, t, number, y, e, op, d, _))) =
-        let kind = suffix_is t.word number op in
+        let kind = suffix_is t.terminal number op in
         rw (e, append_assoc) (r.postfix symbol more starts b y (t ∷ rest) below d (rw kind refl) (step_kind (ap (after s.Suffixes) kind) h))
 
   -- ---- unary
 
   module _ (symbol : Symbol) (more : List Symbol) (starts : Starts symbol more) (rest : List Lexeme) (below : List Symbol) (f : head is_halt rest ≡ true) (h : Accepts (more ++ below) rest) where
-    begun_as : (t : Lexeme) (new : List Symbol) → unary (kind_of_word t.word) ≡ Some new → after symbol (kind_of_word t.word) ≡ Some (new ++ more)
-    begun_as t new e = starts.begins (kind_of_word t.word) (rw e refl) ∙ ap (λ z. onto z more) e
+    begun_as : (t : Lexeme) (new : List Symbol) → unary (kind_of_terminal t.terminal) ≡ Some new → after symbol (kind_of_terminal t.terminal) ≡ Some (new ++ more)
+    begun_as t new e = starts.begins (kind_of_terminal t.terminal) (rw e refl) ∙ ap (λ z. onto z more) e
 
     reads_unary : (a : List Lexeme) (x : Tree) → IsUnary (IsDerived n) a x → Accepts (symbol ∷ below) (a ++ rest)
-    reads_unary a x (inl (t, b, number, y, e, op, d, _)) = rw e (step_kind (begun_as t (s.Operand ∷ []) (sign_begins t.word number op)) (r.operand b y rest (more ++ below) d f h))
+    reads_unary a x (inl (t, b, number, y, e, op, d, _)) = rw e (step_kind (begun_as t (s.Operand ∷ []) (sign_begins t.terminal number op)) (r.operand b y rest (more ++ below) d f h))
     reads_unary a x (inr (inl (t, b, number, y, e, op, d, _))) =
-        rw e (step_kind (begun_as t (s.Unary ∷ []) (step_begins t.word number op)) (r.unary s.Unary [] unary_starts b y rest (more ++ below) d f h))
+        rw e (step_kind (begun_as t (s.Unary ∷ []) (step_begins t.terminal number op)) (r.unary s.Unary [] unary_starts b y rest (more ++ below) d f h))
     reads_unary a x (inr (inr (inl (t, b, y, e, is, d, _)))) =
-        rw e (step_kind (begun_as t (s.Measured ∷ []) (ap (λ (v : Word). unary (kind_of_word v)) is)) (r.unary s.Measured [] measured_starts b y rest (more ++ below) d f h))
+        rw e (step_kind (begun_as t (s.Measured ∷ []) (ap (λ (v : Terminal). unary (kind_of_terminal v)) is)) (r.unary s.Measured [] measured_starts b y rest (more ++ below) d f h))
     reads_unary a x (inr (inr (inr (inl (t, b, kind, e, is, (o, inner, c, e2, p, q, d), _))))) =
-        rw (e, e2, append_assoc) (step_kind (begun_as t (s.Measured ∷ []) (ap (λ (v : Word). unary (kind_of_word v)) is))
+        rw (e, e2, append_assoc) (step_kind (begun_as t (s.Measured ∷ []) (ap (λ (v : Terminal). unary (kind_of_terminal v)) is))
         (step p refl (instead {first = s.Qualified} {symbol = s.OpenedMeasured} (s.TwoStars ∷ s.Close ∷ []) refl opened_measured_type
         (reads_type_name inner (c ∷ rest) kind (s.Close ∷ (more ++ below)) d (rw q refl) (rw q refl) (step q refl h)))))
     reads_unary a x (inr (inr (inr (inr d)))) = reads_postfix symbol more starts rest below (head_wider is_halt is_follower halt_follows rest f)
@@ -245,16 +245,16 @@ module _ (n : ℕ) (r : Reads n) where
 
   -- ---- levels
 
-  between : (t : Lexeme) (ts : List Lexeme) → is_between (kind_of_word t.word) ≡ true → head is_halt (t ∷ ts) ≡ true
-  between t ts e = between_halts (kind_of_word t.word) e
+  between : (t : Lexeme) (ts : List Lexeme) → is_between (kind_of_terminal t.terminal) ≡ true → head is_halt (t ∷ ts) ≡ true
+  between t ts e = between_halts (kind_of_terminal t.terminal) e
 
   reads_chain : (l : ℕ) (a : List Lexeme) (x : Tree) (rest : List Lexeme) (below : List Symbol) → IsLevel (IsDerived n) l a x → head is_halt rest ≡ true
       → Accepts (s.Tail false ∷ below) rest → Accepts (s.Operand ∷ s.Tail false ∷ below) (a ++ rest)
   reads_chain zero a x rest below d f h = reads_operand a x rest (s.Tail false ∷ below) d f h
   reads_chain (suc l) a x rest below (inl d) f h = reads_chain l a x rest below d f h
   reads_chain (suc l) a x rest below (inr (b, t, c, number, y, z, e, op, p, q, _)) f h =
-      rw (e, append_assoc) (r.chain (suc l) b y (t ∷ (c ++ rest)) below p (between t (c ++ rest) (binary_between t.word number (suc l) op))
-      (step_kind (binary_goes_on t.word number (suc l) op) (r.chain l c z rest below q f h)))
+      rw (e, append_assoc) (r.chain (suc l) b y (t ∷ (c ++ rest)) below p (between t (c ++ rest) (binary_between t.terminal number (suc l) op))
+      (step_kind (binary_goes_on t.terminal number (suc l) op) (r.chain l c z rest below q f h)))
 
   reads_first : (l : ℕ) (a : List Lexeme) (x : Tree) (rest : List Lexeme) (below : List Symbol) → IsLevel (IsDerived n) l a x → head is_halt rest ≡ true
       → Accepts (s.Tail true ∷ below) rest → Accepts (s.Tail false ∷ below) rest → Accepts (s.Expression ∷ below) (a ++ rest)
@@ -262,9 +262,9 @@ module _ (n : ℕ) (r : Reads n) where
   reads_first (suc l) a x rest below (inl d) f g h = reads_first l a x rest below d f g h
   reads_first (suc l) a x rest below (inr (b, t, c, number, y, z, e, op, p, q, _)) f g h =
       rw (e, append_assoc) (
-      r.first (suc l) b y (t ∷ (c ++ rest)) below p (between t (c ++ rest) (binary_between t.word number (suc l) op))
-      (step_kind (binary_may_assign t.word number (suc l) op) (r.chain l c z rest below q f h))
-      (step_kind (binary_goes_on t.word number (suc l) op) (r.chain l c z rest below q f h))
+      r.first (suc l) b y (t ∷ (c ++ rest)) below p (between t (c ++ rest) (binary_between t.terminal number (suc l) op))
+      (step_kind (binary_may_assign t.terminal number (suc l) op) (r.chain l c z rest below q f h))
+      (step_kind (binary_goes_on t.terminal number (suc l) op) (r.chain l c z rest below q f h))
       )
 
   -- ---- expressions
@@ -275,8 +275,8 @@ module _ (n : ℕ) (r : Reads n) where
       reads_first loosest a x rest below d (head_wider is_end is_halt end_halts rest f) (skip refl (untaken (s.Tail true) is_end (no_tail true) rest f) h)
       (skip refl (untaken (s.Tail false) is_end (no_tail false) rest f) h)
   reads_rule a x rest below (inr (b, t, c, number, y, z, e, op, p, q, _)) f h =
-      rw (e, append_assoc) (r.unary s.Expression (s.Tail true ∷ []) expression_starts b y (t ∷ (c ++ rest)) below p (between t (c ++ rest) (assign_between t.word number op))
-      (step_kind (assign_goes_on t.word number op) (r.expression c z rest below q f h)))
+      rw (e, append_assoc) (r.unary s.Expression (s.Tail true ∷ []) expression_starts b y (t ∷ (c ++ rest)) below p (between t (c ++ rest) (assign_between t.terminal number op))
+      (step_kind (assign_goes_on t.terminal number op) (r.expression c z rest below q f h)))
 
   deeper : Reads (suc n)
   deeper = record {

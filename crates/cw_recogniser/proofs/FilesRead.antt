@@ -5,8 +5,8 @@ use Rattle.cw_syntax.specs.declared.program.Name.{Name}
 use Rattle.cw_syntax.specs.declared.program.CType.{CType}
 use Rattle.cw_syntax.specs.declared.program.Param.{Param}
 use Rattle.cw_syntax.specs.Trees.{Declaration}
-use Rattle.cw_grammar.specs.declared.words.Word.TheVariants as w
-use Rattle.cw_grammar.specs.declared.words.Lexeme.{Lexeme}
+use Rattle.cw_grammar.specs.declared.terminals.Terminal.TheVariants as w
+use Rattle.cw_grammar.specs.declared.terminals.Lexeme.{Lexeme}
 use Rattle.cw_grammar.specs.Lexemes.{Is, AreAll, IsOptional, AreSeparated}
 use Rattle.cw_grammar.specs.Expressions.{IsExpression}
 use Rattle.cw_grammar.specs.Declarations.{IsName, IsBrackets, IsParam, AreParams, IsHeader, IsDeclaration}
@@ -15,12 +15,12 @@ use Rattle.cw_recogniser.specs.declared.kinds.TerminalKind.{TerminalKind}
 use Rattle.cw_recogniser.specs.declared.kinds.TerminalKind.TheVariants as k
 use Rattle.cw_recogniser.specs.declared.symbols.Symbol.{Symbol}
 use Rattle.cw_recogniser.specs.declared.symbols.Symbol.TheVariants as s
-use Rattle.cw_recogniser.specs.Kinds.{kind_of_word}
+use Rattle.cw_recogniser.specs.Kinds.{kind_of_terminal}
 use Rattle.cw_recogniser.specs.Language.{AreOfGrammar}
 use Rattle.cw_recogniser.specs.Machine.{onto, after, feed, qualified, start}
 use Rattle.cw_recogniser.proofs.Accepting.{then_done, accepts, Accepts, takes, step, skip, pass, instead}
 use Rattle.cw_recogniser.proofs.Heads.{head, head_is, untaken}
-use Rattle.cw_grammar.proofs.Wording.{one_word, two_words}
+use Rattle.cw_grammar.proofs.Wording.{one_terminal, two_terminals}
 use Rattle.cw_recogniser.proofs.TypesRead.{EndsType, reads_stars, stars_end, reads_type_name, Declares as DeclaresSymbol, reads_specifiers}
 use Rattle.cw_recogniser.proofs.DeclarationsRead.{FirstItem, first_of_items, first_ends}
 use Rattle.cw_recogniser.proofs.StatementsRead.{reads_statements, reads_items}
@@ -72,7 +72,7 @@ nameless_kind named below _ go h = absurd cc
 
 nameless : (named : Bool) (below : List Symbol) (ts : List Lexeme) → Accepts (s.MoreParams false ∷ below) ts → Accepts (s.AfterType named ∷ below) ts
 nameless named below [] h = absurd (let f = h.ok in cc)
-nameless named below (t ∷ ts) h = record { ok = nameless_kind named below (kind_of_word t.word) (λ next. accepts next ts) h.ok }
+nameless named below (t ∷ ts) h = record { ok = nameless_kind named below (kind_of_terminal t.terminal) (λ next. accepts next ts) h.ok }
 
 param_begins : (named : Bool) (kind : TerminalKind) → is_some (qualified kind) ≡ true → after (s.Param named) kind ≡ onto (qualified kind) (s.TwoStars ∷ s.AfterType named ∷ [])
 param_begins named k.Const e = refl
@@ -88,7 +88,7 @@ and_assoc true b c = refl
 and_assoc false b c = refl
 
 reads_brackets : (array : Bool) (ts rest : List Lexeme) (below : List Symbol) → IsBrackets ts array → head is_param_end rest ≡ true → Accepts below rest → Accepts (s.Brackets ∷ below) (ts ++ rest)
-reads_brackets true ts rest below d f h = let x = two_words ts w.OpenBracket w.CloseBracket d in rw x.2 (step x.3 refl (step x.4 refl h))
+reads_brackets true ts rest below d f h = let x = two_terminals ts w.OpenBracket w.CloseBracket d in rw x.2 (step x.3 refl (step x.4 refl h))
 reads_brackets false ts rest below d f h = rw d (skip refl (untaken s.Brackets is_param_end no_brackets rest f) h)
 
 -- behind a parameter's type
@@ -97,19 +97,19 @@ reads_named : (named array : Bool) (name : Option Name) (b c rest : List Lexeme)
 reads_named named array (Some x) b c rest below (t, e, is, _) d f h =
     rw e (step is refl (reads_brackets array c rest (s.MoreParams named ∷ below) d f (subst (λ (z : Bool). Accepts (s.MoreParams z ∷ below) rest) (and_true named) h)))
 reads_named named true None b c rest below e d f h =
-    let x = two_words c w.OpenBracket w.CloseBracket d in
+    let x = two_terminals c w.OpenBracket w.CloseBracket d in
     rw (e, x.2) (step x.3 refl (step x.4 refl (subst (λ (z : Bool). Accepts (s.MoreParams z ∷ below) rest) (and_false named) h)))
 reads_named named false None b c rest below e d f h = rw (e, d) (nameless named below rest (subst (λ (z : Bool). Accepts (s.MoreParams z ∷ below) rest) (and_false named) h))
 
 named_ends : (array : Bool) (name : Option Name) (b c rest : List Lexeme) → IsOptional IsName b name → IsBrackets c array → head is_param_end rest ≡ true → EndsType (b ++ (c ++ rest))
 named_ends array (Some x) b c rest (t, e, is, _) d f = rw (e, is) refl
-named_ends true None b c rest e d f = let x = two_words c w.OpenBracket w.CloseBracket d in rw (e, x.2, x.3) refl
+named_ends true None b c rest e d f = let x = two_terminals c w.OpenBracket w.CloseBracket d in rw (e, x.2, x.3) refl
 named_ends false None b c rest e d f = rw (e, d) (untaken s.AfterUnsigned is_param_end param_end_type rest f)
 
 named_stars : (array : Bool) (name : Option Name) (b c rest : List Lexeme) → IsOptional IsName b name → IsBrackets c array → head is_param_end rest ≡ true
     → takes s.TwoStars (b ++ (c ++ rest)) ≡ false
 named_stars array (Some x) b c rest (t, e, is, _) d f = rw (e, is) refl
-named_stars true None b c rest e d f = let x = two_words c w.OpenBracket w.CloseBracket d in rw (e, x.2, x.3) refl
+named_stars true None b c rest e d f = let x = two_terminals c w.OpenBracket w.CloseBracket d in rw (e, x.2, x.3) refl
 named_stars false None b c rest e d f = rw (e, d) (untaken s.TwoStars is_param_end param_end_stars rest f)
 
 reads_param : (named : Bool) (p : Param) (ts rest : List Lexeme) (below : List Symbol) → IsParam ts p → head is_param_end rest ≡ true
@@ -137,7 +137,7 @@ ending_kind below _ go h = absurd cc
 
 ending_wider : (below : List Symbol) (ts : List Lexeme) → accepts (s.Ending false ∷ below) ts ≡ true → accepts (s.Ending true ∷ below) ts ≡ true
 ending_wider below [] h = absurd cc
-ending_wider below (t ∷ ts) h = ending_kind below (kind_of_word t.word) (λ next. accepts next ts) h
+ending_wider below (t ∷ ts) h = ending_kind below (kind_of_terminal t.terminal) (λ next. accepts next ts) h
 
 void_kind : (below : List Symbol) (kind : TerminalKind) (ts : List Lexeme) → then_done (feed (s.TwoStars ∷ s.AfterType true ∷ below) kind) (λ next. accepts next ts) ≡ true
     → then_done (feed (s.AfterVoid ∷ below) kind) (λ next. accepts next ts) ≡ true
@@ -150,7 +150,7 @@ void_kind below _ ts h = absurd cc
 
 behind_void : (below : List Symbol) (ts : List Lexeme) → accepts (s.TwoStars ∷ s.AfterType true ∷ below) ts ≡ true → accepts (s.AfterVoid ∷ below) ts ≡ true
 behind_void below [] h = absurd cc
-behind_void below (t ∷ ts) h = void_kind below (kind_of_word t.word) ts h
+behind_void below (t ∷ ts) h = void_kind below (kind_of_terminal t.terminal) ts h
 
 params_kind : (below : List Symbol) (kind : TerminalKind) (ts : List Lexeme) → then_done (feed (s.Param true ∷ below) kind) (λ next. accepts next ts) ≡ true
     → then_done (feed (s.Params ∷ below) kind) (λ next. accepts next ts) ≡ true
@@ -164,12 +164,12 @@ params_kind below _ ts h = absurd cc
 
 as_params : (below : List Symbol) (ts : List Lexeme) → Accepts (s.Param true ∷ below) ts → Accepts (s.Params ∷ below) ts
 as_params below [] h = absurd (let f = h.ok in cc)
-as_params below (t ∷ ts) h = record { ok = params_kind below (kind_of_word t.word) ts h.ok }
+as_params below (t ∷ ts) h = record { ok = params_kind below (kind_of_terminal t.terminal) ts h.ok }
 
 reads_params : (ps : List Param) (ts : List Lexeme) (c : Lexeme) (rest : List Lexeme) (below : List Symbol) → AreParams ts ps → Is w.Close c
     → Accepts (s.Ending (all_named ps) ∷ below) rest → Accepts (s.Params ∷ below) (ts ++ (c ∷ rest))
 reads_params ps ts c rest below (inl (e, f)) is h =
-    let x = one_word ts w.Void e in
+    let x = one_terminal ts w.Void e in
     rw x.1 (step x.2 refl (step is refl (subst (λ (z : List Param). Accepts (s.Ending (all_named z) ∷ below) rest) f h)))
 reads_params [] ts c rest below (inr (_, d)) is h = rw d (step is refl h)
 reads_params (p ∷ ps) ts c rest below (inr (_, d)) is h = as_params below (ts ++ (c ∷ rest)) (reads_list true ps p ts c rest below d is h)
@@ -201,7 +201,7 @@ declared_kind below _ go h = absurd cc
 
 as_declared : (below : List Symbol) (ts : List Lexeme) → Accepts (s.Array ∷ s.Initialiser ∷ s.MoreItems ∷ s.Semicolon ∷ below) ts → Accepts (s.AfterDeclared ∷ below) ts
 as_declared below [] h = absurd (let f = h.ok in cc)
-as_declared below (t ∷ ts) h = record { ok = declared_kind below (kind_of_word t.word) (λ next. accepts next ts) h.ok }
+as_declared below (t ∷ ts) h = record { ok = declared_kind below (kind_of_terminal t.terminal) (λ next. accepts next ts) h.ok }
 
 first_declared : (n : ℕ) (ts rest : List Lexeme) (below : List Symbol) → FirstItem n ts rest (s.Semicolon ∷ below) → Accepts (s.TwoStars ∷ s.Name ∷ s.AfterDeclared ∷ below) (ts ++ rest)
 first_declared n ts rest below i = rw (i.split, append_assoc)

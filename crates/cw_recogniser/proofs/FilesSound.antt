@@ -3,19 +3,19 @@ use Rattle.std.proofs.Common.{◌≡◌, max, Bool, true, false, List, [], ◌�
 use Rattle.std.specs.Prelude.{is_some, ◌&&◌}
 use Rattle.cw_syntax.specs.declared.program.Name.{Name}
 use Rattle.cw_syntax.specs.declared.program.Param.{Param}
-use Rattle.cw_grammar.specs.declared.words.Word.TheVariants as w
-use Rattle.cw_grammar.specs.declared.words.Lexeme.{Lexeme}
+use Rattle.cw_grammar.specs.declared.terminals.Terminal.TheVariants as w
+use Rattle.cw_grammar.specs.declared.terminals.Lexeme.{Lexeme}
 use Rattle.cw_grammar.specs.Lexemes.{Is, name_of, statements}
 use Rattle.cw_grammar.specs.Declarations.{pointer, AreParams, IsHeader}
 use Rattle.cw_grammar.specs.Files.{AreNamed, Declares, Holds, Defines, IsPart}
 use Rattle.cw_recogniser.specs.declared.kinds.TerminalKind.{TerminalKind}
 use Rattle.cw_recogniser.specs.declared.kinds.TerminalKind.TheVariants as k
 use Rattle.cw_recogniser.specs.declared.symbols.Symbol.TheVariants as s
-use Rattle.cw_recogniser.specs.Kinds.{kind_of_word}
+use Rattle.cw_recogniser.specs.Kinds.{kind_of_terminal}
 use Rattle.cw_recogniser.specs.Machine.{after, after_declared, specifiers}
 use Rattle.cw_grammar.proofs.Deeper.{part_deeper, all_weaker}
 use Rattle.cw_recogniser.proofs.FilesRead.{all_named}
-use Rattle.cw_recogniser.proofs.Meanings.{SomeStars, SomeSpecifiers, SomeArray, SomeInitialiser, SomeItems, SomeParams, SomePart, SomeParts, Ends, Mark, Means, Follow, Given}
+use Rattle.cw_recogniser.proofs.Meanings.{SomeStars, SomeSpecifiers, SomeArray, SomeInitialiser, SomeItems, SomeParams, SomePart, SomeParts, Ends, Punctuator, Means, Follow, Given}
 use Rattle.cw_recogniser.proofs.Meanings.{split_follow, split_onto, exact}
 use Rattle.cw_recogniser.proofs.TypesSound.{specifiers_sound}
 use Rattle.cw_recogniser.proofs.DeclarationsSound.{array_none, array_sound, initialiser_none, initialiser_sound, more_items_none, more_items_sound, item_of, SomeDeclaration, declaration_of}
@@ -66,7 +66,7 @@ module _ (b c : List Lexeme) (m : Lexeme) (specs : SomeSpecifiers b) (stars : So
       subst (λ (x : List Lexeme). SomePart x) (ap (λ (x : List Lexeme). b ++ x) (rw (append_assoc, append_assoc, append_assoc) refl))
       (holds (b ++ (((c ++ (m ∷ (arr ++ init))) ++ others) ++ (z ∷ []))) (declaration_of b ((c ++ (m ∷ (arr ++ init))) ++ others) z specs items semicolon))
 
-pub after_declared_sound : (kind : TerminalKind) (t : Lexeme) (a rest : List Lexeme) → kind_of_word t.word ≡ kind → Given (after_declared kind) a rest → Means s.AfterDeclared (t ∷ a) rest
+pub after_declared_sound : (kind : TerminalKind) (t : Lexeme) (a rest : List Lexeme) → kind_of_terminal t.terminal ≡ kind → Given (after_declared kind) a rest → Means s.AfterDeclared (t ∷ a) rest
 after_declared_sound k.Open t a rest e h = λ b c m specs stars is. by_params b c m t specs stars is a (exact t k.Open w.Open e refl) h
 after_declared_sound k.OpenBracket t a rest e h = λ b c m specs stars is. by_parts b c m specs stars is
     (split_follow (s.MaybeExpression ∷ s.CloseBracket ∷ []) s.Initialiser (s.MoreItems ∷ s.Semicolon ∷ []) a rest h) where
@@ -81,7 +81,7 @@ after_declared_sound k.Assign t a rest e (x, y, g, init, (l, d, j, more, (z, i, 
 after_declared_sound k.Comma t a rest e h = λ b c m specs stars is. by_parts b c m specs stars is
     (split_follow (s.TwoStars ∷ s.Name ∷ s.Array ∷ s.Initialiser ∷ s.MoreItems ∷ []) s.Semicolon [] a rest h) where
       by_parts : (b c : List Lexeme) (m : Lexeme) → SomeSpecifiers b → SomeStars c → Is w.Name m → (u : List Lexeme) × (v : List Lexeme) × (a ≡ u ++ v)
-          × Follow (s.TwoStars ∷ s.Name ∷ s.Array ∷ s.Initialiser ∷ s.MoreItems ∷ []) u (v ++ rest) × Mark w.Semicolon v → SomePart (b ++ (c ++ (m ∷ t ∷ a)))
+          × Follow (s.TwoStars ∷ s.Name ∷ s.Array ∷ s.Initialiser ∷ s.MoreItems ∷ []) u (v ++ rest) × Punctuator w.Semicolon v → SomePart (b ++ (c ++ (m ∷ t ∷ a)))
       by_parts b c m specs stars is (u, v, f, items, (z, i, q)) =
           subst (λ (x : List Lexeme). SomePart (b ++ (c ++ (m ∷ t ∷ x)))) (sym (rw (f, i) refl))
           (by_items b c m specs stars is [] [] (t ∷ u) z (v ++ rest) array_none initialiser_none (more_items_sound k.Comma t u (v ++ rest) e items) q)
@@ -97,7 +97,7 @@ before_parts a b (m, x, h) (n, xs, d) =
     let k = max m n in
     (k, x ∷ xs, (a, b, refl, part_deeper m k (omega arith) a x h, all_weaker (IsPart n) (IsPart k) (part_deeper n k (omega arith)) xs b d))
 
-pub parts_sound : (kind : TerminalKind) (t : Lexeme) (a rest : List Lexeme) → kind_of_word t.word ≡ kind → Given (after s.Parts kind) a rest → SomeParts (t ∷ a)
+pub parts_sound : (kind : TerminalKind) (t : Lexeme) (a rest : List Lexeme) → kind_of_terminal t.terminal ≡ kind → Given (after s.Parts kind) a rest → SomeParts (t ∷ a)
 parts_sound kind t a rest e h = by_parts (split_onto (specifiers kind) s.TwoStars (s.Name ∷ s.AfterDeclared ∷ s.Parts ∷ []) a rest h) where
   by_parts : (b : List Lexeme) × (c : List Lexeme) × (a ≡ b ++ c) × Given (specifiers kind) b (c ++ rest) × Follow (s.TwoStars ∷ s.Name ∷ s.AfterDeclared ∷ s.Parts ∷ []) c rest → SomeParts (t ∷ a)
   by_parts (b, c, f, given, (u, v, g, stars, (x, y, j, (m, i, q), (l, d, o, part, parts)))) =

@@ -1,9 +1,9 @@
 -- What completes each stack, and that what follows a symbol on a stack isn't taken by it.
 use Rattle.std.proofs.Common.{◌≡◌, Bool, true, false, List, [], ◌∷◌, ◌++◌, refl, sym, ap, subst, ◌∙◌, append_assoc, Some, None}
 use Rattle.std.specs.Prelude.{is_some, not}
-use Rattle.cw_grammar.specs.declared.words.Word.{Word}
-use Rattle.cw_grammar.specs.declared.words.Word.TheVariants as w
-use Rattle.cw_grammar.specs.declared.words.Lexeme.{Lexeme}
+use Rattle.cw_grammar.specs.declared.terminals.Terminal.{Terminal}
+use Rattle.cw_grammar.specs.declared.terminals.Terminal.TheVariants as w
+use Rattle.cw_grammar.specs.declared.terminals.Lexeme.{Lexeme}
 use Rattle.cw_recogniser.specs.declared.kinds.TerminalKind.{TerminalKind}
 use Rattle.cw_recogniser.specs.declared.kinds.TerminalKind.TheVariants as k
 use Rattle.cw_recogniser.specs.declared.symbols.Symbol.{Symbol}
@@ -11,15 +11,15 @@ use Rattle.cw_recogniser.specs.declared.symbols.Symbol.TheVariants as s
 use Rattle.cw_recogniser.specs.Machine.{Next, onto, either, after, may_be_empty, fed, feed, unary, expression, operand, plain_unary, measured, call, texts, suffixes, operator}
 use Rattle.cw_recogniser.specs.Machine.{assignment, more_arguments, bare_type, after_unsigned, after_long, qualified, specifiers, type_name, two_stars, one_star, declaration}
 use Rattle.cw_recogniser.specs.Machine.{array, initialiser, initial, more_elements, more_items, after_declared, param, params, after_type, after_void, brackets, more_params}
-use Rattle.cw_recogniser.specs.Machine.{ending, statement, after_name, maybe_else, for_init, opening, closing, close_bracket, close_brace, semicolon, while_word, name}
+use Rattle.cw_recogniser.specs.Machine.{ending, statement, after_name, maybe_else, for_init, opening, closing, close_bracket, close_brace, semicolon, while_keyword, name}
 use Rattle.cw_recogniser.proofs.Accepting.{Accepts, takes, step, skip}
 use Rattle.cw_recogniser.proofs.Heads.{head, untaken}
 use Rattle.std.proofs.lemmas.Bool.{not-true as is_false}
 
 -- ---- completions
 
-abbrev plain : Word → Lexeme
-plain word = record { word = word; from = 0; to = 0 }
+abbrev plain : Terminal → Lexeme
+plain terminal = record { terminal = terminal; from = 0; to = 0 }
 
 abbrev completion : Symbol → List Lexeme
 completion s.Open = plain w.Open ∷ []
@@ -562,7 +562,7 @@ fit_semicolon : (kind : TerminalKind) (rest : List Lexeme) → FitNext (semicolo
 fit_semicolon k.Semicolon rest = tt
 fit_semicolon _ rest = tt
 
-fit_while : (kind : TerminalKind) (rest : List Lexeme) → FitNext (while_word kind) rest
+fit_while : (kind : TerminalKind) (rest : List Lexeme) → FitNext (while_keyword kind) rest
 fit_while k.While rest = tt
 fit_while _ rest = tt
 

@@ -1,9 +1,9 @@
 -- Tokens that are each taken are a front of a text, and others are none.
 use Rattle.std.proofs.Common.{◌≡◌, true, false, List, [], ◌∷◌, ◌++◌, refl, sym, ap, subst, ◌∙◌, Some, None}
 use Rattle.std.proofs.lemmas.List.{append-nil}
-use Rattle.cw_grammar.specs.declared.words.Lexeme.{Lexeme}
+use Rattle.cw_grammar.specs.declared.terminals.Lexeme.{Lexeme}
 use Rattle.cw_recogniser.specs.declared.symbols.Symbol.{Symbol}
-use Rattle.cw_recogniser.specs.Kinds.{kind_of_word}
+use Rattle.cw_recogniser.specs.Kinds.{kind_of_terminal}
 use Rattle.cw_recogniser.specs.Language.{AreOfGrammar, IsFront}
 use Rattle.cw_recogniser.specs.Machine.{Next, feed, run, is_done, start}
 use Rattle.cw_recogniser.proofs.Accepting.{then_done, accepts}
@@ -18,15 +18,15 @@ by_feed (Some next) ts more rec = rec next
 
 accepts_both : (ts more : List Lexeme) (stack : List Symbol) → accepts stack (ts ++ more) ≡ then_done (run stack ts) (λ z. accepts z more)
 accepts_both [] more stack = refl
-accepts_both (t ∷ ts) more stack = by_feed (feed stack (kind_of_word t.word)) ts more (λ next. accepts_both ts more next)
+accepts_both (t ∷ ts) more stack = by_feed (feed stack (kind_of_terminal t.terminal)) ts more (λ next. accepts_both ts more next)
 
 run_fits : (ts : List Lexeme) (stack next : List Symbol) → Fit stack → run stack ts ≡ Some next → Fit next
 run_fits [] stack next f e = let same : stack ≡ next = cc in subst (λ (z : List Symbol). Fit z) same f
-run_fits (t ∷ ts) stack next f e = by_one (feed stack (kind_of_word t.word)) refl e (λ z g q. run_fits ts z next g q) where
-  by_one : (o : Next) → feed stack (kind_of_word t.word) ≡ o → (elim o as (λ x. Next) [ None ↦ None | Some z ↦ run z ts ]) ≡ Some next
+run_fits (t ∷ ts) stack next f e = by_one (feed stack (kind_of_terminal t.terminal)) refl e (λ z g q. run_fits ts z next g q) where
+  by_one : (o : Next) → feed stack (kind_of_terminal t.terminal) ≡ o → (elim o as (λ x. Next) [ None ↦ None | Some z ↦ run z ts ]) ≡ Some next
       → ((z : List Symbol) → Fit z → run z ts ≡ Some next → Fit next) → Fit next
   by_one None p q rec = absurd cc
-  by_one (Some z) p q rec = rec z (fed_fits stack (kind_of_word t.word) f z p) q
+  by_one (Some z) p q rec = rec z (fed_fits stack (kind_of_terminal t.terminal) f z p) q
 
 -- tokens that are each taken
 pub is_front : (ts : List Lexeme) (stack : List Symbol) → run start ts ≡ Some stack → IsFront ts

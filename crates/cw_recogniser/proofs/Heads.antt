@@ -1,32 +1,32 @@
 -- What may follow, by the kind of the first token.
 use Rattle.std.proofs.Common.{◌≡◌, Bool, true, false, List, [], ◌∷◌, refl}
 use Rattle.std.specs.Prelude.{is_some}
-use Rattle.cw_grammar.specs.declared.words.Word.{Word}
-use Rattle.cw_grammar.specs.declared.words.Lexeme.{Lexeme}
-use Rattle.cw_grammar.specs.Lexemes.{Is, words}
+use Rattle.cw_grammar.specs.declared.terminals.Terminal.{Terminal}
+use Rattle.cw_grammar.specs.declared.terminals.Lexeme.{Lexeme}
+use Rattle.cw_grammar.specs.Lexemes.{Is, terminals}
 use Rattle.cw_recogniser.specs.declared.kinds.TerminalKind.{TerminalKind}
 use Rattle.cw_recogniser.specs.declared.kinds.TerminalKind.TheVariants as k
 use Rattle.cw_recogniser.specs.declared.symbols.Symbol.{Symbol}
 use Rattle.cw_recogniser.specs.declared.symbols.Symbol.TheVariants as s
-use Rattle.cw_recogniser.specs.Kinds.{kind_of_word}
+use Rattle.cw_recogniser.specs.Kinds.{kind_of_terminal}
 use Rattle.cw_recogniser.specs.Machine.{after}
 use Rattle.cw_recogniser.proofs.Accepting.{takes}
-use Rattle.cw_grammar.proofs.Wording.{first_word, no_words, one_word, three_words, two_words}
+use Rattle.cw_grammar.proofs.Wording.{first_terminal, no_terminals, one_terminal, three_terminals, two_terminals}
 
 abbrev pub head : (TerminalKind → Bool) → List Lexeme → Bool
 head p [] = false
-head p (t ∷ ts) = p (kind_of_word t.word)
+head p (t ∷ ts) = p (kind_of_terminal t.terminal)
 
-pub head_is : (p : TerminalKind → Bool) (word : Word) (t : Lexeme) (ts : List Lexeme) → Is word t → p (kind_of_word word) ≡ true → head p (t ∷ ts) ≡ true
-head_is p word t ts is e = rw is e
+pub head_is : (p : TerminalKind → Bool) (terminal : Terminal) (t : Lexeme) (ts : List Lexeme) → Is terminal t → p (kind_of_terminal terminal) ≡ true → head p (t ∷ ts) ≡ true
+head_is p terminal t ts is e = rw is e
 
 pub untaken : (symbol : Symbol) (p : TerminalKind → Bool) → ((kind : TerminalKind) → p kind ≡ true → is_some (after symbol kind) ≡ false) → (ts : List Lexeme) → head p ts ≡ true → takes symbol ts ≡ false
 untaken symbol p f [] e = absurd cc
-untaken symbol p f (t ∷ ts) e = f (kind_of_word t.word) e
+untaken symbol p f (t ∷ ts) e = f (kind_of_terminal t.terminal) e
 
 pub head_wider : (p q : TerminalKind → Bool) → ((kind : TerminalKind) → p kind ≡ true → q kind ≡ true) → (ts : List Lexeme) → head p ts ≡ true → head q ts ≡ true
 head_wider p q f [] e = absurd cc
-head_wider p q f (t ∷ ts) e = f (kind_of_word t.word) e
+head_wider p q f (t ∷ ts) e = f (kind_of_terminal t.terminal) e
 
 -- behind an expression
 abbrev pub is_end : TerminalKind → Bool
@@ -107,4 +107,4 @@ pub no_text : (kind : TerminalKind) → is_follower kind ≡ true → is_some (a
 no_text k.Text e = absurd cc
 no_text _ e = refl
 
--- ---- tokens with these words
+-- ---- tokens with these terminals

@@ -1,5 +1,5 @@
 mod Accepting
-mod WordKinds
+mod TerminalKinds
 mod Heads
 mod TypesRead
 mod ExpressionsRead

@@ -5,11 +5,11 @@ use Rattle.cw_syntax.specs.declared.program.CType.{CType}
 use Rattle.cw_syntax.specs.declared.program.Base.{Base}
 use Rattle.cw_syntax.specs.declared.program.Param.{Param}
 use Rattle.cw_syntax.specs.Trees.{Tree, Trees, Declared, Statement, Perhaps}
-use Rattle.cw_grammar.specs.declared.words.Word.{Word}
-use Rattle.cw_grammar.specs.declared.words.Word.TheVariants as w
-use Rattle.cw_grammar.specs.declared.words.Lexeme.{Lexeme}
+use Rattle.cw_grammar.specs.declared.terminals.Terminal.{Terminal}
+use Rattle.cw_grammar.specs.declared.terminals.Terminal.TheVariants as w
+use Rattle.cw_grammar.specs.declared.terminals.Lexeme.{Lexeme}
 use Rattle.cw_grammar.specs.declared.rules.Rule.TheVariants.{Expression, Level, Unary, Postfix}
-use Rattle.cw_grammar.specs.Lexemes.{Is, words, IsFlag, IsOptional, AreAll, AreSeparated}
+use Rattle.cw_grammar.specs.Lexemes.{Is, terminals, IsFlag, IsOptional, AreAll, AreSeparated}
 use Rattle.cw_grammar.specs.Types.{IsType, AreStars, IsTypeName}
 use Rattle.cw_grammar.specs.Expressions.{AreStrings, IsExpression}
 use Rattle.cw_grammar.specs.Declarations.{Specifiers, AreSpecifiers, IsArray, AreElements, IsInitialiser, IsItem, IsBrackets, IsParam, AreParams}
@@ -18,15 +18,15 @@ use Rattle.cw_grammar.specs.Files.{Part, IsPart}
 use Rattle.cw_recogniser.specs.declared.kinds.TerminalKind.{TerminalKind}
 use Rattle.cw_recogniser.specs.declared.symbols.Symbol.{Symbol}
 use Rattle.cw_recogniser.specs.declared.symbols.Symbol.TheVariants as s
-use Rattle.cw_recogniser.specs.Kinds.{kind_of_word}
+use Rattle.cw_recogniser.specs.Kinds.{kind_of_terminal}
 use Rattle.cw_recogniser.specs.Machine.{Next, onto, either}
 use Rattle.cw_recogniser.proofs.Accepting.{takes}
-use Rattle.cw_recogniser.proofs.WordKinds.{word_of, word_is}
+use Rattle.cw_recogniser.proofs.TerminalKinds.{terminal_of, terminal_is}
 use Rattle.cw_recogniser.proofs.Chains.{Stands}
 use Rattle.cw_recogniser.proofs.FilesRead.{is_named, all_named}
 
-abbrev pub Mark : Word → List Lexeme → Type 0
-Mark word a = (t : Lexeme) × (a ≡ t ∷ []) × Is word t
+abbrev pub Punctuator : Terminal → List Lexeme → Type 0
+Punctuator terminal a = (t : Lexeme) × (a ≡ t ∷ []) × Is terminal t
 
 -- ---- types
 
@@ -89,7 +89,7 @@ SomeBody d = (o : Lexeme) × (b : List Lexeme) × (c : Lexeme) × (d ≡ o ∷ (
 
 -- what may stand behind a header, by whether all parameters have names
 abbrev pub Ends : (named : Bool) → List Lexeme → Type 0
-Ends named d = Mark w.Semicolon d ⊎ ((named ≡ true) × SomeBody d)
+Ends named d = Punctuator w.Semicolon d ⊎ ((named ≡ true) × SomeBody d)
 
 abbrev pub SomeList : (named : Bool) → List Lexeme → Type 0
 SomeList named a = (p : Param) × (ps : List Param) × (b : List Lexeme) × (c : Lexeme) × (d : List Lexeme) × (a ≡ b ++ (c ∷ d)) × AreSeparated IsParam b (p ∷ ps) × Is w.Close c
@@ -108,13 +108,13 @@ SomeParts a = (n : ℕ) × (xs : List Part) × AreAll (IsPart n) a xs
 
 -- These tokens may stand in the symbol's place, before the rest.
 abbrev pub Means : Symbol → List Lexeme → (rest : List Lexeme) → Type 0
-Means s.Open a rest = Mark w.Open a
-Means s.Close a rest = Mark w.Close a
-Means s.CloseBracket a rest = Mark w.CloseBracket a
-Means s.CloseBrace a rest = Mark w.CloseBrace a
-Means s.Semicolon a rest = Mark w.Semicolon a
-Means s.While a rest = Mark w.While a
-Means s.Name a rest = Mark w.Name a
+Means s.Open a rest = Punctuator w.Open a
+Means s.Close a rest = Punctuator w.Close a
+Means s.CloseBracket a rest = Punctuator w.CloseBracket a
+Means s.CloseBrace a rest = Punctuator w.CloseBrace a
+Means s.Semicolon a rest = Punctuator w.Semicolon a
+Means s.While a rest = Punctuator w.While a
+Means s.Name a rest = Punctuator w.Name a
 Means s.Expression a rest = Stands Expression a
 Means s.Operand a rest = Stands (Level 0) a
 Means s.Unary a rest = Stands Unary a
@@ -135,7 +135,7 @@ Means s.Type a rest = SomeType a
 Means s.AfterUnsigned a rest = (t : Lexeme) → Is w.Unsigned t → SomeType (t ∷ a)
 Means s.AfterLong a rest = ((t : Lexeme) → Is w.Long t → SomeType (t ∷ a)) × ((u t : Lexeme) → Is w.Unsigned u → Is w.Long t → SomeType (u ∷ t ∷ a))
 Means s.TwoStars a rest = SomeStars a
-Means s.OneStar a rest = (stars : ℕ) × (stars ≤ 1) × (words a ≡ replicate stars w.Star)
+Means s.OneStar a rest = (stars : ℕ) × (stars ≤ 1) × (terminals a ≡ replicate stars w.Star)
 Means s.Array a rest = SomeArray a
 Means s.Initialiser a rest = SomeInitialiser a
 Means s.Initial a rest = (t : Lexeme) → Is w.Assign t → SomeInitialiser (t ∷ a)
@@ -189,10 +189,10 @@ pub split_either : (x y : Next) (a rest : List Lexeme) → Given (either x y) a 
 split_either None y a rest h = inr h
 split_either (Some new) y a rest h = inl h
 
--- the word of a token, by its kind
-pub exact : (t : Lexeme) (kind : TerminalKind) (word : Word) → kind_of_word t.word ≡ kind → word_of kind ≡ Some word → Is word t
-exact t kind word e f =
-    let g : word_of (kind_of_word t.word) ≡ Some word = ap word_of e ∙ f in
-    let some : is_some (word_of (kind_of_word t.word)) ≡ true = ap (λ (z : Option Word). is_some z) g in
-    let h = word_is t.word some in
+-- the terminal of a token, by its kind
+pub exact : (t : Lexeme) (kind : TerminalKind) (terminal : Terminal) → kind_of_terminal t.terminal ≡ kind → terminal_of kind ≡ Some terminal → Is terminal t
+exact t kind terminal e f =
+    let g : terminal_of (kind_of_terminal t.terminal) ≡ Some terminal = ap terminal_of e ∙ f in
+    let some : is_some (terminal_of (kind_of_terminal t.terminal)) ≡ true = ap (λ (z : Option Terminal). is_some z) g in
+    let h = terminal_is t.terminal some in
     cc

@@ -2,20 +2,20 @@
 use Rattle.std.proofs.Common.{◌≡◌, Bool, true, false, List, [], ◌∷◌, ◌++◌, refl, sym, ap, subst, ◌∙◌, append_assoc, inl, Some, None}
 use Rattle.std.proofs.lemmas.List.{append-nil}
 use Rattle.std.specs.Prelude.{is_some, ◌&&◌}
-use Rattle.cw_grammar.specs.declared.words.Word.{Word}
-use Rattle.cw_grammar.specs.declared.words.Word.TheVariants as w
-use Rattle.cw_grammar.specs.declared.words.Lexeme.{Lexeme}
+use Rattle.cw_grammar.specs.declared.terminals.Terminal.{Terminal}
+use Rattle.cw_grammar.specs.declared.terminals.Terminal.TheVariants as w
+use Rattle.cw_grammar.specs.declared.terminals.Lexeme.{Lexeme}
 use Rattle.cw_grammar.specs.Files.{IsOfGrammar, file_of}
 use Rattle.cw_recogniser.specs.declared.kinds.TerminalKind.{TerminalKind}
 use Rattle.cw_recogniser.specs.declared.kinds.TerminalKind.TheVariants as k
 use Rattle.cw_recogniser.specs.declared.symbols.Symbol.{Symbol}
 use Rattle.cw_recogniser.specs.declared.symbols.Symbol.TheVariants as s
-use Rattle.cw_recogniser.specs.Kinds.{kind_of_word}
+use Rattle.cw_recogniser.specs.Kinds.{kind_of_terminal}
 use Rattle.cw_recogniser.specs.Language.{AreOfGrammar}
-use Rattle.cw_recogniser.specs.Machine.{Next, after, may_be_empty, fed, feed, start, opening, closing, close_bracket, close_brace, semicolon, while_word, name}
+use Rattle.cw_recogniser.specs.Machine.{Next, after, may_be_empty, fed, feed, start, opening, closing, close_bracket, close_brace, semicolon, while_keyword, name}
 use Rattle.cw_recogniser.proofs.Accepting.{then_done, accepts, Accepts, takes}
-use Rattle.cw_recogniser.proofs.WordKinds.{word_of}
-use Rattle.cw_recogniser.proofs.Meanings.{Mark, Means, Follow, Given, exact}
+use Rattle.cw_recogniser.proofs.TerminalKinds.{terminal_of}
+use Rattle.cw_recogniser.proofs.Meanings.{Punctuator, Means, Follow, Given, exact}
 use Rattle.cw_recogniser.proofs.TypesSound.{long_none, unsigned_none, long_sound, unsigned_sound, type_sound, qualified_sound, stars_none, star_none, two_stars_sound, one_star_sound}
 use Rattle.cw_recogniser.proofs.ExpressionsSound.{suffixes_none, call_none, tail_none, more_arguments_none, expression_sound, operand_sound, plain_unary_sound, measured_sound}
 use Rattle.cw_recogniser.proofs.ExpressionsSound.{opened_sound, opened_operand_sound, opened_measured_sound, call_sound, texts_sound, suffixes_sound, operator_sound}
@@ -26,48 +26,48 @@ use Rattle.cw_recogniser.proofs.ParamsSound.{more_params_sound, brackets_none, b
 use Rattle.cw_recogniser.proofs.StatementsSound.{statement_sound, after_name_sound, else_sound, items_sound, init_sound}
 use Rattle.cw_recogniser.proofs.FilesSound.{after_declared_sound, parts_sound}
 
--- ---- marks
+-- ---- punctuators
 
-marked : (t : Lexeme) (a : List Lexeme) (kind : TerminalKind) (word : Word) → kind_of_word t.word ≡ kind → word_of kind ≡ Some word → a ≡ [] → Mark word (t ∷ a)
-marked t a kind word e f h = (t, ap (λ (z : List Lexeme). t ∷ z) h, exact t kind word e f)
+punctuated : (t : Lexeme) (a : List Lexeme) (kind : TerminalKind) (terminal : Terminal) → kind_of_terminal t.terminal ≡ kind → terminal_of kind ≡ Some terminal → a ≡ [] → Punctuator terminal (t ∷ a)
+punctuated t a kind terminal e f h = (t, ap (λ (z : List Lexeme). t ∷ z) h, exact t kind terminal e f)
 
-opening_sound : (kind : TerminalKind) (t : Lexeme) (a rest : List Lexeme) → kind_of_word t.word ≡ kind → Given (opening kind) a rest → Mark w.Open (t ∷ a)
-opening_sound k.Open t a rest e h = marked t a k.Open w.Open e refl h
+opening_sound : (kind : TerminalKind) (t : Lexeme) (a rest : List Lexeme) → kind_of_terminal t.terminal ≡ kind → Given (opening kind) a rest → Punctuator w.Open (t ∷ a)
+opening_sound k.Open t a rest e h = punctuated t a k.Open w.Open e refl h
 opening_sound _ t a rest e h = absurd h
 
-closing_sound : (kind : TerminalKind) (t : Lexeme) (a rest : List Lexeme) → kind_of_word t.word ≡ kind → Given (closing kind) a rest → Mark w.Close (t ∷ a)
-closing_sound k.Close t a rest e h = marked t a k.Close w.Close e refl h
+closing_sound : (kind : TerminalKind) (t : Lexeme) (a rest : List Lexeme) → kind_of_terminal t.terminal ≡ kind → Given (closing kind) a rest → Punctuator w.Close (t ∷ a)
+closing_sound k.Close t a rest e h = punctuated t a k.Close w.Close e refl h
 closing_sound _ t a rest e h = absurd h
 
-close_bracket_sound : (kind : TerminalKind) (t : Lexeme) (a rest : List Lexeme) → kind_of_word t.word ≡ kind → Given (close_bracket kind) a rest → Mark w.CloseBracket (t ∷ a)
-close_bracket_sound k.CloseBracket t a rest e h = marked t a k.CloseBracket w.CloseBracket e refl h
+close_bracket_sound : (kind : TerminalKind) (t : Lexeme) (a rest : List Lexeme) → kind_of_terminal t.terminal ≡ kind → Given (close_bracket kind) a rest → Punctuator w.CloseBracket (t ∷ a)
+close_bracket_sound k.CloseBracket t a rest e h = punctuated t a k.CloseBracket w.CloseBracket e refl h
 close_bracket_sound _ t a rest e h = absurd h
 
-close_brace_sound : (kind : TerminalKind) (t : Lexeme) (a rest : List Lexeme) → kind_of_word t.word ≡ kind → Given (close_brace kind) a rest → Mark w.CloseBrace (t ∷ a)
-close_brace_sound k.CloseBrace t a rest e h = marked t a k.CloseBrace w.CloseBrace e refl h
+close_brace_sound : (kind : TerminalKind) (t : Lexeme) (a rest : List Lexeme) → kind_of_terminal t.terminal ≡ kind → Given (close_brace kind) a rest → Punctuator w.CloseBrace (t ∷ a)
+close_brace_sound k.CloseBrace t a rest e h = punctuated t a k.CloseBrace w.CloseBrace e refl h
 close_brace_sound _ t a rest e h = absurd h
 
-semicolon_sound : (kind : TerminalKind) (t : Lexeme) (a rest : List Lexeme) → kind_of_word t.word ≡ kind → Given (semicolon kind) a rest → Mark w.Semicolon (t ∷ a)
-semicolon_sound k.Semicolon t a rest e h = marked t a k.Semicolon w.Semicolon e refl h
+semicolon_sound : (kind : TerminalKind) (t : Lexeme) (a rest : List Lexeme) → kind_of_terminal t.terminal ≡ kind → Given (semicolon kind) a rest → Punctuator w.Semicolon (t ∷ a)
+semicolon_sound k.Semicolon t a rest e h = punctuated t a k.Semicolon w.Semicolon e refl h
 semicolon_sound _ t a rest e h = absurd h
 
-while_word_sound : (kind : TerminalKind) (t : Lexeme) (a rest : List Lexeme) → kind_of_word t.word ≡ kind → Given (while_word kind) a rest → Mark w.While (t ∷ a)
-while_word_sound k.While t a rest e h = marked t a k.While w.While e refl h
-while_word_sound _ t a rest e h = absurd h
+while_keyword_sound : (kind : TerminalKind) (t : Lexeme) (a rest : List Lexeme) → kind_of_terminal t.terminal ≡ kind → Given (while_keyword kind) a rest → Punctuator w.While (t ∷ a)
+while_keyword_sound k.While t a rest e h = punctuated t a k.While w.While e refl h
+while_keyword_sound _ t a rest e h = absurd h
 
-name_sound : (kind : TerminalKind) (t : Lexeme) (a rest : List Lexeme) → kind_of_word t.word ≡ kind → Given (name kind) a rest → Mark w.Name (t ∷ a)
-name_sound k.Name t a rest e h = marked t a k.Name w.Name e refl h
+name_sound : (kind : TerminalKind) (t : Lexeme) (a rest : List Lexeme) → kind_of_terminal t.terminal ≡ kind → Given (name kind) a rest → Punctuator w.Name (t ∷ a)
+name_sound k.Name t a rest e h = punctuated t a k.Name w.Name e refl h
 name_sound _ t a rest e h = absurd h
 
 -- ---- each symbol
 
-taken : (symbol : Symbol) (kind : TerminalKind) (t : Lexeme) (a rest : List Lexeme) → kind_of_word t.word ≡ kind → Given (after symbol kind) a rest → Means symbol (t ∷ a) rest
+taken : (symbol : Symbol) (kind : TerminalKind) (t : Lexeme) (a rest : List Lexeme) → kind_of_terminal t.terminal ≡ kind → Given (after symbol kind) a rest → Means symbol (t ∷ a) rest
 taken s.Open kind t a rest e h = opening_sound kind t a rest e h
 taken s.Close kind t a rest e h = closing_sound kind t a rest e h
 taken s.CloseBracket kind t a rest e h = close_bracket_sound kind t a rest e h
 taken s.CloseBrace kind t a rest e h = close_brace_sound kind t a rest e h
 taken s.Semicolon kind t a rest e h = semicolon_sound kind t a rest e h
-taken s.While kind t a rest e h = while_word_sound kind t a rest e h
+taken s.While kind t a rest e h = while_keyword_sound kind t a rest e h
 taken s.Name kind t a rest e h = name_sound kind t a rest e h
 taken s.Expression kind t a rest e h = expression_sound kind t a rest e h
 taken s.Operand kind t a rest e h = operand_sound kind t a rest e h
@@ -161,18 +161,18 @@ ended (s ∷ below) h = by_empty (may_be_empty s) refl h (ended below) where
   by_empty false e h rec = absurd cc
 
 module _ (t : Lexeme) (ts : List Lexeme) (again : (next : List Symbol) → accepts next ts ≡ true → Whole next ts) where
-  by_next : (s : Symbol) (below : List Symbol) (next : Next) (b : Bool) (passed : Next) → after s (kind_of_word t.word) ≡ next → may_be_empty s ≡ b
+  by_next : (s : Symbol) (below : List Symbol) (next : Next) (b : Bool) (passed : Next) → after s (kind_of_terminal t.terminal) ≡ next → may_be_empty s ≡ b
       → then_done (fed next b below passed) (λ z. accepts z ts) ≡ true → (then_done passed (λ z. accepts z ts) ≡ true → Whole below (t ∷ ts)) → Whole (s ∷ below) (t ∷ ts)
   by_next s below (Some new) b passed e f h rec =
       let x = split_whole new below ts (again (new ++ below) h) in
-      let given : Given (after s (kind_of_word t.word)) x.0 x.1 = subst (λ (z : Next). Given z x.0 x.1) (sym e) x.3 in
-      (t ∷ x.0, x.1, ap (λ (z : List Lexeme). t ∷ z) x.2, taken s (kind_of_word t.word) t x.0 x.1 refl given, x.4)
+      let given : Given (after s (kind_of_terminal t.terminal)) x.0 x.1 = subst (λ (z : Next). Given z x.0 x.1) (sym e) x.3 in
+      (t ∷ x.0, x.1, ap (λ (z : List Lexeme). t ∷ z) x.2, taken s (kind_of_terminal t.terminal) t x.0 x.1 refl given, x.4)
   by_next s below None true passed e f h rec = ([], t ∷ ts, refl, left_empty s (t ∷ ts) f (ap (λ (z : Next). is_some z) e), rec h)
   by_next s below None false passed e f h rec = absurd cc
 
   one_more : (stack : List Symbol) → accepts stack (t ∷ ts) ≡ true → Whole stack (t ∷ ts)
   one_more [] h = absurd cc
-  one_more (s ∷ below) h = by_next s below (after s (kind_of_word t.word)) (may_be_empty s) (feed below (kind_of_word t.word)) refl refl h (one_more below)
+  one_more (s ∷ below) h = by_next s below (after s (kind_of_terminal t.terminal)) (may_be_empty s) (feed below (kind_of_terminal t.terminal)) refl refl h (one_more below)
 
 whole : (ts : List Lexeme) (stack : List Symbol) → accepts stack ts ≡ true → Whole stack ts
 whole [] stack h = ended stack h

@@ -3,9 +3,9 @@ use Rattle.std.proofs.Common.{◌≡◌, ◌≢◌, ℕ, zero, suc, Bool, true, 
 use Rattle.std.specs.Prelude.{is_some}
 use Rattle.cw_syntax.specs.Trees.{Tree, Statement, Stated, Form, Block, Declares as DeclaresForm, Evaluates, Empties, Labels, Chooses, Whiles, Does, Fors, Breaks, Continues}
 use Rattle.cw_syntax.specs.Trees.{Returns, Perhaps, nothing, just}
-use Rattle.cw_grammar.specs.declared.words.Word.{Word}
-use Rattle.cw_grammar.specs.declared.words.Word.TheVariants as w
-use Rattle.cw_grammar.specs.declared.words.Lexeme.{Lexeme}
+use Rattle.cw_grammar.specs.declared.terminals.Terminal.{Terminal}
+use Rattle.cw_grammar.specs.declared.terminals.Terminal.TheVariants as w
+use Rattle.cw_grammar.specs.declared.terminals.Lexeme.{Lexeme}
 use Rattle.cw_grammar.specs.Lexemes.{AreAll, IsOptional, IsEnded}
 use Rattle.cw_grammar.specs.Expressions.{IsExpression}
 use Rattle.cw_grammar.specs.Statements.{Place, InBlock, BeforeElse, Elsewhere, last, IsTest, IsInit, IsForm, IsStatement}
@@ -13,11 +13,11 @@ use Rattle.cw_recogniser.specs.declared.kinds.TerminalKind.{TerminalKind}
 use Rattle.cw_recogniser.specs.declared.kinds.TerminalKind.TheVariants as k
 use Rattle.cw_recogniser.specs.declared.symbols.Symbol.{Symbol}
 use Rattle.cw_recogniser.specs.declared.symbols.Symbol.TheVariants as s
-use Rattle.cw_recogniser.specs.Kinds.{kind_of_word}
+use Rattle.cw_recogniser.specs.Kinds.{kind_of_terminal}
 use Rattle.cw_recogniser.specs.Machine.{onto, either, after, feed, expression, declaration, statement}
 use Rattle.cw_recogniser.proofs.Accepting.{then_done, accepts, Accepts, takes, step, skip, pass, instead}
 use Rattle.cw_recogniser.proofs.Heads.{head_is, is_end}
-use Rattle.cw_grammar.proofs.Wording.{one_word, two_words}
+use Rattle.cw_grammar.proofs.Wording.{one_terminal, two_terminals}
 use Rattle.cw_recogniser.proofs.TypesRead.{Declares}
 use Rattle.cw_recogniser.proofs.ExpressionsRead.{reads}
 use Rattle.cw_recogniser.proofs.DeclarationsRead.{reads_optional, reads_declaration, behind}
@@ -40,7 +40,7 @@ after_call below _ go h = absurd cc
 
 after_call_at : (ts : List Lexeme) (below : List Symbol) → accepts (s.Call ∷ s.Suffixes ∷ s.Tail true ∷ s.Semicolon ∷ below) ts ≡ true → accepts (s.AfterName ∷ below) ts ≡ true
 after_call_at [] below h = absurd cc
-after_call_at (t ∷ ts) below h = after_call below (kind_of_word t.word) (λ next. accepts next ts) h
+after_call_at (t ∷ ts) below h = after_call below (kind_of_terminal t.terminal) (λ next. accepts next ts) h
 
 by_kind : (below : List Symbol) (kind : TerminalKind) (ts : List Lexeme) → then_done (feed (s.Expression ∷ s.Semicolon ∷ below) kind) (λ next. accepts next ts) ≡ true
     → then_done (feed (s.Statement ∷ below) kind) (λ next. accepts next ts) ≡ true
@@ -57,7 +57,7 @@ by_kind below _ ts h = absurd cc
 
 pub as_statement : (ts : List Lexeme) (below : List Symbol) → Accepts (s.Expression ∷ s.Semicolon ∷ below) ts → Accepts (s.Statement ∷ below) ts
 as_statement [] below h = absurd (let f = h.ok in cc)
-as_statement (t ∷ ts) below h = record { ok = by_kind below (kind_of_word t.word) ts h.ok }
+as_statement (t ∷ ts) below h = record { ok = by_kind below (kind_of_terminal t.terminal) ts h.ok }
 
 -- ---- statements and declarations in a block
 
@@ -130,7 +130,7 @@ else_kind below _ go h = refl
 
 no_else : (ts : List Lexeme) (below : List Symbol) → Accepts (s.Items ∷ s.CloseBrace ∷ below) ts → takes s.MaybeElse ts ≡ false
 no_else [] below h = refl
-no_else (t ∷ ts) below h = else_kind below (kind_of_word t.word) (λ next. accepts next ts) h.ok
+no_else (t ∷ ts) below h = else_kind below (kind_of_terminal t.terminal) (λ next. accepts next ts) h.ok
 
 abbrev is_declared : Form → Bool
 is_declared (DeclaresForm d) = true
@@ -142,7 +142,7 @@ undeclared E P place ts (DeclaresForm d) ne f = absurd (ne f.0)
 undeclared E P place ts (Block kids) ne f = refl
 undeclared E P place ts (Evaluates e) ne f = refl
 undeclared E P place ts Empties ne f = refl
-undeclared E P place ts (Labels name mark body) ne f = refl
+undeclared E P place ts (Labels name punctuator body) ne f = refl
 undeclared E P place ts (Chooses test body other) ne f = refl
 undeclared E P place ts (Whiles test body) ne f = refl
 undeclared E P place ts (Does body test) ne f = refl
@@ -176,19 +176,19 @@ module _ (limit : ℕ) where
   reads_test a x rest below (o, inner, c, e, p, q, d) h =
       rw (e, append_assoc) (step p refl ((reads limit).expression inner x (c ∷ rest) (s.Close ∷ below) d (head_is is_end w.Close c rest q refl) (step q refl h)))
 
-  reads_ended : (x : Option Tree) (word : Word) (closes : Symbol) (a rest : List Lexeme) (below : List Symbol) → IsEnded word (IsOptional (IsExpression limit)) a x
-      → is_end (kind_of_word word) ≡ true → after closes (kind_of_word word) ≡ Some [] → Accepts below rest → Accepts (s.MaybeExpression ∷ closes ∷ below) (a ++ rest)
-  reads_ended x word closes a rest below (inner, c, e, is, d) ends e2 h = rw (e, append_assoc) (reads_optional limit x inner word c rest (closes ∷ below) d is ends (step is e2 h))
+  reads_ended : (x : Option Tree) (terminal : Terminal) (closes : Symbol) (a rest : List Lexeme) (below : List Symbol) → IsEnded terminal (IsOptional (IsExpression limit)) a x
+      → is_end (kind_of_terminal terminal) ≡ true → after closes (kind_of_terminal terminal) ≡ Some [] → Accepts below rest → Accepts (s.MaybeExpression ∷ closes ∷ below) (a ++ rest)
+  reads_ended x terminal closes a rest below (inner, c, e, is, d) ends e2 h = rw (e, append_assoc) (reads_optional limit x inner terminal c rest (closes ∷ below) d is ends (step is e2 h))
 
   reads_init : (init : Perhaps) (a rest : List Lexeme) (below : List Symbol) → IsInit (IsExpression limit) a init → Accepts below rest → Accepts (s.ForInit ∷ below) (a ++ rest)
-  reads_init nothing a rest below d h = let x = one_word a w.Semicolon d in rw x.1 (step x.2 refl h)
+  reads_init nothing a rest below d h = let x = one_terminal a w.Semicolon d in rw x.1 (step x.2 refl h)
   reads_init (just (Stated (Evaluates x) from to)) a rest below (_, _, (inner, c, e, is, d)) h =
       rw (e, append_assoc) (instead {first = s.Expression} {symbol = s.ForInit} (s.Semicolon ∷ []) refl init_expression
       ((reads limit).expression inner x (c ∷ rest) (s.Semicolon ∷ below) d (head_is is_end w.Semicolon c rest is refl) (step is refl h)))
   reads_init (just (Stated (DeclaresForm x) from to)) a rest below (_, _, d) h = reads_declaration limit s.ForInit [] init_declares x a rest below d h
   reads_init (just (Stated (Block kids) from to)) a rest below d h = absurd d
   reads_init (just (Stated Empties from to)) a rest below d h = absurd d
-  reads_init (just (Stated (Labels name mark body) from to)) a rest below d h = absurd d
+  reads_init (just (Stated (Labels name punctuator body) from to)) a rest below d h = absurd d
   reads_init (just (Stated (Chooses test body other) from to)) a rest below d h = absurd d
   reads_init (just (Stated (Whiles test body) from to)) a rest below d h = absurd d
   reads_init (just (Stated (Does body test) from to)) a rest below d h = absurd d
@@ -211,8 +211,8 @@ module _ (limit : ℕ) where
     reads_form place (Evaluates x) ts rest below u (inner, c, e, is, d) f h =
         rw (e, append_assoc) (as_statement (inner ++ (c ∷ rest)) below
         ((reads limit).expression inner x (c ∷ rest) (s.Semicolon ∷ below) d (head_is is_end w.Semicolon c rest is refl) (step is refl h)))
-    reads_form place Empties ts rest below u d f h = let x = one_word ts w.Semicolon d in rw x.1 (step x.2 refl h)
-    reads_form place (Labels name mark body) ts rest below u (m, l, b, e, p, q, _, _, d) f h =
+    reads_form place Empties ts rest below u d f h = let x = one_terminal ts w.Semicolon d in rw x.1 (step x.2 refl h)
+    reads_form place (Labels name punctuator body) ts rest below u (m, l, b, e, p, q, _, _, d) f h =
         rw e (step p refl (step q refl (r.inner (last place) b body rest below (last_inner place) d (follows_last place rest f) h)))
     reads_form place (Chooses test body nothing) ts rest below u (i, a, b, e, ne, p, t, d) f h =
         rw (e, append_assoc) (step p refl (reads_test a test (b ++ rest) (s.Statement ∷ s.MaybeElse ∷ below) t
@@ -234,8 +234,8 @@ module _ (limit : ℕ) where
         )
         )))
         )
-    reads_form place Breaks ts rest below u d f h = let x = two_words ts w.Break w.Semicolon d in rw x.2 (step x.3 refl (step x.4 refl h))
-    reads_form place Continues ts rest below u d f h = let x = two_words ts w.Continue w.Semicolon d in rw x.2 (step x.3 refl (step x.4 refl h))
+    reads_form place Breaks ts rest below u d f h = let x = two_terminals ts w.Break w.Semicolon d in rw x.2 (step x.3 refl (step x.4 refl h))
+    reads_form place Continues ts rest below u d f h = let x = two_terminals ts w.Continue w.Semicolon d in rw x.2 (step x.3 refl (step x.4 refl h))
     reads_form place (Returns value) ts rest below u (l, b, e, p, d) f h = rw e (step p refl (reads_ended value w.Semicolon s.Semicolon b rest below d refl refl h))
 
     reads_inner : (place : Place) (a : List Lexeme) (x : Statement) (rest : List Lexeme) (below : List Symbol) → place ≢ InBlock → IsStatement limit (suc n) place a x

@@ -2,8 +2,8 @@
 use Rattle.std.proofs.Common.{◌≡◌, ◌≢◌, ℕ, suc, ◌≤◌, max, true, false, List, [], ◌∷◌, ◌++◌, refl, sym, ap, subst, ◌∙◌, append_assoc, inl, inr, ◌⊎◌, Option, arith}
 use Rattle.std.proofs.lemmas.List.{append-nil}
 use Rattle.cw_syntax.specs.Trees.{Tree, Statement, Stated, Form, Block, Declares, Evaluates, Empties, Labels, Chooses, Whiles, Does, Fors, Breaks, Continues, Returns, Perhaps, nothing, just}
-use Rattle.cw_grammar.specs.declared.words.Word.TheVariants as w
-use Rattle.cw_grammar.specs.declared.words.Lexeme.{Lexeme}
+use Rattle.cw_grammar.specs.declared.terminals.Terminal.TheVariants as w
+use Rattle.cw_grammar.specs.declared.terminals.Lexeme.{Lexeme}
 use Rattle.cw_grammar.specs.declared.rules.Rule.TheVariants.{Expression, Unary, Postfix}
 use Rattle.cw_grammar.specs.Lexemes.{Is, name_of, from_of, to_of, IsOptional, statements}
 use Rattle.cw_grammar.specs.Expressions.{IsExpression}
@@ -12,13 +12,13 @@ use Rattle.cw_recogniser.specs.declared.kinds.TerminalKind.{TerminalKind}
 use Rattle.cw_recogniser.specs.declared.kinds.TerminalKind.TheVariants as k
 use Rattle.cw_recogniser.specs.declared.symbols.Symbol.{Symbol}
 use Rattle.cw_recogniser.specs.declared.symbols.Symbol.TheVariants as s
-use Rattle.cw_recogniser.specs.Kinds.{kind_of_word}
+use Rattle.cw_recogniser.specs.Kinds.{kind_of_terminal}
 use Rattle.cw_recogniser.specs.Machine.{onto, either, after, expression, assignment, declaration, statement, after_name, maybe_else, for_init}
 use Rattle.cw_recogniser.proofs.Accepting.{takes}
-use Rattle.cw_recogniser.proofs.WordKinds.{is_jump}
+use Rattle.cw_recogniser.proofs.TerminalKinds.{is_jump}
 use Rattle.cw_grammar.proofs.Deeper.{expression_deeper, optional_weaker, init_weaker, declaration_weaker, all_weaker, statement_deeper}
 use Rattle.cw_recogniser.proofs.Chains.{Stands}
-use Rattle.cw_recogniser.proofs.Meanings.{Mark, Allows, OneStatement, SomeStatements, Means, Follow, Given, split_follow, split_onto, split_either, exact}
+use Rattle.cw_recogniser.proofs.Meanings.{Punctuator, Allows, OneStatement, SomeStatements, Means, Follow, Given, split_follow, split_onto, split_either, exact}
 use Rattle.cw_recogniser.proofs.ExpressionsSound.{postfix_unary, unary_operand, operand_chain, chain_expression, name_postfix, expression_sound, call_sound, suffixes_sound, assignment_sound}
 use Rattle.cw_recogniser.proofs.DeclarationsSound.{SomeDeclaration, declaration_sound}
 
@@ -218,7 +218,7 @@ fors i o y z a b c d rest p q (l, init, h) (m, test, t) is (k, each, g) ends x =
   );
 }
 
-jumps : (t z : Lexeme) (rest : List Lexeme) → (t.word ≡ w.Break) ⊎ (t.word ≡ w.Continue) → Is w.Semicolon z → OneStatement (t ∷ z ∷ []) rest
+jumps : (t z : Lexeme) (rest : List Lexeme) → (t.terminal ≡ w.Break) ⊎ (t.terminal ≡ w.Continue) → Is w.Semicolon z → OneStatement (t ∷ z ∷ []) rest
 jumps t z rest (inl p) q = record { nesting = 1; tree = made Breaks (t ∷ z ∷ []); derives = λ place f. (refl, refl, rw (p, q) refl) }
 jumps t z rest (inr p) q = record { nesting = 1; tree = made Continues (t ∷ z ∷ []); derives = λ place f. (refl, refl, rw (p, q) refl) }
 
@@ -257,7 +257,7 @@ while_sound t a rest is h = let x = test_split s.Statement [] a rest h in moved 
 
 do_sound : (t : Lexeme) (a rest : List Lexeme) → Is w.Do t → Follow (s.Statement ∷ s.While ∷ s.Open ∷ s.Expression ∷ s.Close ∷ s.Semicolon ∷ []) a rest → OneStatement (t ∷ a) rest
 do_sound t a rest is (b, c, f, x, (d, e, g, (m, j, q), h)) = by_test (test_split s.Semicolon [] e rest h) where
-  by_test : (u : List Lexeme) × (v : List Lexeme) × (e ≡ u ++ v) × SomeTest u × Mark w.Semicolon v → OneStatement (t ∷ a) rest
+  by_test : (u : List Lexeme) × (v : List Lexeme) × (e ≡ u ++ v) × SomeTest u × Punctuator w.Semicolon v → OneStatement (t ∷ a) rest
   by_test (u, v, l, test, (z, i, p)) = moved (ap (λ (y : List Lexeme). t ∷ y) (rw (f, g, j, l, i) refl)) (does t m z b u rest (c ++ rest) is x q test p)
 
 for_sound : (t : Lexeme) (a rest : List Lexeme) → Is w.For t → Follow (s.Open ∷ s.ForInit ∷ s.MaybeExpression ∷ s.Semicolon ∷ s.MaybeExpression ∷ s.Close ∷ s.Statement ∷ []) a rest
@@ -267,7 +267,7 @@ for_sound t a rest is (b0, c0, f0, (o, g0, p0), (b1, c1, f1, init, (b2, c2, f2, 
     (sym (ap (λ (e : List Lexeme). o ∷ (b1 ++ e)) (append_assoc b2 (y ∷ []) ((b4 ++ (z ∷ [])) ++ c5)
     ∙ ap (λ (e : List Lexeme). b2 ++ (y ∷ e)) (append_assoc b4 (z ∷ []) c5)))))) (fors t o y z b1 b2 b4 c5 rest is p0 init test p3 each p5 x)
 
-pub statement_sound : (kind : TerminalKind) (t : Lexeme) (a rest : List Lexeme) → kind_of_word t.word ≡ kind → Given (statement kind) a rest → OneStatement (t ∷ a) rest
+pub statement_sound : (kind : TerminalKind) (t : Lexeme) (a rest : List Lexeme) → kind_of_terminal t.terminal ≡ kind → Given (statement kind) a rest → OneStatement (t ∷ a) rest
 statement_sound k.Semicolon t a rest e h = moved (ap (λ (z : List Lexeme). t ∷ z) h) (empty t rest (exact t k.Semicolon w.Semicolon e refl))
 statement_sound k.OpenBrace t a rest e (b, c, f, items, (z, g, q)) = moved (ap (λ (y : List Lexeme). t ∷ y) (rw (f, g) refl)) (block t z b rest (exact t k.OpenBrace w.OpenBrace e refl) q items)
 statement_sound k.Name t a rest e h = h t (exact t k.Name w.Name e refl)
@@ -275,7 +275,7 @@ statement_sound k.If t a rest e h = if_sound t a rest (exact t k.If w.If e refl)
 statement_sound k.While t a rest e h = while_sound t a rest (exact t k.While w.While e refl) h
 statement_sound k.Do t a rest e h = do_sound t a rest (exact t k.Do w.Do e refl) h
 statement_sound k.For t a rest e h = for_sound t a rest (exact t k.For w.For e refl) h
-statement_sound k.Jump t a rest e (z, g, q) = moved (ap (λ (y : List Lexeme). t ∷ y) g) (jumps t z rest (is_jump t.word e) q)
+statement_sound k.Jump t a rest e (z, g, q) = moved (ap (λ (y : List Lexeme). t ∷ y) g) (jumps t z rest (is_jump t.terminal e) q)
 statement_sound k.Return t a rest e (b, c, f, d, (z, g, q)) = moved (ap (λ (y : List Lexeme). t ∷ y) (rw (f, g) refl)) (returns t z b rest (exact t k.Return w.Return e refl) d q)
 statement_sound kind t a rest e h =
     let x = split_onto (expression kind) s.Semicolon [] a rest h in
@@ -292,13 +292,13 @@ suffixed m a rest h (b, c, f, suffixes, others) = moved (rw f (sym (append_assoc
 named_unary : (m : Lexeme) → Is w.Name m → Stands Unary (m ∷ [])
 named_unary m is = postfix_unary (m ∷ []) (name_postfix m is)
 
-by_assignment : (kind : TerminalKind) (t : Lexeme) (a rest : List Lexeme) → kind_of_word t.word ≡ kind → Given (onto (assignment kind) (s.Semicolon ∷ [])) a rest → Means s.AfterName (t ∷ a) rest
+by_assignment : (kind : TerminalKind) (t : Lexeme) (a rest : List Lexeme) → kind_of_terminal t.terminal ≡ kind → Given (onto (assignment kind) (s.Semicolon ∷ [])) a rest → Means s.AfterName (t ∷ a) rest
 by_assignment kind t a rest e h m is =
     let x = split_onto (assignment kind) s.Semicolon [] a rest h in
     moved (ap (λ (z : List Lexeme). m ∷ t ∷ z) (x.2 ∙ ap (λ (z : List Lexeme). x.0 ++ z) x.4.1))
     (evaluates (m ∷ t ∷ x.0) x.4.0 rest (assignment_sound kind t x.0 (x.1 ++ rest) e x.3 (m ∷ []) (named_unary m is)) x.4.2)
 
-pub after_name_sound : (kind : TerminalKind) (t : Lexeme) (a rest : List Lexeme) → kind_of_word t.word ≡ kind → Given (after_name kind) a rest → Means s.AfterName (t ∷ a) rest
+pub after_name_sound : (kind : TerminalKind) (t : Lexeme) (a rest : List Lexeme) → kind_of_terminal t.terminal ≡ kind → Given (after_name kind) a rest → Means s.AfterName (t ∷ a) rest
 after_name_sound k.Colon t a rest e h = λ m is. labels m t a rest is (exact t k.Colon w.Colon e refl) h
 after_name_sound k.Semicolon t a rest e h = λ m is. moved (ap (λ (z : List Lexeme). m ∷ t ∷ z) h)
     (evaluates (m ∷ []) t rest (chain_expression (m ∷ []) (operand_chain (m ∷ []) (unary_operand (m ∷ []) (named_unary m is)))) (exact t k.Semicolon w.Semicolon e refl))
@@ -314,7 +314,7 @@ after_name_sound k.Step t a rest e h = λ m is.
     moved (ap (λ (z : List Lexeme). m ∷ t ∷ z) x.2) (ended (m ∷ t ∷ x.0) x.1 rest (postfix_unary (m ∷ t ∷ x.0) (suffixes_sound k.Step t x.0 (x.1 ++ rest) e x.3 (m ∷ []) (name_postfix m is))) x.4)
 after_name_sound kind t a rest e h = by_assignment kind t a rest e h
 
-pub else_sound : (kind : TerminalKind) (t : Lexeme) (a rest : List Lexeme) → kind_of_word t.word ≡ kind → Given (maybe_else kind) a rest → Means s.MaybeElse (t ∷ a) rest
+pub else_sound : (kind : TerminalKind) (t : Lexeme) (a rest : List Lexeme) → kind_of_terminal t.terminal ≡ kind → Given (maybe_else kind) a rest → Means s.MaybeElse (t ∷ a) rest
 else_sound k.Else t a rest e h = inr (t, a, refl, exact t k.Else w.Else e refl, h)
 else_sound _ t a rest e h = absurd h
 
@@ -338,12 +338,12 @@ one_more a b (m, x, h) (n, xs, d) =
       ),
     )
 
-by_form : (kind : TerminalKind) (t : Lexeme) (a rest : List Lexeme) → kind_of_word t.word ≡ kind → Given (declaration kind) a rest ⊎ Given (statement kind) a rest → (n : ℕ)
+by_form : (kind : TerminalKind) (t : Lexeme) (a rest : List Lexeme) → kind_of_terminal t.terminal ≡ kind → Given (declaration kind) a rest ⊎ Given (statement kind) a rest → (n : ℕ)
     × (x : Statement) × IsStatement n n InBlock (t ∷ a) x
 by_form kind t a rest e (inl h) = declared (t ∷ a) rest (declaration_sound kind t a rest e h)
 by_form kind t a rest e (inr h) = let x = statement_sound kind t a rest e h in (x.nesting, x.tree, x.derives InBlock tt)
 
-pub items_sound : (kind : TerminalKind) (t : Lexeme) (a rest : List Lexeme) → kind_of_word t.word ≡ kind → Given (after s.Items kind) a rest → SomeStatements (t ∷ a)
+pub items_sound : (kind : TerminalKind) (t : Lexeme) (a rest : List Lexeme) → kind_of_terminal t.terminal ≡ kind → Given (after s.Items kind) a rest → SomeStatements (t ∷ a)
 items_sound kind t a rest e h =
     let x = split_onto (either (declaration kind) (statement kind)) s.Items [] a rest h in
     subst (λ (z : List Lexeme). SomeStatements (t ∷ z)) (sym x.2)
@@ -351,7 +351,7 @@ items_sound kind t a rest e h =
 
 -- ---- the front of a `for`
 
-by_init : (kind : TerminalKind) (t : Lexeme) (a rest : List Lexeme) → kind_of_word t.word ≡ kind → Given (declaration kind) a rest
+by_init : (kind : TerminalKind) (t : Lexeme) (a rest : List Lexeme) → kind_of_terminal t.terminal ≡ kind → Given (declaration kind) a rest
     ⊎ Given (onto (expression kind) (s.Semicolon ∷ [])) a rest → SomeInit (t ∷ a)
 by_init kind t a rest e (inl h) = let x = declaration_sound kind t a rest e h in (x.0, just (made (Declares x.1) (t ∷ a)), (refl, refl, x.2))
 by_init kind t a rest e (inr h) =
@@ -359,6 +359,6 @@ by_init kind t a rest e (inr h) =
     let y = expression_sound kind t x.0 (x.1 ++ rest) e x.3 in
     (y.nesting, just (made (Evaluates y.tree) (t ∷ a)), (refl, refl, (t ∷ x.0, x.4.0, ap (λ (z : List Lexeme). t ∷ z) (x.2 ∙ ap (λ (z : List Lexeme). x.0 ++ z) x.4.1), x.4.2, y.derives)))
 
-pub init_sound : (kind : TerminalKind) (t : Lexeme) (a rest : List Lexeme) → kind_of_word t.word ≡ kind → Given (for_init kind) a rest → SomeInit (t ∷ a)
+pub init_sound : (kind : TerminalKind) (t : Lexeme) (a rest : List Lexeme) → kind_of_terminal t.terminal ≡ kind → Given (for_init kind) a rest → SomeInit (t ∷ a)
 init_sound k.Semicolon t a rest e h = (0, nothing, rw (h, exact t k.Semicolon w.Semicolon e refl) refl)
 init_sound kind t a rest e h = by_init kind t a rest e (split_either (declaration kind) (onto (expression kind) (s.Semicolon ∷ [])) a rest h)

@@ -3,20 +3,20 @@ use Rattle.std.proofs.Common.{◌≡◌, ℕ, zero, suc, Bool, true, false, List
 use Rattle.std.specs.Prelude.{is_some}
 use Rattle.cw_syntax.specs.declared.program.CType.{CType}
 use Rattle.cw_syntax.specs.declared.program.Base.{Base}
-use Rattle.cw_grammar.specs.declared.words.Word.{Word}
-use Rattle.cw_grammar.specs.declared.words.Word.TheVariants as w
-use Rattle.cw_grammar.specs.declared.words.Lexeme.{Lexeme}
-use Rattle.cw_grammar.specs.Lexemes.{words, IsFlag}
+use Rattle.cw_grammar.specs.declared.terminals.Terminal.{Terminal}
+use Rattle.cw_grammar.specs.declared.terminals.Terminal.TheVariants as w
+use Rattle.cw_grammar.specs.declared.terminals.Lexeme.{Lexeme}
+use Rattle.cw_grammar.specs.Lexemes.{terminals, IsFlag}
 use Rattle.cw_grammar.specs.Types.{IsType, AreStars, IsTypeName}
 use Rattle.cw_grammar.specs.Declarations.{IsStorage, Specifiers, AreSpecifiers}
 use Rattle.cw_recogniser.specs.declared.kinds.TerminalKind.{TerminalKind}
 use Rattle.cw_recogniser.specs.declared.kinds.TerminalKind.TheVariants as k
 use Rattle.cw_recogniser.specs.declared.symbols.Symbol.{Symbol}
 use Rattle.cw_recogniser.specs.declared.symbols.Symbol.TheVariants as s
-use Rattle.cw_recogniser.specs.Kinds.{kind_of_word}
+use Rattle.cw_recogniser.specs.Kinds.{kind_of_terminal}
 use Rattle.cw_recogniser.specs.Machine.{onto, after, after_unsigned, after_long, qualified, specifiers}
 use Rattle.cw_recogniser.proofs.Accepting.{Accepts, takes, step, skip, instead}
-use Rattle.cw_grammar.proofs.Wording.{first_word, no_words, one_word, two_words, three_words}
+use Rattle.cw_grammar.proofs.Wording.{first_terminal, no_terminals, one_terminal, two_terminals, three_terminals}
 
 -- behind a type
 abbrev pub EndsType : List Lexeme → Type 0
@@ -28,31 +28,31 @@ no_int _ e = refl
 
 ends_long : (rest : List Lexeme) → EndsType rest → takes s.AfterLong rest ≡ false
 ends_long [] e = refl
-ends_long (t ∷ ts) e = no_int (kind_of_word t.word) e
+ends_long (t ∷ ts) e = no_int (kind_of_terminal t.terminal) e
 
 module _ (rest : List Lexeme) (below : List Symbol) (e : EndsType rest) (h : Accepts below rest) where
-  type_one : (word : Word) (ts : List Lexeme) → words ts ≡ word ∷ [] → after s.Type (kind_of_word word) ≡ Some [] → Accepts (s.Type ∷ below) (ts ++ rest)
-  type_one word ts ws a = let x = one_word ts word ws in rw x.1 (step x.2 a h)
+  type_one : (terminal : Terminal) (ts : List Lexeme) → terminals ts ≡ terminal ∷ [] → after s.Type (kind_of_terminal terminal) ≡ Some [] → Accepts (s.Type ∷ below) (ts ++ rest)
+  type_one terminal ts ws a = let x = one_terminal ts terminal ws in rw x.1 (step x.2 a h)
 
-  type_long : (ts : List Lexeme) → words ts ≡ w.Long ∷ [] → Accepts (s.Type ∷ below) (ts ++ rest)
-  type_long ts ws = let x = one_word ts w.Long ws in rw x.1 (step x.2 refl (skip refl (ends_long rest e) h))
+  type_long : (ts : List Lexeme) → terminals ts ≡ w.Long ∷ [] → Accepts (s.Type ∷ below) (ts ++ rest)
+  type_long ts ws = let x = one_terminal ts w.Long ws in rw x.1 (step x.2 refl (skip refl (ends_long rest e) h))
 
-  type_unsigned : (ts : List Lexeme) → words ts ≡ w.Unsigned ∷ [] → Accepts (s.Type ∷ below) (ts ++ rest)
-  type_unsigned ts ws = let x = one_word ts w.Unsigned ws in rw x.1 (step x.2 refl (skip refl e h))
+  type_unsigned : (ts : List Lexeme) → terminals ts ≡ w.Unsigned ∷ [] → Accepts (s.Type ∷ below) (ts ++ rest)
+  type_unsigned ts ws = let x = one_terminal ts w.Unsigned ws in rw x.1 (step x.2 refl (skip refl e h))
 
-  type_long_int : (ts : List Lexeme) → words ts ≡ w.Long ∷ w.Int ∷ [] → Accepts (s.Type ∷ below) (ts ++ rest)
-  type_long_int ts ws = let x = two_words ts w.Long w.Int ws in rw x.2 (step x.3 refl (step x.4 refl h))
+  type_long_int : (ts : List Lexeme) → terminals ts ≡ w.Long ∷ w.Int ∷ [] → Accepts (s.Type ∷ below) (ts ++ rest)
+  type_long_int ts ws = let x = two_terminals ts w.Long w.Int ws in rw x.2 (step x.3 refl (step x.4 refl h))
 
-  type_two : (word : Word) (ts : List Lexeme) → words ts ≡ w.Unsigned ∷ word ∷ [] → after s.AfterUnsigned (kind_of_word word) ≡ Some [] → Accepts (s.Type ∷ below) (ts ++ rest)
-  type_two word ts ws a = let x = two_words ts w.Unsigned word ws in rw x.2 (step x.3 refl (step x.4 a h))
+  type_two : (terminal : Terminal) (ts : List Lexeme) → terminals ts ≡ w.Unsigned ∷ terminal ∷ [] → after s.AfterUnsigned (kind_of_terminal terminal) ≡ Some [] → Accepts (s.Type ∷ below) (ts ++ rest)
+  type_two terminal ts ws a = let x = two_terminals ts w.Unsigned terminal ws in rw x.2 (step x.3 refl (step x.4 a h))
 
-  type_unsigned_long : (ts : List Lexeme) → words ts ≡ w.Unsigned ∷ w.Long ∷ [] → Accepts (s.Type ∷ below) (ts ++ rest)
-  type_unsigned_long ts ws = let x = two_words ts w.Unsigned w.Long ws in rw x.2 (step x.3 refl (step x.4 refl (skip refl (ends_long rest e) h)))
+  type_unsigned_long : (ts : List Lexeme) → terminals ts ≡ w.Unsigned ∷ w.Long ∷ [] → Accepts (s.Type ∷ below) (ts ++ rest)
+  type_unsigned_long ts ws = let x = two_terminals ts w.Unsigned w.Long ws in rw x.2 (step x.3 refl (step x.4 refl (skip refl (ends_long rest e) h)))
 
-  type_three : (ts : List Lexeme) → words ts ≡ w.Unsigned ∷ w.Long ∷ w.Int ∷ [] → Accepts (s.Type ∷ below) (ts ++ rest)
-  type_three ts ws = let x = three_words ts w.Unsigned w.Long w.Int ws in rw x.3 (step x.4 refl (step x.5 refl (step x.6 refl h)))
+  type_three : (ts : List Lexeme) → terminals ts ≡ w.Unsigned ∷ w.Long ∷ w.Int ∷ [] → Accepts (s.Type ∷ below) (ts ++ rest)
+  type_three ts ws = let x = three_terminals ts w.Unsigned w.Long w.Int ws in rw x.3 (step x.4 refl (step x.5 refl (step x.6 refl h)))
 
-  abbrev first_of_pair : List Word × (Base × Bool) → List Word
+  abbrev first_of_pair : List Terminal × (Base × Bool) → List Terminal
   first_of_pair p = p.0
 
   pub reads_type : (ts : List Lexeme) (base : Base) (unsigned : Bool) → IsType ts base unsigned → Accepts (s.Type ∷ below) (ts ++ rest)
@@ -71,21 +71,21 @@ module _ (rest : List Lexeme) (below : List Symbol) (e : EndsType rest) (h : Acc
 -- ---- stars
 
 pub reads_stars : (stars : ℕ) (ts rest : List Lexeme) (below : List Symbol) → AreStars ts stars → takes s.TwoStars rest ≡ false → Accepts below rest → Accepts (s.TwoStars ∷ below) (ts ++ rest)
-reads_stars zero ts rest below a e h = rw (no_words ts a.1) (skip refl e h)
-reads_stars (suc zero) ts rest below a e h = let x = one_word ts w.Star a.1 in rw x.1 (step x.2 refl (skip refl (one_less rest e) h)) where
+reads_stars zero ts rest below a e h = rw (no_terminals ts a.1) (skip refl e h)
+reads_stars (suc zero) ts rest below a e h = let x = one_terminal ts w.Star a.1 in rw x.1 (step x.2 refl (skip refl (one_less rest e) h)) where
   one_less : (rest : List Lexeme) → takes s.TwoStars rest ≡ false → takes s.OneStar rest ≡ false
   one_less [] e = refl
-  one_less (t ∷ ts) e = by_kind (kind_of_word t.word) e where
+  one_less (t ∷ ts) e = by_kind (kind_of_terminal t.terminal) e where
     by_kind : (kind : TerminalKind) → is_some (after s.TwoStars kind) ≡ false → is_some (after s.OneStar kind) ≡ false
     by_kind k.Star e = absurd cc
     by_kind _ e = refl
-reads_stars (suc (suc zero)) ts rest below a e h = let x = two_words ts w.Star w.Star a.1 in rw x.2 (step x.3 refl (step x.4 refl h))
+reads_stars (suc (suc zero)) ts rest below a e h = let x = two_terminals ts w.Star w.Star a.1 in rw x.2 (step x.3 refl (step x.4 refl h))
 reads_stars (suc (suc (suc stars))) ts rest below a e h = absurd (let f = a.0 in omega arith)
 
 -- what ends a type ends it behind stars too
 pub stars_end : (stars : ℕ) (ts rest : List Lexeme) → AreStars ts stars → EndsType rest → EndsType (ts ++ rest)
-stars_end zero ts rest a e = rw (no_words ts a.1) e
-stars_end (suc stars) ts rest a e = let x = first_word ts w.Star (replicate stars w.Star) a.1 in rw (x.2, x.3) refl
+stars_end zero ts rest a e = rw (no_terminals ts a.1) e
+stars_end (suc stars) ts rest a e = let x = first_terminal ts w.Star (replicate stars w.Star) a.1 in rw (x.2, x.3) refl
 
 -- ---- types with `const`, with stars, with a storage class
 
@@ -99,7 +99,7 @@ not_const _ e = absurd cc
 
 pub reads_qualified : (constant : Bool) (c ts rest : List Lexeme) (base : Base) (unsigned : Bool) (below : List Symbol) → IsFlag w.Const c constant → IsType ts base unsigned
     → EndsType rest → Accepts below rest → Accepts (s.Qualified ∷ below) (c ++ (ts ++ rest))
-reads_qualified true c ts rest base unsigned below f t e h = let x = one_word c w.Const f in rw x.1 (step x.2 refl (reads_type rest below e h ts base unsigned t))
+reads_qualified true c ts rest base unsigned below f t e h = let x = one_terminal c w.Const f in rw x.1 (step x.2 refl (reads_type rest below e h ts base unsigned t))
 reads_qualified false c ts rest base unsigned below f t e h = rw f (instead {first = s.Type} [] refl not_const (reads_type rest below e h ts base unsigned t))
 
 pub reads_type_name : (ts rest : List Lexeme) (kind : CType) (below : List Symbol) → IsTypeName ts kind → EndsType rest → takes s.TwoStars rest ≡ false → Accepts below rest
@@ -125,10 +125,10 @@ as_qualified : (symbol : Symbol) (more : List Symbol) → Declares symbol more �
 as_qualified symbol more d kind e = let p = plain_specifiers kind e in d kind (rw p e) ∙ ap (λ z. onto z more) p
 
 module _ (symbol : Symbol) (more : List Symbol) (d : Declares symbol more) (rest : List Lexeme) (below : List Symbol) (ends : EndsType rest) (h : Accepts (more ++ below) rest) where
-  stored : (word : Word) (a b c : List Lexeme) (constant : Bool) (base : Base) (unsigned : Bool) → words a ≡ word ∷ [] → kind_of_word word ≡ k.Storage → IsFlag w.Const b constant
+  stored : (terminal : Terminal) (a b c : List Lexeme) (constant : Bool) (base : Base) (unsigned : Bool) → terminals a ≡ terminal ∷ [] → kind_of_terminal terminal ≡ k.Storage → IsFlag w.Const b constant
       → IsType c base unsigned → Accepts (symbol ∷ below) (a ++ (b ++ (c ++ rest)))
-  stored word a b c constant base unsigned ws e f t =
-      let x = one_word a word ws in
+  stored terminal a b c constant base unsigned ws e f t =
+      let x = one_terminal a terminal ws in
       rw x.1 (step x.2 (ap (after symbol) e ∙ d k.Storage refl) (reads_qualified constant b c rest base unsigned (more ++ below) f t ends h))
 
   by_storage : (external fixed : Bool) (a b c : List Lexeme) (constant : Bool) (base : Base) (unsigned : Bool) → IsStorage a external fixed → IsFlag w.Const b constant

@@ -3,9 +3,9 @@ use Rattle.std.proofs.Common.{◌≡◌, ℕ, ◌+◌, ◌<◌, Bool, true, fals
 use Rattle.std.proofs.lemmas.List.{reverse-append, take_more, take_all, take-append-drop}
 use Rattle.std.specs.Prelude.{is_some, ◌&&◌, IfOk, IfSome, IfNone, Result, Ok, Err}
 use Rattle.std.specs.List.{list_all}
-use Rattle.cw_grammar.specs.declared.words.Lexeme.{Lexeme}
+use Rattle.cw_grammar.specs.declared.terminals.Lexeme.{Lexeme}
 use Rattle.cw_recogniser.specs.declared.symbols.Symbol.{Symbol}
-use Rattle.cw_recogniser.specs.Kinds.{kind_of_word}
+use Rattle.cw_recogniser.specs.Kinds.{kind_of_terminal}
 use Rattle.cw_recogniser.specs.Language.{AreOfGrammar, IsFront}
 use Rattle.cw_recogniser.specs.Machine.{Next, may_be_empty, feed, run, is_done, start, accepted, IsVerdict, Steps}
 use Rattle.cw_recogniser.proofs.FilesRead.{and_assoc}
@@ -24,27 +24,27 @@ run_step (Some next) a b rec = rec next
 run_both : (a b : List Lexeme) (stack : List Symbol) → run stack (a ++ b) ≡ go_on (run stack a) b
 unfolding go_on
 run_both [] b stack = refl
-run_both (t ∷ a) b stack = run_step (feed stack (kind_of_word t.word)) a b (λ next. run_both a b next)
+run_both (t ∷ a) b stack = run_step (feed stack (kind_of_terminal t.terminal)) a b (λ next. run_both a b next)
 
 one_token : (o : Next) → (elim o as (λ x. Next) [ None ↦ None | Some next ↦ run next [] ]) ≡ o
 one_token None = refl
 one_token (Some next) = refl
 
 pub run_more : (ts : List Lexeme) (i : ℕ) (d : Lexeme) (stack : List Symbol) → i < length ts → run start (take i ts) ≡ Some stack
-    → run start (take (i + 1) ts) ≡ feed stack (kind_of_word (get_or ts i d).word)
+    → run start (take (i + 1) ts) ≡ feed stack (kind_of_terminal (get_or ts i d).terminal)
 unfolding go_on
 run_more ts i d stack lt e =
     ap (run start) (take_more ts i d lt)
     ∙ run_both (take i ts) (get_or ts i d ∷ []) start
     ∙ ap (λ (z : Next). go_on z (get_or ts i d ∷ [])) e
-    ∙ one_token (feed stack (kind_of_word (get_or ts i d).word))
+    ∙ one_token (feed stack (kind_of_terminal (get_or ts i d).terminal))
 
 run_none : (ts : List Lexeme) (i : ℕ) → run start (take i ts) ≡ None → run start ts ≡ None
 unfolding go_on
 run_none ts i e = ap (run start) (sym (take-append-drop i ts)) ∙ run_both (take i ts) (drop i ts) start ∙ ap (λ (z : Next). go_on z (drop i ts)) e
 
 pub stopped : (ts : List Lexeme) (i : ℕ) (d : Lexeme) (stack : List Symbol) → i < length ts → run start (take i ts) ≡ Some stack
-    → feed stack (kind_of_word (get_or ts i d).word) ≡ None → IsVerdict ts (Some i)
+    → feed stack (kind_of_terminal (get_or ts i d).terminal) ≡ None → IsVerdict ts (Some i)
 stopped ts i d stack lt e f =
     let g : run start (take (i + 1) ts) ≡ None = run_more ts i d stack lt e ∙ f in
     (omega arith, ap accepted (run_none ts (i + 1) g), ap (λ (z : Next). is_some z) e, λ h. ap (λ (z : Next). is_some z) g)

@@ -2,7 +2,7 @@
 -- Public source: ISO/IEC 9899:2011, 6.9 (a translation unit is what its rules derive).
 use Rattle.std.specs.Prelude.{List, ◌++◌}
 use Rattle.cw_syntax.specs.Trees.{File}
-use Rattle.cw_grammar.specs.declared.words.Lexeme.{Lexeme}
+use Rattle.cw_grammar.specs.declared.terminals.Lexeme.{Lexeme}
 use Rattle.cw_grammar.specs.Files.{IsOfGrammar}
 
 -- The tokens derive some file, however deep they nest.

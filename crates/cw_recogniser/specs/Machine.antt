@@ -1,11 +1,11 @@
 -- Working definitions: the recogniser, a stack of what is still to come.
 use Rattle.std.specs.Prelude.{◌≡◌, ℕ, ◌+◌, ◌<◌, ◌≤◌, length, take, is_some, Bool, true, false, ◌&&◌, List, [], ◌∷◌, ◌++◌, reverse, Option, Some, None}
-use Rattle.cw_grammar.specs.declared.words.Lexeme.{Lexeme}
+use Rattle.cw_grammar.specs.declared.terminals.Lexeme.{Lexeme}
 use Rattle.cw_recogniser.specs.declared.kinds.TerminalKind.{TerminalKind}
 use Rattle.cw_recogniser.specs.declared.kinds.TerminalKind.TheVariants as k
 use Rattle.cw_recogniser.specs.declared.symbols.Symbol.{Symbol}
 use Rattle.cw_recogniser.specs.declared.symbols.Symbol.TheVariants as s
-use Rattle.cw_recogniser.specs.Kinds.{kind_of_word}
+use Rattle.cw_recogniser.specs.Kinds.{kind_of_terminal}
 
 abbrev pub Next : Type 0
 Next = Option (List Symbol)
@@ -19,7 +19,7 @@ abbrev pub either : Next → Next → Next
 either None other = other
 either (Some new) other = Some new
 
--- ---- marks
+-- ---- punctuators
 
 abbrev pub opening : TerminalKind → Next
 opening k.Open = Some []
@@ -41,9 +41,9 @@ abbrev pub semicolon : TerminalKind → Next
 semicolon k.Semicolon = Some []
 semicolon _ = None
 
-abbrev pub while_word : TerminalKind → Next
-while_word k.While = Some []
-while_word _ = None
+abbrev pub while_keyword : TerminalKind → Next
+while_keyword k.While = Some []
+while_keyword _ = None
 
 abbrev pub name : TerminalKind → Next
 name k.Name = Some []
@@ -261,7 +261,7 @@ after s.Close kind = closing kind
 after s.CloseBracket kind = close_bracket kind
 after s.CloseBrace kind = close_brace kind
 after s.Semicolon kind = semicolon kind
-after s.While kind = while_word kind
+after s.While kind = while_keyword kind
 after s.Name kind = name kind
 after s.Expression kind = expression kind
 after s.Operand kind = operand kind
@@ -347,7 +347,7 @@ is_done (symbol ∷ below) = may_be_empty symbol && is_done below
 -- the stack behind some tokens, if each of them may come where it stands
 abbrev pub run : List Symbol → List Lexeme → Next
 run stack [] = Some stack
-run stack (t ∷ ts) = elim (feed stack (kind_of_word t.word)) [ None ↦ None | Some next ↦ run next ts ]
+run stack (t ∷ ts) = elim (feed stack (kind_of_terminal t.terminal)) [ None ↦ None | Some next ↦ run next ts ]
 
 abbrev pub start : List Symbol
 start = s.Parts ∷ []

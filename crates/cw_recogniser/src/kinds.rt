@@ -1,11 +1,11 @@
-//! The kinds of words that the recogniser tells apart.
+//! The kinds of terminals that the recogniser tells apart.
 
 ghost use Rattle.std.specs.Prelude.{◌≡◌};
-ghost use Rattle.cw_recogniser.specs.Kinds.{kind_of_word};
+ghost use Rattle.cw_recogniser.specs.Kinds.{kind_of_terminal};
 
-use cw_grammar::words::Word;
+use cw_grammar::terminals::Terminal;
 
-/// Words that stand at the same places of the grammar are of one kind.
+/// Terminals that stand at the same places of the grammar are of one kind.
 #[derive(Clone, Copy, Drop, Debug)]
 pub enum TerminalKind {
     /// `extern` and `static`
@@ -50,71 +50,71 @@ pub enum TerminalKind {
     Sign,
     /// `++` and `--`
     Step,
-    /// no word of the grammar
+    /// no terminal of the grammar
     Other,
 }
 
-/// The kind of a word.
-pub fn kind_of(word: Word) -> TerminalKind
-    ensures { result ≡ kind_of_word word }
+/// The kind of a terminal.
+pub fn kind_of(terminal: Terminal) -> TerminalKind
+    ensures { result ≡ kind_of_terminal terminal }
 {
-    match word {
-        Word::Extern | Word::Static => TerminalKind::Storage,
-        Word::Const => TerminalKind::Const,
-        Word::Void => TerminalKind::Void,
-        Word::Unsigned => TerminalKind::Unsigned,
-        Word::Char => TerminalKind::Char,
-        Word::Int => TerminalKind::Int,
-        Word::Long => TerminalKind::Long,
-        Word::If => TerminalKind::If,
-        Word::Else => TerminalKind::Else,
-        Word::While => TerminalKind::While,
-        Word::Do => TerminalKind::Do,
-        Word::For => TerminalKind::For,
-        Word::Break | Word::Continue => TerminalKind::Jump,
-        Word::Return => TerminalKind::Return,
-        Word::SizeOf => TerminalKind::SizeOf,
-        Word::OtherKeyword => TerminalKind::Other,
-        Word::Name => TerminalKind::Name,
-        Word::Number(_) | Word::Character(_) => TerminalKind::Constant,
-        Word::Text => TerminalKind::Text,
-        Word::Open => TerminalKind::Open,
-        Word::Close => TerminalKind::Close,
-        Word::OpenBracket => TerminalKind::OpenBracket,
-        Word::CloseBracket => TerminalKind::CloseBracket,
-        Word::OpenBrace => TerminalKind::OpenBrace,
-        Word::CloseBrace => TerminalKind::CloseBrace,
-        Word::Semicolon => TerminalKind::Semicolon,
-        Word::Comma => TerminalKind::Comma,
-        Word::Colon => TerminalKind::Colon,
-        Word::Assign => TerminalKind::Assign,
-        Word::AddAssign
-        | Word::SubtractAssign
-        | Word::MultiplyAssign
-        | Word::DivideAssign
-        | Word::RemainderAssign
-        | Word::AndAssign
-        | Word::XorAssign
-        | Word::OrAssign
-        | Word::LeftShiftAssign
-        | Word::RightShiftAssign => TerminalKind::Update,
-        Word::BarBar
-        | Word::AmpersandAmpersand
-        | Word::Bar
-        | Word::Caret
-        | Word::Equal
-        | Word::NotEqual
-        | Word::Less
-        | Word::LessEqual
-        | Word::Greater
-        | Word::GreaterEqual
-        | Word::LeftShift
-        | Word::RightShift
-        | Word::Slash
-        | Word::Percent => TerminalKind::Binary,
-        Word::Ampersand | Word::Plus | Word::Minus => TerminalKind::Both,
-        Word::Star => TerminalKind::Star,
-        Word::Exclamation | Word::Tilde => TerminalKind::Sign,
-        Word::PlusPlus | Word::MinusMinus => TerminalKind::Step,
+    match terminal {
+        Terminal::Extern | Terminal::Static => TerminalKind::Storage,
+        Terminal::Const => TerminalKind::Const,
+        Terminal::Void => TerminalKind::Void,
+        Terminal::Unsigned => TerminalKind::Unsigned,
+        Terminal::Char => TerminalKind::Char,
+        Terminal::Int => TerminalKind::Int,
+        Terminal::Long => TerminalKind::Long,
+        Terminal::If => TerminalKind::If,
+        Terminal::Else => TerminalKind::Else,
+        Terminal::While => TerminalKind::While,
+        Terminal::Do => TerminalKind::Do,
+        Terminal::For => TerminalKind::For,
+        Terminal::Break | Terminal::Continue => TerminalKind::Jump,
+        Terminal::Return => TerminalKind::Return,
+        Terminal::SizeOf => TerminalKind::SizeOf,
+        Terminal::OtherKeyword => TerminalKind::Other,
+        Terminal::Name => TerminalKind::Name,
+        Terminal::Number(_) | Terminal::Character(_) => TerminalKind::Constant,
+        Terminal::Text => TerminalKind::Text,
+        Terminal::Open => TerminalKind::Open,
+        Terminal::Close => TerminalKind::Close,
+        Terminal::OpenBracket => TerminalKind::OpenBracket,
+        Terminal::CloseBracket => TerminalKind::CloseBracket,
+        Terminal::OpenBrace => TerminalKind::OpenBrace,
+        Terminal::CloseBrace => TerminalKind::CloseBrace,
+        Terminal::Semicolon => TerminalKind::Semicolon,
+        Terminal::Comma => TerminalKind::Comma,
+        Terminal::Colon => TerminalKind::Colon,
+        Terminal::Assign => TerminalKind::Assign,
+        Terminal::AddAssign
+        | Terminal::SubtractAssign
+        | Terminal::MultiplyAssign
+        | Terminal::DivideAssign
+        | Terminal::RemainderAssign
+        | Terminal::AndAssign
+        | Terminal::XorAssign
+        | Terminal::OrAssign
+        | Terminal::LeftShiftAssign
+        | Terminal::RightShiftAssign => TerminalKind::Update,
+        Terminal::BarBar
+        | Terminal::AmpersandAmpersand
+        | Terminal::Bar
+        | Terminal::Caret
+        | Terminal::Equal
+        | Terminal::NotEqual
+        | Terminal::Less
+        | Terminal::LessEqual
+        | Terminal::Greater
+        | Terminal::GreaterEqual
+        | Terminal::LeftShift
+        | Terminal::RightShift
+        | Terminal::Slash
+        | Terminal::Percent => TerminalKind::Binary,
+        Terminal::Ampersand | Terminal::Plus | Terminal::Minus => TerminalKind::Both,
+        Terminal::Star => TerminalKind::Star,
+        Terminal::Exclamation | Terminal::Tilde => TerminalKind::Sign,
+        Terminal::PlusPlus | Terminal::MinusMinus => TerminalKind::Step,
     }
 }

@@ -3,7 +3,7 @@
 
 mod kinds;
 mod machine;
-mod marks;
+mod punctuators;
 mod recogniser;
 mod symbols;
 mod tables;

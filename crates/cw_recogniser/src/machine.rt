@@ -6,7 +6,7 @@ ghost use Rattle.cw_recogniser.specs.declared.symbols.Symbol.TheVariants as s;
 ghost use Rattle.cw_recogniser.specs.Machine.{Next, onto, either, after, expression, qualified, may_be_empty, feed, Steps};
 
 use crate::kinds::TerminalKind;
-use crate::marks::{
+use crate::punctuators::{
     after_long_of, array_of, brackets_of, call_of, close_brace_of, close_bracket_of, closing_of,
     ending_of, initial_of, initialiser_of, maybe_else_of, more_arguments_of, more_elements_of,
     more_items_of, more_named_params_of, more_nameless_params_of, name_of, named_ending_of,

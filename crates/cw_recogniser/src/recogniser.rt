@@ -9,7 +9,7 @@ use crate::kinds::kind_of;
 use crate::machine::{is_optional, step};
 use crate::symbols::Symbol;
 use cw_core::NoMemory;
-use cw_grammar::words::Lexeme;
+use cw_grammar::terminals::Lexeme;
 use std::alloc::Global;
 
 /// Whether nothing more needs to come.
@@ -26,7 +26,7 @@ fn fault_of(alloc: Global, lexemes: &[Lexeme]) -> Result<Option<usize>, NoMemory
     let mut stack = Vec::new(alloc);
     stack.push(Symbol::Parts)?;
     for (index, lexeme) in lexemes.iter().enumerate() {
-        if !step(&mut stack, kind_of(lexeme.word))? {
+        if !step(&mut stack, kind_of(lexeme.terminal))? {
             return Ok(Some(index));
         }
     }

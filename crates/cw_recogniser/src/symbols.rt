@@ -1,6 +1,6 @@
 //! What the recogniser expects.
 
-/// A part of a text that is still to come. Those that may be empty are marked.
+/// A part of a text that is still to come. Those that may be empty say so.
 #[derive(Clone, Copy, Drop, Debug)]
 pub enum Symbol {
     Open,

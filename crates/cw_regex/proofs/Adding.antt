@@ -6,7 +6,7 @@ use Rattle.std.proofs.lemmas.List.Elements.{All-nil, All-cons, All-head, All-tai
 use Rattle.cw_regex.specs.Adding.{Adds}
 use Rattle.cw_regex.specs.Labels.{Gains}
 use Rattle.cw_regex.specs.Meaning.{with_name, with_names, labels_in}
-use Rattle.cw_regex.specs.Parts.{Part, word, parts}
+use Rattle.cw_regex.specs.Parts.{Part, identifier, parts}
 
 with_names-append : (ws vs names : List (List ℕ)) → with_names names (ws ++ vs) ≡ with_names (with_names names ws) vs
 with_names-append [] vs names = refl
@@ -52,7 +52,7 @@ gains_all text old new e =
     let all = labels_in false (parts text) in
     adds_gains text old new [] (record { added = all; split = sym (append-nil all); all = e })
 
--- outside brackets a word is a label
-pub word_left : (inside : Bool) (w : List ℕ) (ps rest : List Part) → ps ≡ word w ∷ rest → inside ≡ false → labels_in inside ps ≡ (w ∷ []) ++ labels_in inside rest
-word_left false w ps rest e f = ap (labels_in false) e
-word_left true w ps rest e f = absurd (cc)
+-- outside brackets an identifier is a label
+pub identifier_left : (inside : Bool) (w : List ℕ) (ps rest : List Part) → ps ≡ identifier w ∷ rest → inside ≡ false → labels_in inside ps ≡ (w ∷ []) ++ labels_in inside rest
+identifier_left false w ps rest e f = ap (labels_in false) e
+identifier_left true w ps rest e f = absurd (cc)

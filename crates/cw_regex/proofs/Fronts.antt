@@ -9,15 +9,15 @@ use Rattle.cw_regex.specs.declared.text.Sign.{Sign}
 use Rattle.cw_regex.specs.declared.text.Sign.TheVariants.{Dot, ParenOpen, ParenClose, Bar, Star, Plus, Question, BracketOpen, BracketClose, Bang, Colon as ColonSign, Comma, Other}
 use Rattle.cw_regex.specs.declared.phase.Phase.{Phase}
 use Rattle.cw_regex.specs.declared.phase.Phase.TheVariants.{Begin, Label, Whole, Repeated, Test, Negated, Ambient, Descriptor, Colon, Right}
-use Rattle.cw_regex.specs.Parts.{Part, word, sign, begins_word, parts, starts_blank, ends_blank}
+use Rattle.cw_regex.specs.Parts.{Part, identifier, sign, begins_identifier, parts, starts_blank, ends_blank}
 use Rattle.cw_regex.specs.Grammar.{is_descriptor, amb, Name, DescriptorName, Subject, ambient, holds, TestForm, spelled_subject, spelled_test, IsExpression, IsTest}
-use Rattle.cw_regex.specs.Machine.{in_test, step_word, is_end, is_test_end, step, run, start, ends_here, In}
+use Rattle.cw_regex.specs.Machine.{in_test, step_identifier, is_end, is_test_end, step, run, start, ends_here, In}
 use Rattle.cw_lemmas.proofs.Truths.{and_first as and_left, and_second as and_right}
 use Rattle.std.proofs.lemmas.Bool.{and_from as and_both}
 use Rattle.std.proofs.lemmas.Bool.{cases_Bool as which}
 use Rattle.cw_regex.proofs.Cutting.{parts_cut}
-use Rattle.cw_regex.specs.Scans.{ends_word, Apart, May}
-use Rattle.cw_regex.proofs.Running.{after_subject, after, expression_end, run_word, run_expression, run_test, run_close}
+use Rattle.cw_regex.specs.Scans.{ends_identifier, Apart, May}
+use Rattle.cw_regex.proofs.Running.{after_subject, after, expression_end, run_identifier, run_expression, run_test, run_close}
 use Rattle.cw_regex.proofs.Parsing.{parsed}
 
 abbrev pub At : Type 0
@@ -94,7 +94,7 @@ tail_runs Descriptor d = refl
 tail_runs Colon d = refl
 tail_runs Right d = refl
 
-tail_apart : (q : Phase) → ends_word (tail q) ≡ false
+tail_apart : (q : Phase) → ends_identifier (tail q) ≡ false
 tail_apart Begin = refl
 tail_apart Label = refl
 tail_apart Whole = refl
@@ -106,7 +106,7 @@ tail_apart Descriptor = refl
 tail_apart Colon = refl
 tail_apart Right = refl
 
-tail_begins : (q : Phase) (rest : List ℕ) → begins_word (tail q ++ rest) ≡ false
+tail_begins : (q : Phase) (rest : List ℕ) → begins_identifier (tail q ++ rest) ≡ false
 tail_begins Begin rest = refl
 tail_begins Label rest = refl
 tail_begins Whole rest = refl
@@ -124,14 +124,14 @@ closing_runs q (suc d) e =
     let x = closing_runs Whole d refl in
     (x.0, subst (λ n. run false q n (sign ParenClose ∷ parts (closing d)) ≡ run false Whole d (parts (closing d))) (add-one d) (run_close q d (parts (closing d)) e) ∙ x.1, x.2)
 
-pub apart_begins : (s t : List ℕ) → begins_word t ≡ false → Apart s t
-apart_begins s t e = by (ends_word s)
+pub apart_begins : (s t : List ℕ) → begins_identifier t ≡ false → Apart s t
+apart_begins s t e = by (ends_identifier s)
   where
-    by : (b : Bool) → (b && begins_word t) ≡ false
+    by : (b : Bool) → (b && begins_identifier t) ≡ false
     by true = e
     by false = refl
 
-pub apart_before : (s t : List ℕ) → ends_word s ≡ false → Apart s t
+pub apart_before : (s t : List ℕ) → ends_identifier s ≡ false → Apart s t
 apart_before s t e = rw e refl
 
 pub ends_append : (s : List ℕ) (b : ℕ) (t : List ℕ) → ends_blank (s ++ b ∷ t) ≡ ends_blank (b ∷ t)
@@ -217,7 +217,7 @@ none_alone q d ps e h = let f = h.2 in absurd (cc)
 
 last_right : (d : ℕ) (ps : List Part) → Alone Right d ps → ps ≡ []
 last_right d [] h = refl
-last_right d (word w ∷ rest) h = absurd (let e = h.2 in cc)
+last_right d (identifier w ∷ rest) h = absurd (let e = h.2 in cc)
 last_right d (sign Dot ∷ rest) h = absurd (let e = h.2 in cc)
 last_right d (sign ParenOpen ∷ rest) h = absurd (let e = h.2 in cc)
 last_right d (sign ParenClose ∷ rest) h = absurd (let e = h.2 in cc)
@@ -232,14 +232,14 @@ last_right d (sign ColonSign ∷ rest) h = absurd (let e = h.2 in cc)
 last_right d (sign Comma ∷ rest) h = absurd (let e = h.2 in cc)
 last_right d (sign Other ∷ rest) h = absurd (let e = h.2 in cc)
 
-alone_right : (d : ℕ) (ps : List Part) → Alone Colon d ps → (r : Name) × (ps ≡ word r.bytes ∷ [])
+alone_right : (d : ℕ) (ps : List Part) → Alone Colon d ps → (r : Name) × (ps ≡ identifier r.bytes ∷ [])
 alone_right d [] h = let z = alone_nil Colon d h in absurd (cc)
-alone_right d (word w ∷ rest) h = by (which (is_name w))
+alone_right d (identifier w ∷ rest) h = by (which (is_name w))
   where
-    by : (is_name w ≡ true) ⊎ (is_name w ≡ false) → (r : Name) × (word w ∷ rest ≡ word r.bytes ∷ [])
+    by : (is_name w ≡ true) ⊎ (is_name w ≡ false) → (r : Name) × (identifier w ∷ rest ≡ identifier r.bytes ∷ [])
     by (inl e) = let name : Name = record { bytes = w; ok = e } in
-        (name, ap (λ l. word w ∷ l) (last_right d rest (alone_by Colon Right d d (word w ∷ rest) rest (run_word true Colon Right d w rest (rw e refl)) h)))
-    by (inr e) = let dead : run true Colon d (word w ∷ rest) ≡ None = rw e refl in absurd (none_alone Colon d (word w ∷ rest) dead h)
+        (name, ap (λ l. identifier w ∷ l) (last_right d rest (alone_by Colon Right d d (identifier w ∷ rest) rest (run_identifier true Colon Right d w rest (rw e refl)) h)))
+    by (inr e) = let dead : run true Colon d (identifier w ∷ rest) ≡ None = rw e refl in absurd (none_alone Colon d (identifier w ∷ rest) dead h)
 alone_right d (sign Dot ∷ rest) h = absurd (let e = h.2 in cc)
 alone_right d (sign ParenOpen ∷ rest) h = absurd (let e = h.2 in cc)
 alone_right d (sign ParenClose ∷ rest) h = absurd (let e = h.2 in cc)
@@ -254,9 +254,9 @@ alone_right d (sign ColonSign ∷ rest) h = absurd (let e = h.2 in cc)
 alone_right d (sign Comma ∷ rest) h = absurd (let e = h.2 in cc)
 alone_right d (sign Other ∷ rest) h = absurd (let e = h.2 in cc)
 
-alone_descriptor : (d : ℕ) (ps : List Part) → Alone Descriptor d ps → (r : Name) × (ps ≡ sign ColonSign ∷ word r.bytes ∷ [])
+alone_descriptor : (d : ℕ) (ps : List Part) → Alone Descriptor d ps → (r : Name) × (ps ≡ sign ColonSign ∷ identifier r.bytes ∷ [])
 alone_descriptor d [] h = let z = alone_nil Descriptor d h in absurd (cc)
-alone_descriptor d (word w ∷ rest) h = absurd (let e = h.2 in cc)
+alone_descriptor d (identifier w ∷ rest) h = absurd (let e = h.2 in cc)
 alone_descriptor d (sign ColonSign ∷ rest) h = let x = alone_right d rest (alone_by Descriptor Colon d d (sign ColonSign ∷ rest) rest refl h) in (x.0, ap (λ l. sign ColonSign ∷ l) x.1)
 alone_descriptor d (sign Dot ∷ rest) h = absurd (let e = h.2 in cc)
 alone_descriptor d (sign ParenOpen ∷ rest) h = absurd (let e = h.2 in cc)
@@ -271,13 +271,13 @@ alone_descriptor d (sign Bang ∷ rest) h = absurd (let e = h.2 in cc)
 alone_descriptor d (sign Comma ∷ rest) h = absurd (let e = h.2 in cc)
 alone_descriptor d (sign Other ∷ rest) h = absurd (let e = h.2 in cc)
 
-alone_ambient : (d : ℕ) (ps : List Part) → Alone Ambient d ps → (s : Subject) × (word amb ∷ ps ≡ spelled_subject s [])
+alone_ambient : (d : ℕ) (ps : List Part) → Alone Ambient d ps → (s : Subject) × (identifier amb ∷ ps ≡ spelled_subject s [])
 alone_ambient d [] h = (ambient, refl)
-alone_ambient d (word w ∷ rest) h = absurd (let e = h.2 in cc)
+alone_ambient d (identifier w ∷ rest) h = absurd (let e = h.2 in cc)
 alone_ambient d (sign ColonSign ∷ rest) h =
     let named : DescriptorName = record { bytes = amb; ok = refl } in
     let x = alone_right d rest (alone_by Ambient Colon d d (sign ColonSign ∷ rest) rest refl h) in
-    (holds named x.0, ap (λ l. word amb ∷ sign ColonSign ∷ l) x.1)
+    (holds named x.0, ap (λ l. identifier amb ∷ sign ColonSign ∷ l) x.1)
 alone_ambient d (sign Dot ∷ rest) h = absurd (let e = h.2 in cc)
 alone_ambient d (sign ParenOpen ∷ rest) h = absurd (let e = h.2 in cc)
 alone_ambient d (sign ParenClose ∷ rest) h = absurd (let e = h.2 in cc)
@@ -299,27 +299,27 @@ is_in_test Whole = false
 is_in_test Repeated = false
 is_in_test q = true
 
-alone_word : (d : ℕ) (w : List ℕ) (q : Phase) (rest : List Part) → step_word q w ≡ in_test w → Alone q d (word w ∷ rest) → (s : Subject) × (word w ∷ rest ≡ spelled_subject s [])
-alone_word d w q rest t h = by (which (bytes_eq w amb)) (which (is_descriptor w))
+alone_identifier : (d : ℕ) (w : List ℕ) (q : Phase) (rest : List Part) → step_identifier q w ≡ in_test w → Alone q d (identifier w ∷ rest) → (s : Subject) × (identifier w ∷ rest ≡ spelled_subject s [])
+alone_identifier d w q rest t h = by (which (bytes_eq w amb)) (which (is_descriptor w))
   where
-    by : (bytes_eq w amb ≡ true) ⊎ (bytes_eq w amb ≡ false) → (is_descriptor w ≡ true) ⊎ (is_descriptor w ≡ false) → (s : Subject) × (word w ∷ rest ≡ spelled_subject s [])
+    by : (bytes_eq w amb ≡ true) ⊎ (bytes_eq w amb ≡ false) → (is_descriptor w ≡ true) ⊎ (is_descriptor w ≡ false) → (s : Subject) × (identifier w ∷ rest ≡ spelled_subject s [])
     by (inl e) f =
-        let goes : step_word q w ≡ Some Ambient = t ∙ rw e refl in
-        let x = alone_ambient d rest (alone_by q Ambient d d (word w ∷ rest) rest (run_word true q Ambient d w rest goes) h) in
-        (x.0, ap (λ v. word v ∷ rest) ((bytes_eq-Decides w amb).0 e) ∙ x.1)
+        let goes : step_identifier q w ≡ Some Ambient = t ∙ rw e refl in
+        let x = alone_ambient d rest (alone_by q Ambient d d (identifier w ∷ rest) rest (run_identifier true q Ambient d w rest goes) h) in
+        (x.0, ap (λ v. identifier v ∷ rest) ((bytes_eq-Decides w amb).0 e) ∙ x.1)
     by (inr e) (inl f) =
-        let goes : step_word q w ≡ Some Descriptor = t ∙ rw (e, f) refl in
-        let x = alone_descriptor d rest (alone_by q Descriptor d d (word w ∷ rest) rest (run_word true q Descriptor d w rest goes) h) in
+        let goes : step_identifier q w ≡ Some Descriptor = t ∙ rw (e, f) refl in
+        let x = alone_descriptor d rest (alone_by q Descriptor d d (identifier w ∷ rest) rest (run_identifier true q Descriptor d w rest goes) h) in
         let named : DescriptorName = record { bytes = w; ok = f } in
-        (holds named x.0, ap (λ l. word w ∷ l) x.1)
+        (holds named x.0, ap (λ l. identifier w ∷ l) x.1)
     by (inr e) (inr f) =
-        let stops : step_word q w ≡ None = t ∙ rw (e, f) refl in
-        let dead : run true q d (word w ∷ rest) ≡ None = rw stops refl in
-        absurd (none_alone q d (word w ∷ rest) dead h)
+        let stops : step_identifier q w ≡ None = t ∙ rw (e, f) refl in
+        let dead : run true q d (identifier w ∷ rest) ≡ None = rw stops refl in
+        absurd (none_alone q d (identifier w ∷ rest) dead h)
 
 alone_negated : (d : ℕ) (ps : List Part) → Alone Negated d ps → (s : Subject) × (ps ≡ spelled_subject s [])
 alone_negated d [] h = let z = alone_nil Negated d h in absurd (cc)
-alone_negated d (word w ∷ rest) h = alone_word d w Negated rest refl h
+alone_negated d (identifier w ∷ rest) h = alone_identifier d w Negated rest refl h
 alone_negated d (sign Dot ∷ rest) h = absurd (let e = h.2 in cc)
 alone_negated d (sign ParenOpen ∷ rest) h = absurd (let e = h.2 in cc)
 alone_negated d (sign ParenClose ∷ rest) h = absurd (let e = h.2 in cc)
@@ -336,7 +336,7 @@ alone_negated d (sign Other ∷ rest) h = absurd (let e = h.2 in cc)
 
 alone_test : (d : ℕ) (ps : List Part) → Alone Test d ps → (t : TestForm) × (ps ≡ spelled_test t [])
 alone_test d [] h = let z = alone_nil Test d h in absurd (cc)
-alone_test d (word w ∷ rest) h = let x = alone_word d w Test rest refl h in (record { negated = false; what = x.0 }, x.1)
+alone_test d (identifier w ∷ rest) h = let x = alone_identifier d w Test rest refl h in (record { negated = false; what = x.0 }, x.1)
 alone_test d (sign Bang ∷ rest) h =
     let x = alone_negated d rest (alone_by Test Negated d d (sign Bang ∷ rest) rest refl h) in
     (record { negated = true; what = x.0 }, ap (λ l. sign Bang ∷ l) x.1)
@@ -372,21 +372,21 @@ in_stays r w h = by (which (bytes_eq w amb)) (which (is_descriptor w)) h
         subst (λ x. is_in_test x ≡ true) z refl
     by (inr e) (inr f) k = let x : in_test w ≡ None = rw (e, f) refl in absurd (cc)
 
-word_stays : (q r : Phase) (w : List ℕ) → is_in_test q ≡ true → step_word q w ≡ Some r → is_in_test r ≡ true
-word_stays Test r w t h = in_stays r w h
-word_stays Negated r w t h = in_stays r w h
-word_stays Colon r w t h = by (which (is_name w))
+identifier_stays : (q r : Phase) (w : List ℕ) → is_in_test q ≡ true → step_identifier q w ≡ Some r → is_in_test r ≡ true
+identifier_stays Test r w t h = in_stays r w h
+identifier_stays Negated r w t h = in_stays r w h
+identifier_stays Colon r w t h = by (which (is_name w))
   where
     by : (is_name w ≡ true) ⊎ (is_name w ≡ false) → is_in_test r ≡ true
-    by (inl e) = let x : step_word Colon w ≡ Some Right = rw e refl in let y : Some Right ≡ Some r = sym x ∙ h in let z : Right ≡ r = cc in subst (λ v. is_in_test v ≡ true) z refl
-    by (inr e) = let x : step_word Colon w ≡ None = rw e refl in absurd (cc)
-word_stays Ambient r w t h = absurd (cc)
-word_stays Descriptor r w t h = absurd (cc)
-word_stays Right r w t h = absurd (cc)
-word_stays Begin r w t h = absurd (cc)
-word_stays Label r w t h = absurd (cc)
-word_stays Whole r w t h = absurd (cc)
-word_stays Repeated r w t h = absurd (cc)
+    by (inl e) = let x : step_identifier Colon w ≡ Some Right = rw e refl in let y : Some Right ≡ Some r = sym x ∙ h in let z : Right ≡ r = cc in subst (λ v. is_in_test v ≡ true) z refl
+    by (inr e) = let x : step_identifier Colon w ≡ None = rw e refl in absurd (cc)
+identifier_stays Ambient r w t h = absurd (cc)
+identifier_stays Descriptor r w t h = absurd (cc)
+identifier_stays Right r w t h = absurd (cc)
+identifier_stays Begin r w t h = absurd (cc)
+identifier_stays Label r w t h = absurd (cc)
+identifier_stays Whole r w t h = absurd (cc)
+identifier_stays Repeated r w t h = absurd (cc)
 
 sign_stays : (q : Phase) (d : ℕ) (m : Sign) (a : At) → is_in_test q ≡ true → step true q d (sign m) ≡ Some a → is_in_test a.0 ≡ true
 sign_stays Begin d m a t h = absurd (cc)
@@ -474,11 +474,11 @@ sign_stays Right d Other a t h = absurd (cc)
 
 part_stays : (q : Phase) (d : ℕ) (p : Part) (a : At) → is_in_test q ≡ true → step true q d p ≡ Some a → is_in_test a.0 ≡ true
 part_stays q d (sign m) a t h = sign_stays q d m a t h
-part_stays q d (word w) a t h = by (step_word q w) refl h
+part_stays q d (identifier w) a t h = by (step_identifier q w) refl h
   where
-    by : (o : Option Phase) → step_word q w ≡ o → option_map (λ (r : Phase). let x : At = (r, d) in x) o ≡ Some a → is_in_test a.0 ≡ true
+    by : (o : Option Phase) → step_identifier q w ≡ o → option_map (λ (r : Phase). let x : At = (r, d) in x) o ≡ Some a → is_in_test a.0 ≡ true
     by None e k = absurd (cc)
-    by (Some r) e k = let x : At = (r, d) in let y : Some x ≡ Some a = k in let z : x ≡ a = cc in subst (λ (v : At). is_in_test v.0 ≡ true) z (word_stays q r w t e)
+    by (Some r) e k = let x : At = (r, d) in let y : Some x ≡ Some a = k in let z : x ≡ a = cc in subst (λ (v : At). is_in_test v.0 ≡ true) z (identifier_stays q r w t e)
 
 pub stays : (ps : List Part) (q r : Phase) (d e : ℕ) → is_in_test q ≡ true → run true q d ps ≡ Some (r, e) → is_in_test r ≡ true
 stays [] q r d e t h = subst (λ x. is_in_test x ≡ true) (same_end q r d e (Some (q, d)) refl h).0 t
@@ -510,7 +510,7 @@ test_tail_runs Descriptor d t = refl
 test_tail_runs Colon d t = refl
 test_tail_runs Right d t = refl
 
-test_tail_begins : (q : Phase) → begins_word (test_tail q) ≡ false
+test_tail_begins : (q : Phase) → begins_identifier (test_tail q) ≡ false
 test_tail_begins Begin = refl
 test_tail_begins Label = refl
 test_tail_begins Whole = refl

@@ -1,4 +1,4 @@
--- The labels of an expression are the words outside brackets.
+-- The labels of an expression are the identifiers outside brackets.
 use Rattle.std.proofs.Common.{◌≡◌, List, [], ◌∷◌, Bool, true, false, Option, Some, None, refl, ap, ◌∙◌}
 use Rattle.cw_regex.specs.declared.text.Sign.TheVariants.{ParenClose, Bar, Star, Plus, Question}
 use Rattle.cw_regex.specs.Parts.{Part, sign}

@@ -7,15 +7,15 @@ use Rattle.cw_regex.specs.declared.text.Sign.{Sign}
 use Rattle.cw_regex.specs.declared.text.Sign.TheVariants.{Dot, ParenOpen, ParenClose, Bar, Star, Plus, Question, BracketOpen, BracketClose, Bang, Colon as ColonSign, Comma, Other}
 use Rattle.cw_regex.specs.declared.phase.Phase.{Phase}
 use Rattle.cw_regex.specs.declared.phase.Phase.TheVariants.{Begin, Label, Whole, Repeated, Test, Negated, Ambient, Descriptor, Colon, Right}
-use Rattle.cw_regex.specs.Parts.{Part, word, sign}
+use Rattle.cw_regex.specs.Parts.{Part, identifier, sign}
 use Rattle.cw_regex.specs.Grammar.{is_descriptor, amb, Name, DescriptorName, Subject, ambient, holds, TestForm, Expression, only, either, Term, single, then, Factor, plain, star, plus}
 use Rattle.cw_regex.specs.Grammar.{maybe, Atom, literal, group, spelled_subject, spelled_if, spelled_test, spelled_more, spelled_tests, spelled_label, spelled, spelled_term, spelled_factor}
 use Rattle.cw_regex.specs.Grammar.{spelled_atom}
-use Rattle.cw_regex.specs.Machine.{is_test_start, in_test, step_word, takes_atom, is_end, run}
+use Rattle.cw_regex.specs.Machine.{is_test_start, in_test, step_identifier, takes_atom, is_end, run}
 use Rattle.cw_regex.specs.Tokens.{begins_bracket, Settled}
 use Rattle.std.proofs.lemmas.Bool.{cases_Bool as which}
 use Rattle.cw_lemmas.proofs.Truths.{and_false}
-use Rattle.cw_regex.proofs.Running.{after_subject, after_atom, after_factor, is_atom_end, factor_end, takes_of_end, run_word, run_open, run_label, run_again, atom_end}
+use Rattle.cw_regex.proofs.Running.{after_subject, after_atom, after_factor, is_atom_end, factor_end, takes_of_end, run_identifier, run_open, run_label, run_again, atom_end}
 
 -- from here the rest runs through
 abbrev pub Good : Phase → ℕ → List Part → Type 0
@@ -38,15 +38,15 @@ none_good q d ps e h = let f = h.1 in absurd (cc)
 
 -- a test: after `:` a right
 abbrev RightRead : ℕ → List Part → Type 0
-RightRead d ps = (r : Name) × (rest : List Part) × (ps ≡ word r.bytes ∷ rest) × Good Right d rest
+RightRead d ps = (r : Name) × (rest : List Part) × (ps ≡ identifier r.bytes ∷ rest) × Good Right d rest
 
 read_right : (d : ℕ) (ps : List Part) → Good Colon d ps → RightRead d ps
 read_right d [] h = let z = (good_nil Colon d h).0 in absurd (cc)
-read_right d (word w ∷ rest) h = by (which (is_name w))
+read_right d (identifier w ∷ rest) h = by (which (is_name w))
   where
-    by : (is_name w ≡ true) ⊎ (is_name w ≡ false) → RightRead d (word w ∷ rest)
-    by (inl e) = let name : Name = record { bytes = w; ok = e } in (name, rest, refl, good_by Colon Right d d (word w ∷ rest) rest (run_word false Colon Right d w rest (rw e refl)) h)
-    by (inr e) = let dead : run false Colon d (word w ∷ rest) ≡ None = rw e refl in absurd (none_good Colon d (word w ∷ rest) dead h)
+    by : (is_name w ≡ true) ⊎ (is_name w ≡ false) → RightRead d (identifier w ∷ rest)
+    by (inl e) = let name : Name = record { bytes = w; ok = e } in (name, rest, refl, good_by Colon Right d d (identifier w ∷ rest) rest (run_identifier false Colon Right d w rest (rw e refl)) h)
+    by (inr e) = let dead : run false Colon d (identifier w ∷ rest) ≡ None = rw e refl in absurd (none_good Colon d (identifier w ∷ rest) dead h)
 read_right d (sign Dot ∷ rest) h = absurd (let e = h.1 in cc)
 read_right d (sign ParenOpen ∷ rest) h = absurd (let e = h.1 in cc)
 read_right d (sign ParenClose ∷ rest) h = absurd (let e = h.1 in cc)
@@ -63,14 +63,14 @@ read_right d (sign Other ∷ rest) h = absurd (let e = h.1 in cc)
 
 -- `:` and a right
 abbrev ColonRead : ℕ → List Part → Type 0
-ColonRead d ps = (r : Name) × (rest : List Part) × (ps ≡ sign ColonSign ∷ word r.bytes ∷ rest) × Good Right d rest
+ColonRead d ps = (r : Name) × (rest : List Part) × (ps ≡ sign ColonSign ∷ identifier r.bytes ∷ rest) × Good Right d rest
 
 read_colon : (d : ℕ) (ps : List Part) → Good Colon d ps → ColonRead d (sign ColonSign ∷ ps)
 read_colon d ps h = let x = read_right d ps h in (x.0, x.1, ap (λ l. sign ColonSign ∷ l) x.2, x.3)
 
 read_descriptor : (d : ℕ) (ps : List Part) → Good Descriptor d ps → ColonRead d ps
 read_descriptor d [] h = let z = (good_nil Descriptor d h).0 in absurd (cc)
-read_descriptor d (word w ∷ rest) h = absurd (let e = h.1 in cc)
+read_descriptor d (identifier w ∷ rest) h = absurd (let e = h.1 in cc)
 read_descriptor d (sign ColonSign ∷ rest) h = read_colon d rest (good_by Descriptor Colon d d (sign ColonSign ∷ rest) rest refl h)
 read_descriptor d (sign Dot ∷ rest) h = absurd (let e = h.1 in cc)
 read_descriptor d (sign ParenOpen ∷ rest) h = absurd (let e = h.1 in cc)
@@ -88,13 +88,13 @@ read_descriptor d (sign Other ∷ rest) h = absurd (let e = h.1 in cc)
 abbrev SubjectRead : ℕ → List Part → Type 0
 SubjectRead d ps = (s : Subject) × (rest : List Part) × (ps ≡ spelled_subject s rest) × Good (after_subject s) d rest × Settled s rest
 
-read_ambient : (d : ℕ) (rest : List Part) → Good Ambient d rest → SubjectRead d (word amb ∷ rest)
+read_ambient : (d : ℕ) (rest : List Part) → Good Ambient d rest → SubjectRead d (identifier amb ∷ rest)
 read_ambient d [] h = (ambient, [], refl, h, refl)
-read_ambient d (word w ∷ rest) h = absurd (let e = h.1 in cc)
+read_ambient d (identifier w ∷ rest) h = absurd (let e = h.1 in cc)
 read_ambient d (sign ColonSign ∷ rest) h =
     let named : DescriptorName = record { bytes = amb; ok = refl } in
     let x = read_colon d rest (good_by Ambient Colon d d (sign ColonSign ∷ rest) rest refl h) in
-    (holds named x.0, x.1, ap (λ l. word amb ∷ l) x.2, x.3, tt)
+    (holds named x.0, x.1, ap (λ l. identifier amb ∷ l) x.2, x.3, tt)
 read_ambient d (sign Dot ∷ rest) h = (ambient, sign Dot ∷ rest, refl, h, refl)
 read_ambient d (sign ParenOpen ∷ rest) h = (ambient, sign ParenOpen ∷ rest, refl, h, refl)
 read_ambient d (sign ParenClose ∷ rest) h = (ambient, sign ParenClose ∷ rest, refl, h, refl)
@@ -111,10 +111,10 @@ read_ambient d (sign Other ∷ rest) h = (ambient, sign Other ∷ rest, refl, h,
 pub same_bytes : (a b : List ℕ) → bytes_eq a b ≡ true → a ≡ b
 same_bytes a b e = (bytes_eq-Decides a b).0 e
 
-read_word : (q : Phase) (d : ℕ) (w : List ℕ) (rest : List Part) → is_test_start q ≡ true → Good q d (word w ∷ rest) → SubjectRead d (word w ∷ rest)
-read_word q d w rest t h = by (which (bytes_eq w amb)) (which (is_descriptor w))
+read_identifier : (q : Phase) (d : ℕ) (w : List ℕ) (rest : List Part) → is_test_start q ≡ true → Good q d (identifier w ∷ rest) → SubjectRead d (identifier w ∷ rest)
+read_identifier q d w rest t h = by (which (bytes_eq w amb)) (which (is_descriptor w))
   where
-    is_in : (q : Phase) → is_test_start q ≡ true → step_word q w ≡ in_test w
+    is_in : (q : Phase) → is_test_start q ≡ true → step_identifier q w ≡ in_test w
     is_in Test e = refl
     is_in Negated e = refl
     is_in Begin e = absurd (cc)
@@ -126,27 +126,27 @@ read_word q d w rest t h = by (which (bytes_eq w amb)) (which (is_descriptor w))
     is_in Colon e = absurd (cc)
     is_in Right e = absurd (cc)
 
-    by : (bytes_eq w amb ≡ true) ⊎ (bytes_eq w amb ≡ false) → (is_descriptor w ≡ true) ⊎ (is_descriptor w ≡ false) → SubjectRead d (word w ∷ rest)
+    by : (bytes_eq w amb ≡ true) ⊎ (bytes_eq w amb ≡ false) → (is_descriptor w ≡ true) ⊎ (is_descriptor w ≡ false) → SubjectRead d (identifier w ∷ rest)
     by (inl e) f =
-        let goes : step_word q w ≡ Some Ambient = is_in q t ∙ rw e refl in
-        let x = read_ambient d rest (good_by q Ambient d d (word w ∷ rest) rest (run_word false q Ambient d w rest goes) h) in
-        subst (λ v. SubjectRead d (word v ∷ rest)) (sym (same_bytes w amb e)) x
+        let goes : step_identifier q w ≡ Some Ambient = is_in q t ∙ rw e refl in
+        let x = read_ambient d rest (good_by q Ambient d d (identifier w ∷ rest) rest (run_identifier false q Ambient d w rest goes) h) in
+        subst (λ v. SubjectRead d (identifier v ∷ rest)) (sym (same_bytes w amb e)) x
     by (inr e) (inl f) =
-        let goes : step_word q w ≡ Some Descriptor = is_in q t ∙ rw (e, f) refl in
-        let x = read_descriptor d rest (good_by q Descriptor d d (word w ∷ rest) rest (run_word false q Descriptor d w rest goes) h) in
+        let goes : step_identifier q w ≡ Some Descriptor = is_in q t ∙ rw (e, f) refl in
+        let x = read_descriptor d rest (good_by q Descriptor d d (identifier w ∷ rest) rest (run_identifier false q Descriptor d w rest goes) h) in
         let named : DescriptorName = record { bytes = w; ok = f } in
-        (holds named x.0, x.1, ap (λ l. word w ∷ l) x.2, x.3, tt)
+        (holds named x.0, x.1, ap (λ l. identifier w ∷ l) x.2, x.3, tt)
     by (inr e) (inr f) =
-        let stops : step_word q w ≡ None = is_in q t ∙ rw (e, f) refl in
-        let dead : run false q d (word w ∷ rest) ≡ None = rw stops refl in
-        absurd (none_good q d (word w ∷ rest) dead h)
+        let stops : step_identifier q w ≡ None = is_in q t ∙ rw (e, f) refl in
+        let dead : run false q d (identifier w ∷ rest) ≡ None = rw stops refl in
+        absurd (none_good q d (identifier w ∷ rest) dead h)
 
 abbrev TestRead : ℕ → List Part → Type 0
 TestRead d ps = (t : TestForm) × (rest : List Part) × (ps ≡ spelled_test t rest) × Good (after_subject t.what) d rest × Settled t.what rest
 
 read_negated : (d : ℕ) (ps : List Part) → Good Negated d ps → SubjectRead d ps
 read_negated d [] h = let z = (good_nil Negated d h).0 in absurd (cc)
-read_negated d (word w ∷ rest) h = read_word Negated d w rest refl h
+read_negated d (identifier w ∷ rest) h = read_identifier Negated d w rest refl h
 read_negated d (sign Dot ∷ rest) h = absurd (let e = h.1 in cc)
 read_negated d (sign ParenOpen ∷ rest) h = absurd (let e = h.1 in cc)
 read_negated d (sign ParenClose ∷ rest) h = absurd (let e = h.1 in cc)
@@ -163,7 +163,7 @@ read_negated d (sign Other ∷ rest) h = absurd (let e = h.1 in cc)
 
 read_test : (d : ℕ) (ps : List Part) → Good Test d ps → TestRead d ps
 read_test d [] h = let z = (good_nil Test d h).0 in absurd (cc)
-read_test d (word w ∷ rest) h = let x = read_word Test d w rest refl h in (record { negated = false; what = x.0 }, x.1, x.2, x.3, x.4)
+read_test d (identifier w ∷ rest) h = let x = read_identifier Test d w rest refl h in (record { negated = false; what = x.0 }, x.1, x.2, x.3, x.4)
 read_test d (sign Bang ∷ rest) h =
     let x = read_negated d rest (good_by Test Negated d d (sign Bang ∷ rest) rest refl h) in
     (record { negated = true; what = x.0 }, x.1, ap (λ l. sign Bang ∷ l) x.2, x.3, x.4)
@@ -201,8 +201,8 @@ read_more n d s [] l h t = by s h
     by : (s : Subject) → Good (after_subject s) d [] → MoreRead d []
     by ambient h = let z = (good_nil Ambient d h).0 in absurd (cc)
     by (holds a b) h = let z = (good_nil Right d h).0 in absurd (cc)
-read_more n d ambient (word w ∷ rest) l h t = absurd (let e = h.1 in cc)
-read_more n d (holds a b) (word w ∷ rest) l h t = absurd (let e = h.1 in cc)
+read_more n d ambient (identifier w ∷ rest) l h t = absurd (let e = h.1 in cc)
+read_more n d (holds a b) (identifier w ∷ rest) l h t = absurd (let e = h.1 in cc)
 read_more n d ambient (sign BracketClose ∷ rest) l h t = ([], rest, refl, good_by Ambient Whole d d (sign BracketClose ∷ rest) rest refl h)
 read_more n d (holds a b) (sign BracketClose ∷ rest) l h t = ([], rest, refl, good_by Right Whole d d (sign BracketClose ∷ rest) rest refl h)
 read_more zero d s (sign Comma ∷ rest) l h t = absurd (omega arith)
@@ -262,7 +262,7 @@ TestsRead label d ps = (ts : List TestForm) × (rest : List Part) × (ps ≡ spe
 
 read_tests : (label : Option Name) (d : ℕ) (ps : List Part) → Good Label d ps → TestsRead label d ps
 read_tests label d [] h = ([], [], refl, h, refl)
-read_tests label d (word w ∷ rest) h = ([], word w ∷ rest, refl, h, refl)
+read_tests label d (identifier w ∷ rest) h = ([], identifier w ∷ rest, refl, h, refl)
 read_tests label d (sign BracketOpen ∷ rest) h =
     let x = read_test d rest (good_by Label Test d d (sign BracketOpen ∷ rest) rest refl h) in
     let y = read_more (length x.1) d x.0.what x.1 (omega arith) x.3 x.4 in
@@ -285,14 +285,14 @@ read_literal label d rest h = let x = read_tests label d rest h in (literal labe
 
 -- an atom comes first
 abbrev AtomFirst : List Part → Type 0
-AtomFirst (word w ∷ rest) = Unit {0}
+AtomFirst (identifier w ∷ rest) = Unit {0}
 AtomFirst (sign Dot ∷ rest) = Unit {0}
 AtomFirst (sign ParenOpen ∷ rest) = Unit {0}
 AtomFirst ps = ⊥
 
 pub begin_first : (d : ℕ) (ps : List Part) → Good Begin d ps → AtomFirst ps
 begin_first d [] h = let z = (good_nil Begin d h).0 in absurd (cc)
-begin_first d (word w ∷ rest) h = tt
+begin_first d (identifier w ∷ rest) h = tt
 begin_first d (sign Dot ∷ rest) h = tt
 begin_first d (sign ParenOpen ∷ rest) h = tt
 begin_first d (sign ParenClose ∷ rest) h = absurd (let e = h.1 in cc)
@@ -320,7 +320,7 @@ close_next q (suc d) rest e h = at_close rest d (sym (add-one d)) (good_by q Who
 
 next_of : (q : Phase) (d : ℕ) (rest : List Part) → is_end q ≡ true → Good q d rest → (is_atom_end q && begins_repeat rest) ≡ false → (is_label q && begins_bracket rest) ≡ false → Next q d rest
 next_of q d [] e h r b = at_end (good_nil q d h).1
-next_of q d (word w ∷ rest) e h r b = at_atom (word w) rest tt h
+next_of q d (identifier w ∷ rest) e h r b = at_atom (identifier w) rest tt h
 next_of q d (sign Dot ∷ rest) e h r b = at_atom (sign Dot) rest tt h
 next_of q d (sign ParenOpen ∷ rest) e h r b = at_atom (sign ParenOpen) rest tt h
 next_of q d (sign ParenClose ∷ rest) e h r b = close_next q d rest e h
@@ -375,7 +375,7 @@ read_factor d ps x = by x.1 x.2 x.3 x.4
   where
     by : (rest : List Part) → ps ≡ spelled_atom x.0 rest → Good (after_atom x.0) d rest → (is_label (after_atom x.0) && begins_bracket rest) ≡ false → FactorRead d ps
     by [] e h b = (plain x.0, [], e, h, and_false (is_atom_end (after_atom x.0)), b)
-    by (word w ∷ rest) e h b = (plain x.0, word w ∷ rest, e, h, and_false (is_atom_end (after_atom x.0)), b)
+    by (identifier w ∷ rest) e h b = (plain x.0, identifier w ∷ rest, e, h, and_false (is_atom_end (after_atom x.0)), b)
     by (sign Star ∷ rest) e h b = (star x.0, rest, e, again_good (after_atom x.0) d Star rest (atom_end x.0) (run_again (after_atom x.0) d rest (atom_end x.0)).0 h, refl, refl)
     by (sign Plus ∷ rest) e h b = (plus x.0, rest, e, again_good (after_atom x.0) d Plus rest (atom_end x.0) (run_again (after_atom x.0) d rest (atom_end x.0)).1 h, refl, refl)
     by (sign Question ∷ rest) e h b = (maybe x.0, rest, e, again_good (after_atom x.0) d Question rest (atom_end x.0) (run_again (after_atom x.0) d rest (atom_end x.0)).2 h, refl, refl)
@@ -460,14 +460,14 @@ after_one n d ps l rec x = by x.1 x.2 (next_of (after_factor x.0) d x.1 (factor_
 dot_good : (q : Phase) (d : ℕ) (rest : List Part) → takes_atom q ≡ true → run false q d (sign Dot ∷ rest) ≡ run false Label d rest
 dot_good q d rest e = run_label q d None rest e
 
-word_atom : (q : Phase) (d : ℕ) (w : List ℕ) (rest : List Part) → takes_atom q ≡ true → Good q d (word w ∷ rest) → AtomRead d (word w ∷ rest)
-word_atom q d w rest e h = by (which (is_name w))
+identifier_atom : (q : Phase) (d : ℕ) (w : List ℕ) (rest : List Part) → takes_atom q ≡ true → Good q d (identifier w ∷ rest) → AtomRead d (identifier w ∷ rest)
+identifier_atom q d w rest e h = by (which (is_name w))
   where
-    by : (is_name w ≡ true) ⊎ (is_name w ≡ false) → AtomRead d (word w ∷ rest)
-    by (inl f) = let name : Name = record { bytes = w; ok = f } in read_literal (Some name) d rest (good_by q Label d d (word w ∷ rest) rest (run_label q d (Some name) rest e) h)
-    by (inr f) = absurd (none_good q d (word w ∷ rest) (dead q e) h)
+    by : (is_name w ≡ true) ⊎ (is_name w ≡ false) → AtomRead d (identifier w ∷ rest)
+    by (inl f) = let name : Name = record { bytes = w; ok = f } in read_literal (Some name) d rest (good_by q Label d d (identifier w ∷ rest) rest (run_label q d (Some name) rest e) h)
+    by (inr f) = absurd (none_good q d (identifier w ∷ rest) (dead q e) h)
       where
-        dead : (q : Phase) → takes_atom q ≡ true → run false q d (word w ∷ rest) ≡ None
+        dead : (q : Phase) → takes_atom q ≡ true → run false q d (identifier w ∷ rest) ≡ None
         dead Begin e = rw f refl
         dead Label e = rw f refl
         dead Whole e = rw f refl
@@ -492,7 +492,7 @@ group_atom d ps x = by x.3
 pub parse : (n : ℕ) (q : Phase) (d : ℕ) (ps : List Part) → takes_atom q ≡ true → length ps ≤ n → AtomFirst ps → Good q d ps → Parsed d ps
 parse n q d [] t l f h = absurd f
 parse zero q d (p ∷ rest) t l f h = absurd (omega arith)
-parse (suc n) q d (word w ∷ rest) t l f h = after_one n d (word w ∷ rest) l (λ r ps' t' l' f' h'. parse n r d ps' t' l' f' h') (read_factor d (word w ∷ rest) (word_atom q d w rest t h))
+parse (suc n) q d (identifier w ∷ rest) t l f h = after_one n d (identifier w ∷ rest) l (λ r ps' t' l' f' h'. parse n r d ps' t' l' f' h') (read_factor d (identifier w ∷ rest) (identifier_atom q d w rest t h))
 parse (suc n) q d (sign Dot ∷ rest) t l f h = after_one n d (sign Dot ∷ rest) l (λ r ps' t' l' f' h'. parse n r d ps' t' l' f' h')
     (read_factor d (sign Dot ∷ rest) (read_literal None d rest (good_by q Label d d (sign Dot ∷ rest) rest (dot_good q d rest t) h)))
 parse (suc n) q d (sign ParenOpen ∷ rest) t l f h =

@@ -8,12 +8,12 @@ use Rattle.cw_regex.specs.declared.phase.Phase.TheVariants.{Begin, Label, Whole,
 use Rattle.cw_regex.specs.declared.scan.Scanned.{Scanned}
 use Rattle.cw_regex.specs.Parts.{sign, parts, ends_blank}
 use Rattle.cw_regex.specs.Grammar.{IsFaultAt}
-use Rattle.cw_regex.specs.Machine.{step_word, step, kept, ends_here, In, deepest}
-use Rattle.cw_regex.specs.Pieces.{IsBlankAt, IsSignAt, IsWordAt}
+use Rattle.cw_regex.specs.Machine.{step_identifier, step, kept, ends_here, In, deepest}
+use Rattle.cw_regex.specs.Fronts.{IsBlankAt, IsSignAt, IsIdentifierAt}
 use Rattle.cw_regex.specs.Scans.{is_held, Scan, ScanAt}
 use Rattle.cw_lemmas.proofs.Truths.{and_first as and_left, and_second as and_right}
 use Rattle.cw_regex.proofs.Runs.{take_drop, take_on}
-use Rattle.cw_regex.proofs.Scanned.{scan_blank, scan_sign, scan_word, Stuck, fault_by, front_scan, stuck_front, stuck_held, stuck_sign, stuck_word, later_word, scan_ends, stuck_end}
+use Rattle.cw_regex.proofs.Scanned.{scan_blank, scan_sign, scan_identifier, Stuck, fault_by, front_scan, stuck_front, stuck_held, stuck_sign, stuck_identifier, later_identifier, scan_ends, stuck_end}
 
 held_is : (alone : Bool) (q : Phase) → is_held alone q ≡ true → (alone ≡ true) × (q ≡ Right)
 held_is true Right e = (refl, refl)
@@ -57,15 +57,15 @@ module _ (alone : Bool) (text : List ℕ) (x : Scanned) (h : ScanAt alone text x
             (scan_blank alone (take x.at text) p.byte (drop (x.at + 1) text) x.phase x.depth x.most was p.blank more (not_held alone x.phase f));
       }
 
-  pub word_ok : (end : ℕ) (r : Phase) → (p : IsWordAt text x.at end) → step_word x.phase (take (end - x.at) (drop x.at text)) ≡ Some r →
+  pub identifier_ok : (end : ℕ) (r : Phase) → (p : IsIdentifierAt text x.at end) → step_identifier x.phase (take (end - x.at) (drop x.at text)) ≡ Some r →
       ScanAt alone text (record { at = end; phase = r; depth = x.depth; most = x.most })
-  word_ok end r p e =
+  identifier_ok end r p e =
       let was = subst (λ t. Scan alone (take x.at text) t x.phase x.depth x.most) p.cut h.is in
-      let goes = subst (λ w. step_word x.phase w ≡ Some r) p.word e in
+      let goes = subst (λ w. step_identifier x.phase w ≡ Some r) p.identifier e in
       record {
         far = p.within;
         is = subst (λ s. Scan alone s (drop end text) r x.depth x.most) (sym (take_on text (p.first ∷ p.more) x.at end p.cut p.far))
-            (scan_word alone (take x.at text) p.first p.more (drop end text) x.phase r x.depth x.most was p.bytes p.stop goes);
+            (scan_identifier alone (take x.at text) p.first p.more (drop end text) x.phase r x.depth x.most was p.bytes p.stop goes);
       }
 
   pub sign_ok : (m : Sign) (r : Phase) (e : ℕ) → IsSignAt text x.at m → step alone x.phase x.depth (sign m) ≡ Some (r, e) →
@@ -78,7 +78,7 @@ module _ (alone : Bool) (text : List ℕ) (x : Scanned) (h : ScanAt alone text x
       record {
         far = omega arith;
         is = subst (λ s. Scan alone s (drop (x.at + 1) text) r e (max x.most e)) (sym (take_on text (p.byte ∷ []) x.at (x.at + 1) p.cut (omega arith)))
-            (scan_sign alone (take x.at text) p.byte (drop (x.at + 1) text) x.phase r x.depth e x.most was p.no_blank p.no_word
+            (scan_sign alone (take x.at text) p.byte (drop (x.at + 1) text) x.phase r x.depth e x.most was p.no_blank p.no_identifier
             (subst (λ y. step alone x.phase x.depth (sign y) ≡ Some (r, e)) p.is goes));
       }
 
@@ -102,19 +102,19 @@ module _ (alone : Bool) (text : List ℕ) (x : Scanned) (h : ScanAt alone text x
 
   pub sign_fault : (m : Sign) → IsSignAt text x.at m → step alone x.phase x.depth (sign m) ≡ None → IsFaultAt (In alone) text x.at
   sign_fault m p e = fault_here (subst (Stuck alone (take x.at text)) (sym p.cut) (stuck_sign alone (take x.at text) p.byte (drop (x.at + 1) text) x.phase x.depth x.most
-      (subst (λ t. Scan alone (take x.at text) t x.phase x.depth x.most) p.cut h.is) p.no_blank p.no_word (subst (λ y. step alone x.phase x.depth (sign y) ≡ None) p.is e)))
+      (subst (λ t. Scan alone (take x.at text) t x.phase x.depth x.most) p.cut h.is) p.no_blank p.no_identifier (subst (λ y. step alone x.phase x.depth (sign y) ≡ None) p.is e)))
 
-  pub word_fault : (end : ℕ) (p : IsWordAt text x.at end) → step_word x.phase (take (end - x.at) (drop x.at text)) ≡ None → kept x.phase p.first ≡ false → IsFaultAt (In alone) text x.at
-  word_fault end p e k =
-      fault_here (subst (Stuck alone (take x.at text)) (sym p.cut) (stuck_word alone (take x.at text) p.first p.more (drop end text) x.phase x.depth x.most
-      (subst (λ t. Scan alone (take x.at text) t x.phase x.depth x.most) p.cut h.is) p.bytes (subst (λ w. step_word x.phase w ≡ None) p.word e) k))
+  pub identifier_fault : (end : ℕ) (p : IsIdentifierAt text x.at end) → step_identifier x.phase (take (end - x.at) (drop x.at text)) ≡ None → kept x.phase p.first ≡ false → IsFaultAt (In alone) text x.at
+  identifier_fault end p e k =
+      fault_here (subst (Stuck alone (take x.at text)) (sym p.cut) (stuck_identifier alone (take x.at text) p.first p.more (drop end text) x.phase x.depth x.most
+      (subst (λ t. Scan alone (take x.at text) t x.phase x.depth x.most) p.cut h.is) p.bytes (subst (λ w. step_identifier x.phase w ≡ None) p.identifier e) k))
 
-  pub later_fault : (end : ℕ) (p : IsWordAt text x.at end) → step_word x.phase (take (end - x.at) (drop x.at text)) ≡ None → kept x.phase p.first ≡ true → IsFaultAt (In alone) text (x.at + 1)
+  pub later_fault : (end : ℕ) (p : IsIdentifierAt text x.at end) → step_identifier x.phase (take (end - x.at) (drop x.at text)) ≡ None → kept x.phase p.first ≡ true → IsFaultAt (In alone) text (x.at + 1)
   later_fault end p e k =
       let s = take x.at text in
       let u = p.more ++ drop end text in
-      let later = later_word alone s p.first p.more (drop end text) x.phase x.depth x.most (subst (λ t. Scan alone s t x.phase x.depth x.most) p.cut h.is) p.bytes
-      (subst (λ w. step_word x.phase w ≡ None) p.word e) k in
+      let later = later_identifier alone s p.first p.more (drop end text) x.phase x.depth x.most (subst (λ t. Scan alone s t x.phase x.depth x.most) p.cut h.is) p.bytes
+      (subst (λ w. step_identifier x.phase w ≡ None) p.identifier e) k in
       let whole : (s ++ p.first ∷ []) ++ u ≡ text = append_assoc s (p.first ∷ []) u ∙ ap (λ t. s ++ t) (sym p.cut) ∙ sym (take_drop text x.at) in
       let l = long text x.at h.far in
       let n = length-append s (p.first ∷ []) in

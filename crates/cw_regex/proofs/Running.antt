@@ -5,10 +5,10 @@ use Rattle.std.specs.Str.{bytes_eq}
 use Rattle.cw_regex.specs.declared.text.Sign.TheVariants.{ParenOpen, ParenClose, Bar, Star, Plus, Question, Colon as ColonSign}
 use Rattle.cw_regex.specs.declared.phase.Phase.{Phase}
 use Rattle.cw_regex.specs.declared.phase.Phase.TheVariants.{Begin, Label, Whole, Repeated, Test, Negated, Ambient, Descriptor, Colon, Right}
-use Rattle.cw_regex.specs.Parts.{Part, word, sign}
+use Rattle.cw_regex.specs.Parts.{Part, identifier, sign}
 use Rattle.cw_regex.specs.Grammar.{is_descriptor, amb, Name, Subject, ambient, holds, TestForm, Expression, only, either, Term, single, then, Factor, plain, star, plus, maybe, Atom, literal}
 use Rattle.cw_regex.specs.Grammar.{group, spelled_subject, spelled_if, spelled_test, spelled_more, spelled_tests, spelled_label, spelled, spelled_term, spelled_factor, spelled_atom}
-use Rattle.cw_regex.specs.Machine.{is_test_start, in_test, step_word, takes_atom, is_end, run}
+use Rattle.cw_regex.specs.Machine.{is_test_start, in_test, step_identifier, takes_atom, is_end, run}
 use Rattle.std.proofs.lemmas.Bool.{cases_Bool as which}
 
 -- the phase after each
@@ -91,11 +91,11 @@ in_test_either w e = by (which (bytes_eq w amb))
     by (inl f) = inl (rw f refl)
     by (inr f) = inr (rw (f, e) refl)
 
-pub run_word : (alone : Bool) (q r : Phase) (d : ℕ) (w : List ℕ) (rest : List Part) → step_word q w ≡ Some r → run alone q d (word w ∷ rest) ≡ run alone r d rest
-run_word alone q r d w rest e = ap (λ (o : Option Phase). option_and_then (λ (s : Phase × ℕ). run alone s.0 s.1 rest) (option_map (λ (x : Phase). let y : Phase × ℕ = (x, d) in y) o)) e
+pub run_identifier : (alone : Bool) (q r : Phase) (d : ℕ) (w : List ℕ) (rest : List Part) → step_identifier q w ≡ Some r → run alone q d (identifier w ∷ rest) ≡ run alone r d rest
+run_identifier alone q r d w rest e = ap (λ (o : Option Phase). option_and_then (λ (s : Phase × ℕ). run alone s.0 s.1 rest) (option_map (λ (x : Phase). let y : Phase × ℕ = (x, d) in y) o)) e
 
-right_after : (alone : Bool) (d : ℕ) (r : Name) (rest : List Part) → run alone Colon d (word r.bytes ∷ rest) ≡ run alone Right d rest
-right_after alone d r rest = run_word alone Colon Right d r.bytes rest (rw r.ok refl)
+right_after : (alone : Bool) (d : ℕ) (r : Name) (rest : List Part) → run alone Colon d (identifier r.bytes ∷ rest) ≡ run alone Right d rest
+right_after alone d r rest = run_identifier alone Colon Right d r.bytes rest (rw r.ok refl)
 
 pub run_subject : (alone : Bool) (q : Phase) (d : ℕ) (s : Subject) (rest : List Part) → is_test_start q ≡ true → run alone q d (spelled_subject s rest) ≡ run alone (after_subject s) d rest
 run_subject alone Test d ambient rest e = refl
@@ -103,13 +103,13 @@ run_subject alone Negated d ambient rest e = refl
 run_subject alone Test d (holds n r) rest e = by (in_test_either n.bytes n.ok)
   where
     by : (in_test n.bytes ≡ Some Ambient) ⊎ (in_test n.bytes ≡ Some Descriptor) → run alone Test d (spelled_subject (holds n r) rest) ≡ run alone Right d rest
-    by (inl f) = run_word alone Test Ambient d n.bytes (sign ColonSign ∷ word r.bytes ∷ rest) f ∙ right_after alone d r rest
-    by (inr f) = run_word alone Test Descriptor d n.bytes (sign ColonSign ∷ word r.bytes ∷ rest) f ∙ right_after alone d r rest
+    by (inl f) = run_identifier alone Test Ambient d n.bytes (sign ColonSign ∷ identifier r.bytes ∷ rest) f ∙ right_after alone d r rest
+    by (inr f) = run_identifier alone Test Descriptor d n.bytes (sign ColonSign ∷ identifier r.bytes ∷ rest) f ∙ right_after alone d r rest
 run_subject alone Negated d (holds n r) rest e = by (in_test_either n.bytes n.ok)
   where
     by : (in_test n.bytes ≡ Some Ambient) ⊎ (in_test n.bytes ≡ Some Descriptor) → run alone Negated d (spelled_subject (holds n r) rest) ≡ run alone Right d rest
-    by (inl f) = run_word alone Negated Ambient d n.bytes (sign ColonSign ∷ word r.bytes ∷ rest) f ∙ right_after alone d r rest
-    by (inr f) = run_word alone Negated Descriptor d n.bytes (sign ColonSign ∷ word r.bytes ∷ rest) f ∙ right_after alone d r rest
+    by (inl f) = run_identifier alone Negated Ambient d n.bytes (sign ColonSign ∷ identifier r.bytes ∷ rest) f ∙ right_after alone d r rest
+    by (inr f) = run_identifier alone Negated Descriptor d n.bytes (sign ColonSign ∷ identifier r.bytes ∷ rest) f ∙ right_after alone d r rest
 run_subject alone Begin d s rest e = absurd (cc)
 run_subject alone Label d s rest e = absurd (cc)
 run_subject alone Whole d s rest e = absurd (cc)
@@ -137,10 +137,10 @@ run_label Begin d None rest e = refl
 run_label Label d None rest e = refl
 run_label Whole d None rest e = refl
 run_label Repeated d None rest e = refl
-run_label Begin d (Some n) rest e = run_word false Begin Label d n.bytes rest (rw n.ok refl)
-run_label Label d (Some n) rest e = run_word false Label Label d n.bytes rest (rw n.ok refl)
-run_label Whole d (Some n) rest e = run_word false Whole Label d n.bytes rest (rw n.ok refl)
-run_label Repeated d (Some n) rest e = run_word false Repeated Label d n.bytes rest (rw n.ok refl)
+run_label Begin d (Some n) rest e = run_identifier false Begin Label d n.bytes rest (rw n.ok refl)
+run_label Label d (Some n) rest e = run_identifier false Label Label d n.bytes rest (rw n.ok refl)
+run_label Whole d (Some n) rest e = run_identifier false Whole Label d n.bytes rest (rw n.ok refl)
+run_label Repeated d (Some n) rest e = run_identifier false Repeated Label d n.bytes rest (rw n.ok refl)
 run_label Test d l rest e = absurd (cc)
 run_label Negated d l rest e = absurd (cc)
 run_label Ambient d l rest e = absurd (cc)

@@ -1,11 +1,11 @@
--- Runs of bytes of words, and what stands at a place.
+-- Runs of bytes of identifiers, and what stands at a place.
 use Rattle.std.proofs.Common.{◌≡◌, ℕ, zero, suc, ◌+◌, ◌-◌, ◌<◌, ◌≤◌, List, [], ◌∷◌, ◌++◌, Bool, true, false, ◌&&◌, length, take, drop, get_or, slice_index, refl, sym, ap, ap₂, ◌∙◌, subst}
 use Rattle.std.proofs.Common.{arith, length-drop, length-take}
 use Rattle.std.specs.List.{list_all}
 use Rattle.std.proofs.lemmas.List.{take_more, get_or-drop}
 use Rattle.cw_rights.specs.Valid.{is_name_byte}
-use Rattle.cw_regex.specs.Parts.{is_blank, begins_word, ends_blank}
-use Rattle.cw_regex.specs.Pieces.{IsWordAt}
+use Rattle.cw_regex.specs.Parts.{is_blank, begins_identifier, ends_blank}
+use Rattle.cw_regex.specs.Fronts.{IsIdentifierAt}
 
 pub take_front : (s u : List ℕ) → take (length s) (s ++ u) ≡ s
 take_front [] u = refl
@@ -45,10 +45,10 @@ drop_again l zero n = let e : 0 + n ≡ n = omega arith in rw e refl
 drop_again [] (suc m) n = drop_nil n ∙ sym (drop_nil (suc m + n))
 drop_again (x ∷ l) (suc m) n = let e : suc m + n ≡ suc (m + n) = omega arith in rw e (drop_again l m n)
 
-pub word_at : (text : List ℕ) (at end : ℕ) → at < end → end ≤ length text → list_all is_name_byte (take (end - at) (drop at text)) ≡ true → begins_word (drop end text) ≡ false → IsWordAt text at end
-word_at text at end l m a s = by (take (end - at) (drop at text)) refl
+pub identifier_at : (text : List ℕ) (at end : ℕ) → at < end → end ≤ length text → list_all is_name_byte (take (end - at) (drop at text)) ≡ true → begins_identifier (drop end text) ≡ false → IsIdentifierAt text at end
+identifier_at text at end l m a s = by (take (end - at) (drop at text)) refl
   where
-    by : (w : List ℕ) → take (end - at) (drop at text) ≡ w → IsWordAt text at end
+    by : (w : List ℕ) → take (end - at) (drop at text) ≡ w → IsIdentifierAt text at end
     by [] e = let n = length-take (end - at) (drop at text) in let k = length-drop at text in let z : length (take (end - at) (drop at text)) ≡ 0 = ap length e in absurd (omega arith)
     by (c ∷ w) e =
         let n = length-take (end - at) (drop at text) in
@@ -58,7 +58,7 @@ word_at text at end l m a s = by (take (end - at) (drop at text)) refl
         record {
           first = c;
           more = w;
-          word = e;
+          identifier = e;
           cut = take_drop (drop at text) (end - at) ∙ ap₂ ◌++◌ e (drop_again text at (end - at) ∙ ap (λ i. drop i text) f);
           bytes = subst (λ v. list_all is_name_byte v ≡ true) e a;
           stop = s;

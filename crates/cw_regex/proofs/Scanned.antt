@@ -9,25 +9,25 @@ use Rattle.cw_regex.specs.declared.text.Sign.{Sign}
 use Rattle.cw_regex.specs.declared.text.Sign.TheVariants.{Dot, ParenOpen, ParenClose, Bar, Star, Plus, Question, BracketOpen, BracketClose, Bang, Colon as ColonSign, Comma, Other}
 use Rattle.cw_regex.specs.declared.phase.Phase.{Phase}
 use Rattle.cw_regex.specs.declared.phase.Phase.TheVariants.{Begin, Label, Whole, Repeated, Test, Negated, Ambient, Descriptor, Colon, Right}
-use Rattle.cw_regex.specs.Parts.{Part, word, sign, is_blank, sign_of, begins_word, grown, parts, ends_blank}
+use Rattle.cw_regex.specs.Parts.{Part, identifier, sign, is_blank, sign_of, begins_identifier, grown, parts, ends_blank}
 use Rattle.cw_regex.specs.Grammar.{is_digit, amb, IsFaultAt}
-use Rattle.cw_regex.specs.Machine.{is_test_start, kept, in_test, step_word, step_sign, closed_one, takes_atom, is_end, step, run, start, ends_here, In, deepest}
+use Rattle.cw_regex.specs.Machine.{is_test_start, kept, in_test, step_identifier, step_sign, closed_one, takes_atom, is_end, step, run, start, ends_here, In, deepest}
 use Rattle.std.proofs.lemmas.Bool.{or_cases}
 use Rattle.cw_lemmas.proofs.Truths.{and_first as and_left, and_second as and_right}
 use Rattle.std.proofs.lemmas.Bool.{cases_Bool as which}
-use Rattle.cw_regex.proofs.Cutting.{word_no_blank, parts_blank, parts_sign, parts_byte, parts_word, parts_cut}
-use Rattle.cw_regex.specs.Scans.{ends_word, Apart, Scan}
+use Rattle.cw_regex.proofs.Cutting.{identifier_no_blank, parts_blank, parts_sign, parts_byte, parts_identifier, parts_cut}
+use Rattle.cw_regex.specs.Scans.{ends_identifier, Apart, Scan}
 use Rattle.cw_regex.proofs.Runs.{take_front}
 use Rattle.cw_regex.proofs.Fronts.{At, run_append, apart_begins, ends_append, starts_append, front_of, runs, accepted, rejected, stuck_part, apart_before}
 
-blank_no_word : (b : ℕ) → is_blank b ≡ true → is_name_byte b ≡ false
-blank_no_word b e = by (which (is_name_byte b))
+blank_no_identifier : (b : ℕ) → is_blank b ≡ true → is_name_byte b ≡ false
+blank_no_identifier b e = by (which (is_name_byte b))
   where
     by : (is_name_byte b ≡ true) ⊎ (is_name_byte b ≡ false) → is_name_byte b ≡ false
-    by (inl f) = let z = word_no_blank b f in absurd (cc)
+    by (inl f) = let z = identifier_no_blank b f in absurd (cc)
     by (inr f) = f
 
-last_byte : (s : List ℕ) (b : ℕ) → ends_word (s ++ b ∷ []) ≡ is_name_byte b
+last_byte : (s : List ℕ) (b : ℕ) → ends_identifier (s ++ b ∷ []) ≡ is_name_byte b
 last_byte [] b = refl
 last_byte (a ∷ []) b = refl
 last_byte (a ∷ (c ∷ s)) b = last_byte (c ∷ s) b
@@ -41,7 +41,7 @@ apart_last s b t e = rw (last_byte s b, e) refl
 pub scan_blank : (alone : Bool) (s : List ℕ) (b : ℕ) (t : List ℕ) (q : Phase) (d most : ℕ) → Scan alone s (b ∷ t) q d most → is_blank b ≡ true → 0 < length s →
     (alone ≡ true → q ≡ Right → ⊥) → Scan alone (s ++ b ∷ []) t q d most
 scan_blank alone s b t q d most h e l other =
-    let nb = blank_no_word b e in
+    let nb = blank_no_identifier b e in
     let same : parts (s ++ b ∷ []) ≡ parts s = parts_cut s (b ∷ []) (apart_begins s (b ∷ []) nb) ∙ ap (λ ps. parts s ++ ps) (parts_blank b [] e) ∙ append-nil (parts s) in
     let n = length-append s (b ∷ []) in
     let f = h.few in
@@ -58,7 +58,7 @@ scan_blank alone s b t q d most h e l other =
 -- as many are open at most as are open now
 pub deepest_least : (ps : List Part) (d : ℕ) → d ≤ deepest d ps
 deepest_least [] d = omega arith
-deepest_least (word w ∷ ps) d = deepest_least ps d
+deepest_least (identifier w ∷ ps) d = deepest_least ps d
 deepest_least (sign ParenOpen ∷ ps) d = omega arith
 deepest_least (sign ParenClose ∷ ps) d = omega arith
 deepest_least (sign Dot ∷ ps) d = deepest_least ps d
@@ -179,37 +179,37 @@ scan_sign alone s b t q r d e most h nb nw goes =
       few = omega arith;
     }
 
-word_ends : (c : ℕ) (w : List ℕ) → list_all is_name_byte (c ∷ w) ≡ true → ends_blank (c ∷ w) ≡ false
-word_ends c [] a = word_no_blank c (and_left (is_name_byte c) true a)
-word_ends c (b ∷ w) a = word_ends b w (and_right (is_name_byte c) (list_all is_name_byte (b ∷ w)) a)
+identifier_ends : (c : ℕ) (w : List ℕ) → list_all is_name_byte (c ∷ w) ≡ true → ends_blank (c ∷ w) ≡ false
+identifier_ends c [] a = identifier_no_blank c (and_left (is_name_byte c) true a)
+identifier_ends c (b ∷ w) a = identifier_ends b w (and_right (is_name_byte c) (list_all is_name_byte (b ∷ w)) a)
 
-whole_word : (c : ℕ) (w : List ℕ) → list_all is_name_byte (c ∷ w) ≡ true → parts (c ∷ w) ≡ word (c ∷ w) ∷ []
-whole_word c w a = ap parts (sym (append-nil (c ∷ w))) ∙ parts_word c w [] a refl
+whole_identifier : (c : ℕ) (w : List ℕ) → list_all is_name_byte (c ∷ w) ≡ true → parts (c ∷ w) ≡ identifier (c ∷ w) ∷ []
+whole_identifier c w a = ap parts (sym (append-nil (c ∷ w))) ∙ parts_identifier c w [] a refl
 
--- no word goes on there, since one begins
-apart_of : (s : List ℕ) (c : ℕ) (t : List ℕ) → is_name_byte c ≡ true → Apart s (c ∷ t) → ends_word s ≡ false
-apart_of s c t e a = by (ends_word s) (subst (λ x. (ends_word s && x) ≡ false) e a)
+-- no identifier goes on there, since one begins
+apart_of : (s : List ℕ) (c : ℕ) (t : List ℕ) → is_name_byte c ≡ true → Apart s (c ∷ t) → ends_identifier s ≡ false
+apart_of s c t e a = by (ends_identifier s) (subst (λ x. (ends_identifier s && x) ≡ false) e a)
   where
     by : (b : Bool) → (b && true) ≡ false → b ≡ false
     by true h = h
     by false h = refl
 
-pub scan_word : (alone : Bool) (s : List ℕ) (c : ℕ) (w t : List ℕ) (q r : Phase) (d most : ℕ) → Scan alone s ((c ∷ w) ++ t) q d most → list_all is_name_byte (c ∷ w) ≡ true →
-    begins_word t ≡ false → step_word q (c ∷ w) ≡ Some r → Scan alone (s ++ c ∷ w) t r d most
-scan_word alone s c w t q r d most h a n goes =
+pub scan_identifier : (alone : Bool) (s : List ℕ) (c : ℕ) (w t : List ℕ) (q r : Phase) (d most : ℕ) → Scan alone s ((c ∷ w) ++ t) q d most → list_all is_name_byte (c ∷ w) ≡ true →
+    begins_identifier t ≡ false → step_identifier q (c ∷ w) ≡ Some r → Scan alone (s ++ c ∷ w) t r d most
+scan_identifier alone s c w t q r d most h a n goes =
     let first : is_name_byte c ≡ true = and_left (is_name_byte c) (list_all is_name_byte w) a in
     let free = apart_of s c (w ++ t) first h.apart in
-    let same : parts (s ++ c ∷ w) ≡ parts s ++ word (c ∷ w) ∷ [] = parts_cut s (c ∷ w) (apart_before s (c ∷ w) free) ∙ ap (λ ps. parts s ++ ps) (whole_word c w a) in
-    let one : step alone q d (word (c ∷ w)) ≡ Some (r, d) = ap (λ (o : Option Phase). option_map (λ (x : Phase). let y : At = (x, d) in y) o) goes in
+    let same : parts (s ++ c ∷ w) ≡ parts s ++ identifier (c ∷ w) ∷ [] = parts_cut s (c ∷ w) (apart_before s (c ∷ w) free) ∙ ap (λ ps. parts s ++ ps) (whole_identifier c w a) in
+    let one : step alone q d (identifier (c ∷ w)) ≡ Some (r, d) = ap (λ (o : Option Phase). option_map (λ (x : Phase). let y : At = (x, d) in y) o) goes in
     let m = length-append s (c ∷ w) in
     let f = h.few in
     record {
-      runs = ap (run alone (start alone) 0) same ∙ run_append alone (parts s) (word (c ∷ w) ∷ []) (start alone) q 0 d h.runs
+      runs = ap (run alone (start alone) 0) same ∙ run_append alone (parts s) (identifier (c ∷ w) ∷ []) (start alone) q 0 d h.runs
           ∙ ap (λ (o : Option At). option_and_then (λ (a : At). run alone a.0 a.1 []) o) one;
       apart = apart_begins (s ++ c ∷ w) t n;
-      front = starts_append s (c ∷ w) h.front (λ z. word_no_blank c first);
-      may = λ x y. ends_append s c w ∙ word_ends c w a;
-      deep = ap (λ ps. max most (deepest d ps)) (sym (parts_word c w t a n)) ∙ h.deep ∙ ap (λ l. deepest 0 (parts l)) (sym (append_assoc s (c ∷ w) t));
+      front = starts_append s (c ∷ w) h.front (λ z. identifier_no_blank c first);
+      may = λ x y. ends_append s c w ∙ identifier_ends c w a;
+      deep = ap (λ ps. max most (deepest d ps)) (sym (parts_identifier c w t a n)) ∙ h.deep ∙ ap (λ l. deepest 0 (parts l)) (sym (append_assoc s (c ∷ w) t));
       within = h.within;
       few = omega arith;
     }
@@ -252,16 +252,16 @@ blanks_end (c ∷ rest) b e h = by (which (is_blank c)) (which (is_name_byte c))
         ends_blank (b ∷ (c ∷ rest)) ≡ true
     by (inl f) g rec = rec f (sym (parts_blank c rest f) ∙ h)
     by (inr f) (inr g) rec = let z = sym (parts_sign c rest f g) ∙ h in absurd (cc)
-    by (inr f) (inl g) rec = none (begins_word rest) (parts rest) (sym (parts_byte c rest g) ∙ h)
+    by (inr f) (inl g) rec = none (begins_identifier rest) (parts rest) (sym (parts_byte c rest g) ∙ h)
       where
         none : (m : Bool) (ps : List Part) → grown c m ps ≡ [] → ends_blank (b ∷ (c ∷ rest)) ≡ true
         none false ps z = absurd (cc)
         none true [] z = absurd (cc)
-        none true (word w ∷ ps) z = absurd (cc)
+        none true (identifier w ∷ ps) z = absurd (cc)
         none true (sign m ∷ ps) z = absurd (cc)
 
 right_dead : (d : ℕ) (p : Part) → step true Right d p ≡ None
-right_dead d (word w) = refl
+right_dead d (identifier w) = refl
 right_dead d (sign Dot) = refl
 right_dead d (sign ParenOpen) = refl
 right_dead d (sign ParenClose) = refl
@@ -284,23 +284,23 @@ stuck_held s b t q d most h e r rest x = by (parts rest) refl
 
     by : (ps : List Part) → parts rest ≡ ps → ⊥
     by [] f = let y = (runs true (s ++ b ∷ rest) x).4 in let z = sym (ends_append s b rest ∙ blanks_end rest b e f) ∙ y in absurd (cc)
-    by (p ∷ ps) f = stuck_part true s (b ∷ rest) Right d p ps (apart_begins s (b ∷ rest) (blank_no_word b e)) at (parts_blank b rest e ∙ f) (right_dead d p) x
+    by (p ∷ ps) f = stuck_part true s (b ∷ rest) Right d p ps (apart_begins s (b ∷ rest) (blank_no_identifier b e)) at (parts_blank b rest e ∙ f) (right_dead d p) x
 
 pub stuck_sign : (alone : Bool) (s : List ℕ) (b : ℕ) (t : List ℕ) (q : Phase) (d most : ℕ) → Scan alone s (b ∷ t) q d most → is_blank b ≡ false → is_name_byte b ≡ false →
     step alone q d (sign (sign_of b)) ≡ None → Stuck alone s (b ∷ t)
 stuck_sign alone s b t q d most h nb nw e rest x = stuck_part alone s (b ∷ rest) q d (sign (sign_of b)) (parts rest) (apart_begins s (b ∷ rest) nw) h.runs (parts_sign b rest nb nw) e x
 
--- the first part of a text that begins with a word byte, or with two
-begins_with : (c : ℕ) (rest : List ℕ) → is_name_byte c ≡ true → (w : List ℕ) × (ps : List Part) × (parts (c ∷ rest) ≡ word (c ∷ w) ∷ ps)
-begins_with c rest e = by (begins_word rest) (parts rest) (parts_byte c rest e)
+-- the first part of a text that begins with an identifier byte, or with two
+begins_with : (c : ℕ) (rest : List ℕ) → is_name_byte c ≡ true → (w : List ℕ) × (ps : List Part) × (parts (c ∷ rest) ≡ identifier (c ∷ w) ∷ ps)
+begins_with c rest e = by (begins_identifier rest) (parts rest) (parts_byte c rest e)
   where
-    by : (m : Bool) (ps : List Part) → parts (c ∷ rest) ≡ grown c m ps → (w : List ℕ) × (qs : List Part) × (parts (c ∷ rest) ≡ word (c ∷ w) ∷ qs)
+    by : (m : Bool) (ps : List Part) → parts (c ∷ rest) ≡ grown c m ps → (w : List ℕ) × (qs : List Part) × (parts (c ∷ rest) ≡ identifier (c ∷ w) ∷ qs)
     by false ps f = ([], ps, f)
     by true [] f = ([], [], f)
-    by true (word w ∷ ps) f = (w, ps, f)
+    by true (identifier w ∷ ps) f = (w, ps, f)
     by true (sign m ∷ ps) f = ([], sign m ∷ ps, f)
 
-begins_two : (c b : ℕ) (rest : List ℕ) → is_name_byte c ≡ true → is_name_byte b ≡ true → (w : List ℕ) × (ps : List Part) × (parts (c ∷ (b ∷ rest)) ≡ word (c ∷ (b ∷ w)) ∷ ps)
+begins_two : (c b : ℕ) (rest : List ℕ) → is_name_byte c ≡ true → is_name_byte b ≡ true → (w : List ℕ) × (ps : List Part) × (parts (c ∷ (b ∷ rest)) ≡ identifier (c ∷ (b ∷ w)) ∷ ps)
 begins_two c b rest e f = let x = begins_with b rest f in (x.0, x.1, parts_byte c (b ∷ rest) e ∙ ap₂ (grown c) f x.2)
 
 no_start : (c : ℕ) (w : List ℕ) → list_all is_name_byte w ≡ true → is_name (c ∷ w) ≡ false → is_name_start c ≡ false
@@ -344,27 +344,27 @@ test_none w h = by (which (bytes_eq w amb)) (which (is_name w)) (which (is_digit
     by (inr e) (inr f) (inl g) = let z : in_test w ≡ Some Descriptor = rw (e, f, g) refl in absurd (cc)
     by (inr e) (inr f) (inr g) = (e, f, g)
 
-word_dead : (q : Phase) (c : ℕ) (w : List ℕ) → list_all is_name_byte w ≡ true → step_word q (c ∷ w) ≡ None → kept q c ≡ false → (v : List ℕ) → step_word q (c ∷ v) ≡ None
-word_dead Begin c w a h k v = let z = no_name c v (no_start c w a (name_none (c ∷ w) Label h)) in rw z refl
-word_dead Label c w a h k v = let z = no_name c v (no_start c w a (name_none (c ∷ w) Label h)) in rw z refl
-word_dead Whole c w a h k v = let z = no_name c v (no_start c w a (name_none (c ∷ w) Label h)) in rw z refl
-word_dead Repeated c w a h k v = let z = no_name c v (no_start c w a (name_none (c ∷ w) Label h)) in rw z refl
-word_dead Test c w a h k v = let z = test_none (c ∷ w) h in no_test c v (no_start c w a z.1) (no_digit c v k)
-word_dead Negated c w a h k v = let z = test_none (c ∷ w) h in no_test c v (no_start c w a z.1) (no_digit c v k)
-word_dead Ambient c w a h k v = refl
-word_dead Descriptor c w a h k v = refl
-word_dead Colon c w a h k v = let z = no_name c v (no_start c w a (name_none (c ∷ w) Right h)) in rw z refl
-word_dead Right c w a h k v = refl
+identifier_dead : (q : Phase) (c : ℕ) (w : List ℕ) → list_all is_name_byte w ≡ true → step_identifier q (c ∷ w) ≡ None → kept q c ≡ false → (v : List ℕ) → step_identifier q (c ∷ v) ≡ None
+identifier_dead Begin c w a h k v = let z = no_name c v (no_start c w a (name_none (c ∷ w) Label h)) in rw z refl
+identifier_dead Label c w a h k v = let z = no_name c v (no_start c w a (name_none (c ∷ w) Label h)) in rw z refl
+identifier_dead Whole c w a h k v = let z = no_name c v (no_start c w a (name_none (c ∷ w) Label h)) in rw z refl
+identifier_dead Repeated c w a h k v = let z = no_name c v (no_start c w a (name_none (c ∷ w) Label h)) in rw z refl
+identifier_dead Test c w a h k v = let z = test_none (c ∷ w) h in no_test c v (no_start c w a z.1) (no_digit c v k)
+identifier_dead Negated c w a h k v = let z = test_none (c ∷ w) h in no_test c v (no_start c w a z.1) (no_digit c v k)
+identifier_dead Ambient c w a h k v = refl
+identifier_dead Descriptor c w a h k v = refl
+identifier_dead Colon c w a h k v = let z = no_name c v (no_start c w a (name_none (c ∷ w) Right h)) in rw z refl
+identifier_dead Right c w a h k v = refl
 
-pub stuck_word : (alone : Bool) (s : List ℕ) (c : ℕ) (w t : List ℕ) (q : Phase) (d most : ℕ) → Scan alone s ((c ∷ w) ++ t) q d most → list_all is_name_byte (c ∷ w) ≡ true →
-    step_word q (c ∷ w) ≡ None → kept q c ≡ false → Stuck alone s ((c ∷ w) ++ t)
-stuck_word alone s c w t q d most h a e k rest x =
+pub stuck_identifier : (alone : Bool) (s : List ℕ) (c : ℕ) (w t : List ℕ) (q : Phase) (d most : ℕ) → Scan alone s ((c ∷ w) ++ t) q d most → list_all is_name_byte (c ∷ w) ≡ true →
+    step_identifier q (c ∷ w) ≡ None → kept q c ≡ false → Stuck alone s ((c ∷ w) ++ t)
+stuck_identifier alone s c w t q d most h a e k rest x =
     let first : is_name_byte c ≡ true = and_left (is_name_byte c) (list_all is_name_byte w) a in
     let free = apart_of s c (w ++ t) first h.apart in
     let b = begins_with c rest first in
-    let dead = word_dead q c w (and_right (is_name_byte c) (list_all is_name_byte w) a) e k b.0 in
-    let stops : step alone q d (word (c ∷ b.0)) ≡ None = ap (λ (o : Option Phase). option_map (λ (y : Phase). let z : At = (y, d) in z) o) dead in
-    stuck_part alone s (c ∷ rest) q d (word (c ∷ b.0)) b.1 (apart_before s (c ∷ rest) free) h.runs b.2 stops x
+    let dead = identifier_dead q c w (and_right (is_name_byte c) (list_all is_name_byte w) a) e k b.0 in
+    let stops : step alone q d (identifier (c ∷ b.0)) ≡ None = ap (λ (o : Option Phase). option_map (λ (y : Phase). let z : At = (y, d) in z) o) dead in
+    stuck_part alone s (c ∷ rest) q d (identifier (c ∷ b.0)) b.1 (apart_before s (c ∷ rest) free) h.runs b.2 stops x
 
 -- the digit goes on, and what stands right behind it doesn't
 digit_start : (c : ℕ) → is_digit (c ∷ []) ≡ true → is_name_start c ≡ false
@@ -383,49 +383,49 @@ digit_start c e = ⊎_elim (λ y. ⊎_elim (λ z. zero' (eqb-true c 48 z)) (λ z
 digit_goes : (c : ℕ) → is_digit (c ∷ []) ≡ true → in_test (c ∷ []) ≡ Some Descriptor
 digit_goes c e = let n = digit_start c e in rw (no_amb c [] n, no_name c [] n, e) refl
 
-test_word : (q : Phase) (w : List ℕ) → is_test_start q ≡ true → step_word q w ≡ in_test w
-test_word Begin w e = absurd (cc)
-test_word Label w e = absurd (cc)
-test_word Whole w e = absurd (cc)
-test_word Repeated w e = absurd (cc)
-test_word Test w e = refl
-test_word Negated w e = refl
-test_word Ambient w e = absurd (cc)
-test_word Descriptor w e = absurd (cc)
-test_word Colon w e = absurd (cc)
-test_word Right w e = absurd (cc)
+test_identifier : (q : Phase) (w : List ℕ) → is_test_start q ≡ true → step_identifier q w ≡ in_test w
+test_identifier Begin w e = absurd (cc)
+test_identifier Label w e = absurd (cc)
+test_identifier Whole w e = absurd (cc)
+test_identifier Repeated w e = absurd (cc)
+test_identifier Test w e = refl
+test_identifier Negated w e = refl
+test_identifier Ambient w e = absurd (cc)
+test_identifier Descriptor w e = absurd (cc)
+test_identifier Colon w e = absurd (cc)
+test_identifier Right w e = absurd (cc)
 
 -- the front with the digit, and that it is stuck
 pub record Later (alone : Bool) (s : List ℕ) (c : ℕ) (w t : List ℕ) : Type 0 where
   pub front : (rest : List ℕ) × In alone ((s ++ c ∷ []) ++ rest)
   pub stuck : Stuck alone (s ++ c ∷ []) (w ++ t)
 
-pub later_word : (alone : Bool) (s : List ℕ) (c : ℕ) (w t : List ℕ) (q : Phase) (d most : ℕ) → Scan alone s ((c ∷ w) ++ t) q d most → list_all is_name_byte (c ∷ w) ≡ true →
-    step_word q (c ∷ w) ≡ None → kept q c ≡ true → Later alone s c w t
-later_word alone s c [] t q d most h a e k =
+pub later_identifier : (alone : Bool) (s : List ℕ) (c : ℕ) (w t : List ℕ) (q : Phase) (d most : ℕ) → Scan alone s ((c ∷ w) ++ t) q d most → list_all is_name_byte (c ∷ w) ≡ true →
+    step_identifier q (c ∷ w) ≡ None → kept q c ≡ true → Later alone s c w t
+later_identifier alone s c [] t q d most h a e k =
     let f = and_left (is_test_start q) (is_digit (c ∷ [])) k in
     let g = and_right (is_test_start q) (is_digit (c ∷ [])) k in
-    let z = test_word q (c ∷ []) f ∙ digit_goes c g in
+    let z = test_identifier q (c ∷ []) f ∙ digit_goes c g in
     absurd (cc)
-later_word alone s c (b ∷ w) t q d most h a e k =
+later_identifier alone s c (b ∷ w) t q d most h a e k =
     let f = and_left (is_test_start q) (is_digit (c ∷ [])) k in
     let g = and_right (is_test_start q) (is_digit (c ∷ [])) k in
     let first : is_name_byte c ≡ true = and_left (is_name_byte c) (list_all is_name_byte (b ∷ w)) a in
     let second : is_name_byte b ≡ true = and_left (is_name_byte b) (list_all is_name_byte w) (and_right (is_name_byte c) (list_all is_name_byte (b ∷ w)) a) in
     let free = apart_of s c ((b ∷ w) ++ t) first h.apart in
     let only : list_all is_name_byte (c ∷ []) ≡ true = rw first refl in
-    let same : parts (s ++ c ∷ []) ≡ parts s ++ word (c ∷ []) ∷ [] = parts_cut s (c ∷ []) (apart_before s (c ∷ []) free) ∙ ap (λ ps. parts s ++ ps) (whole_word c [] only) in
-    let goes : step_word q (c ∷ []) ≡ Some Descriptor = test_word q (c ∷ []) f ∙ digit_goes c g in
-    let one : step alone q d (word (c ∷ [])) ≡ Some (Descriptor, d) = ap (λ (o : Option Phase). option_map (λ (y : Phase). let z : At = (y, d) in z) o) goes in
+    let same : parts (s ++ c ∷ []) ≡ parts s ++ identifier (c ∷ []) ∷ [] = parts_cut s (c ∷ []) (apart_before s (c ∷ []) free) ∙ ap (λ ps. parts s ++ ps) (whole_identifier c [] only) in
+    let goes : step_identifier q (c ∷ []) ≡ Some Descriptor = test_identifier q (c ∷ []) f ∙ digit_goes c g in
+    let one : step alone q d (identifier (c ∷ [])) ≡ Some (Descriptor, d) = ap (λ (o : Option Phase). option_map (λ (y : Phase). let z : At = (y, d) in z) o) goes in
     let runs' : run alone (start alone) 0 (parts (s ++ c ∷ [])) ≡ Some (Descriptor, d) = ap (run alone (start alone) 0) same
-    ∙ run_append alone (parts s) (word (c ∷ []) ∷ []) (start alone) q 0 d h.runs ∙ ap (λ (o : Option At). option_and_then (λ (y : At). run alone y.0 y.1 []) o) one in
+    ∙ run_append alone (parts s) (identifier (c ∷ []) ∷ []) (start alone) q 0 d h.runs ∙ ap (λ (o : Option At). option_and_then (λ (y : At). run alone y.0 y.1 []) o) one in
     record {
-      front = front_of alone (s ++ c ∷ []) Descriptor d (starts_append s (c ∷ []) h.front (λ z. word_no_blank c first)) runs' (λ x y. absurd (cc));
+      front = front_of alone (s ++ c ∷ []) Descriptor d (starts_append s (c ∷ []) h.front (λ z. identifier_no_blank c first)) runs' (λ x y. absurd (cc));
       stuck = λ rest x.
           let two = begins_two c b rest first second in
-          let dead : step_word q (c ∷ (b ∷ two.0)) ≡ None = test_word q (c ∷ (b ∷ two.0)) f ∙ no_test c (b ∷ two.0) (digit_start c g) refl in
-          let stops : step alone q d (word (c ∷ (b ∷ two.0))) ≡ None = ap (λ (o : Option Phase). option_map (λ (y : Phase). let z : At = (y, d) in z) o) dead in
-          stuck_part alone s (c ∷ (b ∷ rest)) q d (word (c ∷ (b ∷ two.0))) two.1 (apart_before s (c ∷ (b ∷ rest)) free) h.runs two.2 stops (subst (In alone) (one_more s c (b ∷ rest)) x);
+          let dead : step_identifier q (c ∷ (b ∷ two.0)) ≡ None = test_identifier q (c ∷ (b ∷ two.0)) f ∙ no_test c (b ∷ two.0) (digit_start c g) refl in
+          let stops : step alone q d (identifier (c ∷ (b ∷ two.0))) ≡ None = ap (λ (o : Option Phase). option_map (λ (y : Phase). let z : At = (y, d) in z) o) dead in
+          stuck_part alone s (c ∷ (b ∷ rest)) q d (identifier (c ∷ (b ∷ two.0))) two.1 (apart_before s (c ∷ (b ∷ rest)) free) h.runs two.2 stops (subst (In alone) (one_more s c (b ∷ rest)) x);
     }
 
 pub scan_ends : (alone : Bool) (s : List ℕ) (q : Phase) (d most : ℕ) → Scan alone s [] q d most → ends_here alone q d ≡ true → ends_blank s ≡ false → In alone s × (deepest 0 (parts s) ≡ most)

@@ -2,7 +2,7 @@
 use Rattle.std.proofs.Common.{◌≡◌, ◌≢◌, ℕ, List, [], ◌∷◌, false, Option, Some, None, map, drop, refl, sym, ap, ◌∙◌}
 use Rattle.cw_regex.specs.declared.text.Sign.{Sign}
 use Rattle.cw_regex.specs.declared.text.Sign.TheVariants.{Dot}
-use Rattle.cw_regex.specs.Parts.{Part, word, sign, parts}
+use Rattle.cw_regex.specs.Parts.{Part, identifier, sign, parts}
 use Rattle.cw_regex.specs.Grammar.{Name, TestForm, Expression, spelled, spelled_tests}
 use Rattle.cw_regex.specs.Tokens.{begins_bracket}
 use Rattle.cw_regex.specs.Meaning.{number_in, test_meaning, meaning}
@@ -31,23 +31,23 @@ no_item (many ∷ is) e = absurd (cc)
 no_item (some ∷ is) e = absurd (cc)
 no_item (optional ∷ is) e = absurd (cc)
 
--- a word and a dot are the labels of literals
-pub record WordItem (i : Item) (rest ps : List Part) (w : List ℕ) : Type 0 where
+-- an identifier and a dot are the labels of literals
+pub record IdentifierItem (i : Item) (rest ps : List Part) (w : List ℕ) : Type 0 where
   pub name : Name
   pub tests : List TestForm
   pub is : i ≡ lit (Some name) tests
   pub bytes : w ≡ name.bytes
   pub after : ps ≡ spelled_tests tests rest
 
-pub word_item : (i : Item) (rest ps : List Part) (w : List ℕ) → word w ∷ ps ≡ spelled_item i rest → WordItem i rest ps w
-word_item (lit None ts) rest ps w e = absurd (cc)
-word_item (lit (Some n) ts) rest ps w e = record { name = n; tests = ts; is = refl; bytes = cc; after = cc }
-word_item begin rest ps w e = absurd (cc)
-word_item close rest ps w e = absurd (cc)
-word_item bar rest ps w e = absurd (cc)
-word_item many rest ps w e = absurd (cc)
-word_item some rest ps w e = absurd (cc)
-word_item optional rest ps w e = absurd (cc)
+pub identifier_item : (i : Item) (rest ps : List Part) (w : List ℕ) → identifier w ∷ ps ≡ spelled_item i rest → IdentifierItem i rest ps w
+identifier_item (lit None ts) rest ps w e = absurd (cc)
+identifier_item (lit (Some n) ts) rest ps w e = record { name = n; tests = ts; is = refl; bytes = cc; after = cc }
+identifier_item begin rest ps w e = absurd (cc)
+identifier_item close rest ps w e = absurd (cc)
+identifier_item bar rest ps w e = absurd (cc)
+identifier_item many rest ps w e = absurd (cc)
+identifier_item some rest ps w e = absurd (cc)
+identifier_item optional rest ps w e = absurd (cc)
 
 pub record DotItem (i : Item) (rest ps : List Part) : Type 0 where
   pub tests : List TestForm
@@ -72,16 +72,16 @@ module _ (format : ℕ) (labels descriptors : List (List ℕ)) where
   abbrev Rests : List Part → List Part → Type 0
   Rests ps qs = (ts : List TestForm) (rest : List Part) → ps ≡ spelled_tests ts rest → begins_bracket rest ≡ false → qs ≡ rest
 
-  pub word_read : (s t : Levels) (n : ℕ) (w : List ℕ) (ps : List Part) → n ≡ number_in labels w → Reads ps s t (Some n) → (i : Item) (rest : List Item) →
-      word w ∷ ps ≡ spelled_item i (spelled_items rest) → t ≡ put format labels descriptors s i
-  word_read s t n w ps number reads i rest h =
-      let x = word_item i (spelled_items rest) ps w h in
+  pub identifier_read : (s t : Levels) (n : ℕ) (w : List ℕ) (ps : List Part) → n ≡ number_in labels w → Reads ps s t (Some n) → (i : Item) (rest : List Item) →
+      identifier w ∷ ps ≡ spelled_item i (spelled_items rest) → t ≡ put format labels descriptors s i
+  identifier_read s t n w ps number reads i rest h =
+      let x = identifier_item i (spelled_items rest) ps w h in
       let k : n ≡ number_in labels x.name.bytes = number ∙ ap (number_in labels) x.bytes in
       let z : t ≡ with_literal s (record { label = Some n; tests = map (test_meaning format descriptors) x.tests }) = reads x.tests (spelled_items rest) x.after (no_bracket rest) in
       z ∙ ap (λ m. with_literal s (record { label = Some m; tests = map (test_meaning format descriptors) x.tests })) k ∙ sym (ap (put format labels descriptors s) x.is)
 
-  pub word_rest : (w : List ℕ) (ps qs : List Part) → Rests ps qs → (i : Item) (rest : List Item) → word w ∷ ps ≡ spelled_item i (spelled_items rest) → qs ≡ spelled_items rest
-  word_rest w ps qs rests i rest h = let x = word_item i (spelled_items rest) ps w h in rests x.tests (spelled_items rest) x.after (no_bracket rest)
+  pub identifier_rest : (w : List ℕ) (ps qs : List Part) → Rests ps qs → (i : Item) (rest : List Item) → identifier w ∷ ps ≡ spelled_item i (spelled_items rest) → qs ≡ spelled_items rest
+  identifier_rest w ps qs rests i rest h = let x = identifier_item i (spelled_items rest) ps w h in rests x.tests (spelled_items rest) x.after (no_bracket rest)
 
   pub dot_read : (s t : Levels) (m : Sign) (ps : List Part) → m ≡ Dot → Reads ps s t None → (i : Item) (rest : List Item) → sign m ∷ ps ≡ spelled_item i (spelled_items rest) →
       t ≡ put format labels descriptors s i

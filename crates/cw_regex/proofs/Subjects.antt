@@ -4,20 +4,20 @@ use Rattle.cw_rights.specs.declared.capabilities.Rights.{Rights}
 use Rattle.cw_rights.specs.declared.words.Test.{Test}
 use Rattle.cw_rights.specs.declared.words.Test.TheVariants.{Holds}
 use Rattle.cw_regex.specs.declared.text.Sign.TheVariants.{Colon}
-use Rattle.cw_regex.specs.Parts.{Part, word, sign, parts}
+use Rattle.cw_regex.specs.Parts.{Part, identifier, sign, parts}
 use Rattle.cw_regex.specs.Grammar.{Name, Subject, ambient, holds, spelled_subject, TestForm, spelled_test, spelled_more}
 use Rattle.cw_regex.specs.Meaning.{number_in, need_of, subject_meaning, test_meaning}
 use Rattle.cw_regex.specs.Tokens.{begins_colon, Settled}
 
-pub subject_read : (format : ℕ) (names : List (List ℕ)) (s : Subject) (rest ps : List Part) (w : List ℕ) (n : ℕ) (need : Rights) → word w ∷ ps ≡ spelled_subject s rest → Settled s rest →
-    begins_colon ps ≡ true → n ≡ number_in names w → ((r : Name) (more : List Part) → ps ≡ sign Colon ∷ word r.bytes ∷ more → need ≡ need_of format r.bytes) →
+pub subject_read : (format : ℕ) (names : List (List ℕ)) (s : Subject) (rest ps : List Part) (w : List ℕ) (n : ℕ) (need : Rights) → identifier w ∷ ps ≡ spelled_subject s rest → Settled s rest →
+    begins_colon ps ≡ true → n ≡ number_in names w → ((r : Name) (more : List Part) → ps ≡ sign Colon ∷ identifier r.bytes ∷ more → need ≡ need_of format r.bytes) →
     Holds n need ≡ subject_meaning format names s
 subject_read format names ambient rest ps w n need h t b e f =
     let same : ps ≡ rest = cc in
     let z : begins_colon ps ≡ false = ap begins_colon same ∙ t in
     absurd (cc)
 subject_read format names (holds d r) rest ps w n need h t b e f =
-    let same : ps ≡ sign Colon ∷ word r.bytes ∷ rest = cc in
+    let same : ps ≡ sign Colon ∷ identifier r.bytes ∷ rest = cc in
     let name : w ≡ d.bytes = cc in
     ap₂ Holds (e ∙ ap (number_in names) name) (f r rest same)
 

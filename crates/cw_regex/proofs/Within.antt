@@ -17,7 +17,7 @@ use Rattle.cw_regex.specs.declared.text.Sign.TheVariants.{ParenClose, Bar, Star,
 use Rattle.cw_regex.specs.declared.unknown.Unknown.{Unknown}
 use Rattle.cw_regex.specs.declared.unknown.Unknown.TheVariants.{Descriptor, Right}
 use Rattle.cw_rights.specs.Valid.{is_name_byte}
-use Rattle.cw_regex.specs.Parts.{Part, word, sign, is_blank, sign_of, begins_word, grown, parts, Placed, grown_at, placed}
+use Rattle.cw_regex.specs.Parts.{Part, identifier, sign, is_blank, sign_of, begins_identifier, grown, parts, Placed, grown_at, placed}
 use Rattle.cw_regex.specs.Grammar.{Name, Subject, ambient, holds, TestForm, Expression, only, either, Term, single, then, Factor, plain, star, plus, maybe, Atom, literal, group}
 use Rattle.cw_regex.specs.Grammar.{spelled_subject, spelled_if, spelled_test, spelled_more, spelled_tests, spelled_label, spelled, spelled_term, spelled_factor, spelled_atom, Spells}
 use Rattle.cw_regex.specs.Grammar.{SpellsTest, IsExpression, IsTest}
@@ -26,7 +26,7 @@ use Rattle.cw_regex.specs.Meaning.{meaning, named_label, labels_of, labels_of_te
 use Rattle.cw_rights.specs.declared.policy.Descriptor.{Descriptor as AnyDescriptor}
 use Rattle.cw_regex.specs.Labels.{names_in}
 use Rattle.cw_regex.specs.Tokens.{Settled}
-use Rattle.cw_regex.specs.Faults.{is_known, is_colon_part, colon_next, unknown_word, unknown_part, or_else, first_unknown}
+use Rattle.cw_regex.specs.Faults.{is_known, is_colon_part, colon_next, unknown_identifier, unknown_part, or_else, first_unknown}
 use Rattle.std.proofs.lemmas.Bool.{or_left as any_left, or_right as any_right}
 use Rattle.cw_lemmas.proofs.Numbers.{below_or_zero as some_below}
 
@@ -102,7 +102,7 @@ next_colon [] = false
 next_colon (p ∷ rest) = is_colon_part p
 
 part_grown : (n b k : ℕ) (q : Part) (rest : List Placed) → map (λ p. p.part) (grown_at n b true (record { at = k; part = q } ∷ rest)) ≡ grown b true (q ∷ map (λ p. p.part) rest)
-part_grown n b k (word w) rest = refl
+part_grown n b k (identifier w) rest = refl
 part_grown n b k (sign m) rest = refl
 
 all_grown : (n b : ℕ) (more : Bool) (ps : List Placed) → map (λ p. p.part) (grown_at n b more ps) ≡ grown b more (map (λ p. p.part) ps)
@@ -116,10 +116,10 @@ parts_placed [] n = refl
 parts_placed (b ∷ rest) n = by (parts_placed rest (n + 1)) (is_blank b) (is_name_byte b)
   where
     by : map (λ p. p.part) (placed (n + 1) rest) ≡ parts rest → (s w : Bool) →
-        map (λ p. p.part) (cond s (placed (n + 1) rest) (cond w (grown_at n b (begins_word rest) (placed (n + 1) rest)) (record { at = n; part = sign (sign_of b) } ∷ placed (n + 1) rest))) ≡
-        cond s (parts rest) (cond w (grown b (begins_word rest) (parts rest)) (sign (sign_of b) ∷ parts rest))
+        map (λ p. p.part) (cond s (placed (n + 1) rest) (cond w (grown_at n b (begins_identifier rest) (placed (n + 1) rest)) (record { at = n; part = sign (sign_of b) } ∷ placed (n + 1) rest))) ≡
+        cond s (parts rest) (cond w (grown b (begins_identifier rest) (parts rest)) (sign (sign_of b) ∷ parts rest))
     by tail true w = tail
-    by tail false true = all_grown n b (begins_word rest) (placed (n + 1) rest) ∙ ap (grown b (begins_word rest)) tail
+    by tail false true = all_grown n b (begins_identifier rest) (placed (n + 1) rest) ∙ ap (grown b (begins_identifier rest)) tail
     by tail false false = ap (λ ps. sign (sign_of b) ∷ ps) tail
 
 module _ (format : ℕ) (names : List (List ℕ)) where
@@ -128,20 +128,20 @@ module _ (format : ℕ) (names : List (List ℕ)) where
   Known after [] = Unit {0}
   Known after (p ∷ rest) = (unknown_part format names after (next_colon rest) 0 p ≡ None) × Known (is_colon_part p) rest
 
-  any_word : (after before : Bool) (n : ℕ) (w : List ℕ) → unknown_word format names after before n w ≡ None → unknown_word format names after before 0 w ≡ None
-  any_word true before n w e = by (is_right format w) e
+  any_identifier : (after before : Bool) (n : ℕ) (w : List ℕ) → unknown_identifier format names after before n w ≡ None → unknown_identifier format names after before 0 w ≡ None
+  any_identifier true before n w e = by (is_right format w) e
     where
       by : (b : Bool) → cond b None (Some (Right n)) ≡ None → cond b None (Some (Right 0)) ≡ None
       by true e = refl
       by false e = absurd (cc)
-  any_word false before n w e = by (before && not (is_known names w)) e
+  any_identifier false before n w e = by (before && not (is_known names w)) e
     where
       by : (b : Bool) → cond b (Some (Descriptor n)) None ≡ None → cond b (Some (Descriptor 0)) None ≡ None
       by false e = refl
       by true e = absurd (cc)
 
   any_place : (after before : Bool) (n : ℕ) (p : Part) → unknown_part format names after before n p ≡ None → unknown_part format names after before 0 p ≡ None
-  any_place after before n (word w) e = any_word after before n w e
+  any_place after before n (identifier w) e = any_identifier after before n w e
   any_place after before n (sign m) e = refl
 
   both_none : (o p : Option Unknown) → or_else o p ≡ None → (o ≡ None) × (p ≡ None)
@@ -161,7 +161,7 @@ module _ (format : ℕ) (names : List (List ℕ)) where
   pub known_parts : (text : List ℕ) → first_unknown format names false (placed 0 text) ≡ None → Known false (parts text)
   known_parts text e = subst (Known false) (parts_placed text 0) (known_of (placed 0 text) false e)
 
-  is_there : (w : List ℕ) → unknown_word format names false true 0 w ≡ None → list_any (bytes_eq w) names ≡ true
+  is_there : (w : List ℕ) → unknown_identifier format names false true 0 w ≡ None → list_any (bytes_eq w) names ≡ true
   is_there w e = by (list_any (bytes_eq w) names) e
     where
       by : (b : Bool) → cond (true && not b) (Some (Descriptor 0)) None ≡ None → b ≡ true

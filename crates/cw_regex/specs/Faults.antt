@@ -1,4 +1,4 @@
--- The first name from the left that isn't known: a word before `:` names a descriptor, one after it a right.
+-- The first name from the left that isn't known: an identifier before `:` names a descriptor, one after it a right.
 use Rattle.std.specs.Prelude.{ℕ, List, [], ◌∷◌, Bool, true, false, ◌&&◌, cond, not, Option, Some, None}
 use Rattle.std.specs.List.{list_any}
 use Rattle.std.specs.Str.{bytes_eq}
@@ -6,7 +6,7 @@ use Rattle.cw_regex.specs.declared.text.Sign.{Sign}
 use Rattle.cw_regex.specs.declared.text.Sign.TheVariants.{Colon}
 use Rattle.cw_regex.specs.declared.unknown.Unknown.{Unknown}
 use Rattle.cw_regex.specs.declared.unknown.Unknown.TheVariants.{Descriptor, Right}
-use Rattle.cw_regex.specs.Parts.{Part, word, sign, Placed}
+use Rattle.cw_regex.specs.Parts.{Part, identifier, sign, Placed}
 use Rattle.cw_regex.specs.Meaning.{is_right}
 
 abbrev pub is_known : List (List ℕ) → List ℕ → Bool
@@ -17,7 +17,7 @@ is_colon Colon = true
 is_colon m = false
 
 abbrev pub is_colon_part : Part → Bool
-is_colon_part (word w) = false
+is_colon_part (identifier w) = false
 is_colon_part (sign m) = is_colon m
 
 abbrev pub colon_next : List Placed → Bool
@@ -25,12 +25,12 @@ colon_next [] = false
 colon_next (p ∷ rest) = is_colon_part p.part
 
 -- `after`: the part before was `:`
-abbrev pub unknown_word : ℕ → List (List ℕ) → Bool → Bool → ℕ → List ℕ → Option Unknown
-unknown_word format descriptors true before n w = cond (is_right format w) None (Some (Right n))
-unknown_word format descriptors false before n w = cond (before && not (is_known descriptors w)) (Some (Descriptor n)) None
+abbrev pub unknown_identifier : ℕ → List (List ℕ) → Bool → Bool → ℕ → List ℕ → Option Unknown
+unknown_identifier format descriptors true before n w = cond (is_right format w) None (Some (Right n))
+unknown_identifier format descriptors false before n w = cond (before && not (is_known descriptors w)) (Some (Descriptor n)) None
 
 abbrev pub unknown_part : ℕ → List (List ℕ) → Bool → Bool → ℕ → Part → Option Unknown
-unknown_part format descriptors after before n (word w) = unknown_word format descriptors after before n w
+unknown_part format descriptors after before n (identifier w) = unknown_identifier format descriptors after before n w
 unknown_part format descriptors after before n (sign m) = None
 
 abbrev pub or_else : Option Unknown → Option Unknown → Option Unknown

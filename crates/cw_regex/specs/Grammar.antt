@@ -10,7 +10,7 @@
 use Rattle.std.specs.Prelude.{◌≡◌, ℕ, ◌+◌, ◌≤◌, ◌<◌, max, List, [], ◌∷◌, ◌++◌, Bool, true, false, ◌||◌, Option, Some, None, nat_eq, take, length, IsTrue}
 use Rattle.cw_rights.specs.Valid.{is_name}
 use Rattle.cw_regex.specs.declared.text.Sign.TheVariants.{Dot, ParenOpen, ParenClose, Bar, Star, Plus, Question, BracketOpen, BracketClose, Bang, Colon, Comma}
-use Rattle.cw_regex.specs.Parts.{Part, word, sign, parts, starts_blank, ends_blank}
+use Rattle.cw_regex.specs.Parts.{Part, identifier, sign, parts, starts_blank, ends_blank}
 
 -- the name of a descriptor that is open at the start
 abbrev pub is_digit : List ℕ → Bool
@@ -70,8 +70,8 @@ amb = 97 ∷ 109 ∷ 98 ∷ []
 
 -- the parts of each, and then the rest
 abbrev pub spelled_subject : Subject → List Part → List Part
-spelled_subject ambient rest = word amb ∷ rest
-spelled_subject (holds d r) rest = word d.bytes ∷ sign Colon ∷ word r.bytes ∷ rest
+spelled_subject ambient rest = identifier amb ∷ rest
+spelled_subject (holds d r) rest = identifier d.bytes ∷ sign Colon ∷ identifier r.bytes ∷ rest
 
 abbrev pub spelled_if : Bool → Subject → List Part → List Part
 spelled_if true what rest = sign Bang ∷ spelled_subject what rest
@@ -90,7 +90,7 @@ spelled_tests (t ∷ ts) rest = sign BracketOpen ∷ spelled_test t (spelled_mor
 
 abbrev pub spelled_label : Option Name → List Part → List Part
 spelled_label None rest = sign Dot ∷ rest
-spelled_label (Some name) rest = word name.bytes ∷ rest
+spelled_label (Some name) rest = identifier name.bytes ∷ rest
 
 abbrev mutual
   pub spelled : Expression → List Part → List Part

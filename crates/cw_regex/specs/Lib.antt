@@ -8,6 +8,6 @@ pub mod Labels
 pub mod Machine
 pub mod Meaning
 pub mod Parts
-pub mod Pieces
+pub mod Fronts
 pub mod Scans
 pub mod Tokens

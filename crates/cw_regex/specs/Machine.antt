@@ -7,23 +7,23 @@ use Rattle.cw_regex.specs.declared.text.Sign.{Sign}
 use Rattle.cw_regex.specs.declared.text.Sign.TheVariants.{Dot, ParenOpen, ParenClose, Bar, Star, Plus, Question, BracketOpen, BracketClose, Bang, Colon as ColonSign, Comma}
 use Rattle.cw_regex.specs.declared.phase.Phase.{Phase}
 use Rattle.cw_regex.specs.declared.phase.Phase.TheVariants.{Begin, Label, Whole, Repeated, Test, Negated, Ambient, Descriptor, Colon, Right}
-use Rattle.cw_regex.specs.Parts.{Part, word, sign}
+use Rattle.cw_regex.specs.Parts.{Part, identifier, sign}
 use Rattle.cw_regex.specs.Grammar.{is_digit, is_descriptor, amb, IsExpression, IsTest}
 
 abbrev pub in_test : List ℕ → Option Phase
 in_test w = cond (bytes_eq w amb) (Some Ambient) (cond (is_descriptor w) (Some Descriptor) None)
 
-abbrev pub step_word : Phase → List ℕ → Option Phase
-step_word Begin w = cond (is_name w) (Some Label) None
-step_word Label w = cond (is_name w) (Some Label) None
-step_word Whole w = cond (is_name w) (Some Label) None
-step_word Repeated w = cond (is_name w) (Some Label) None
-step_word Test w = in_test w
-step_word Negated w = in_test w
-step_word Colon w = cond (is_name w) (Some Right) None
-step_word Ambient w = None
-step_word Descriptor w = None
-step_word Right w = None
+abbrev pub step_identifier : Phase → List ℕ → Option Phase
+step_identifier Begin w = cond (is_name w) (Some Label) None
+step_identifier Label w = cond (is_name w) (Some Label) None
+step_identifier Whole w = cond (is_name w) (Some Label) None
+step_identifier Repeated w = cond (is_name w) (Some Label) None
+step_identifier Test w = in_test w
+step_identifier Negated w = in_test w
+step_identifier Colon w = cond (is_name w) (Some Right) None
+step_identifier Ambient w = None
+step_identifier Descriptor w = None
+step_identifier Right w = None
 
 -- a sign that isn't a parenthesis; `alone`: a test by itself, which no `,` or `]` follows
 abbrev pub step_sign : Bool → Phase → Sign → Option Phase
@@ -75,7 +75,7 @@ closed_one zero = None
 closed_one (suc d) = Some (Whole, d)
 
 abbrev pub step : Bool → Phase → ℕ → Part → Option (Phase × ℕ)
-step alone q d (word w) = option_map (λ r. (r, d)) (step_word q w)
+step alone q d (identifier w) = option_map (λ r. (r, d)) (step_identifier q w)
 step alone q d (sign ParenOpen) = cond (takes_atom q) (Some (Begin, d + 1)) None
 step alone q d (sign ParenClose) = cond (is_end q) (closed_one d) None
 step alone q d (sign m) = option_map (λ r. (r, d)) (step_sign alone q m)
@@ -87,7 +87,7 @@ run alone q d (p ∷ rest) = option_and_then (λ s. run alone s.0 s.1 rest) (ste
 -- how many parentheses are open at most
 abbrev pub deepest : ℕ → List Part → ℕ
 deepest d [] = d
-deepest d (word w ∷ rest) = deepest d rest
+deepest d (identifier w ∷ rest) = deepest d rest
 deepest d (sign ParenOpen ∷ rest) = max d (deepest (d + 1) rest)
 deepest d (sign ParenClose ∷ rest) = max d (deepest (d - 1) rest)
 deepest d (sign m ∷ rest) = deepest d rest

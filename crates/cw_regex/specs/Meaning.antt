@@ -10,10 +10,10 @@ use Rattle.cw_rights.specs.declared.capabilities.Rights.{Rights}
 use Rattle.cw_rights.specs.Names.{right_mask}
 use Rattle.cw_rights.specs.Trees.{Literal, Tree, nothing, never, one, seq, alt, star as star_of, plus as plus_of, maybe as maybe_of}
 use Rattle.cw_regex.specs.declared.text.Sign.TheVariants.{BracketOpen, BracketClose}
-use Rattle.cw_regex.specs.Parts.{Part, word, sign}
+use Rattle.cw_regex.specs.Parts.{Part, identifier, sign}
 use Rattle.cw_regex.specs.Grammar.{Name, Subject, ambient, holds, TestForm, Expression, only, either, Term, single, then, Factor, plain, star, plus, maybe, Atom, literal, group}
 
--- the word is the name of a right in this format
+-- the identifier is the name of a right in this format
 abbrev pub is_right : ℕ → List ℕ → Bool
 is_right format w = is_some (right_mask format w)
 
@@ -115,11 +115,11 @@ with_name names w = cond (list_any (bytes_eq w) names) names (names ++ w ∷ [])
 abbrev pub with_names : List (List ℕ) → List (List ℕ) → List (List ℕ)
 with_names names ws = fold with_name names ws
 
--- the words outside brackets
+-- the identifiers outside brackets
 abbrev pub labels_in : Bool → List Part → List (List ℕ)
 labels_in inside [] = []
-labels_in false (word w ∷ rest) = w ∷ labels_in false rest
-labels_in true (word w ∷ rest) = labels_in true rest
+labels_in false (identifier w ∷ rest) = w ∷ labels_in false rest
+labels_in true (identifier w ∷ rest) = labels_in true rest
 labels_in inside (sign BracketOpen ∷ rest) = labels_in true rest
 labels_in inside (sign BracketClose ∷ rest) = labels_in false rest
 labels_in inside (sign m ∷ rest) = labels_in inside rest

@@ -6,7 +6,7 @@ use Rattle.cw_regex.specs.declared.text.Sign.TheVariants.{Dot, ParenOpen, ParenC
 
 -- A part of a text: a longest run of letters, digits and `_`, or one other byte that is no blank.
 pub data Part : Type 0 where
-  word : List ℕ → Part
+  identifier : List ℕ → Part
   sign : Sign → Part
 
 -- a space or a TAB
@@ -19,20 +19,20 @@ sign_of b =
     cond (nat_eq b 42) Star (cond (nat_eq b 43) Plus (cond (nat_eq b 63) Question (cond (nat_eq b 91) BracketOpen (
     cond (nat_eq b 93) BracketClose (cond (nat_eq b 33) Bang (cond (nat_eq b 58) Colon (cond (nat_eq b 44) Comma Other)))))))))))
 
-abbrev pub begins_word : List ℕ → Bool
-begins_word [] = false
-begins_word (b ∷ rest) = is_name_byte b
+abbrev pub begins_identifier : List ℕ → Bool
+begins_identifier [] = false
+begins_identifier (b ∷ rest) = is_name_byte b
 
--- a byte of a word before the parts after it; `more`: the word goes on
+-- a byte of an identifier before the parts after it; `more`: the identifier goes on
 abbrev pub grown : ℕ → Bool → List Part → List Part
-grown b true (word w ∷ rest) = word (b ∷ w) ∷ rest
-grown b true (sign m ∷ rest) = word (b ∷ []) ∷ sign m ∷ rest
-grown b true [] = word (b ∷ []) ∷ []
-grown b false rest = word (b ∷ []) ∷ rest
+grown b true (identifier w ∷ rest) = identifier (b ∷ w) ∷ rest
+grown b true (sign m ∷ rest) = identifier (b ∷ []) ∷ sign m ∷ rest
+grown b true [] = identifier (b ∷ []) ∷ []
+grown b false rest = identifier (b ∷ []) ∷ rest
 
 abbrev pub parts : List ℕ → List Part
 parts [] = []
-parts (b ∷ rest) = cond (is_blank b) (parts rest) (cond (is_name_byte b) (grown b (begins_word rest) (parts rest)) (sign (sign_of b) ∷ parts rest))
+parts (b ∷ rest) = cond (is_blank b) (parts rest) (cond (is_name_byte b) (grown b (begins_identifier rest) (parts rest)) (sign (sign_of b) ∷ parts rest))
 
 -- the parts with their places, the text beginning at n
 pub record Placed : Type 0 where
@@ -40,17 +40,17 @@ pub record Placed : Type 0 where
   pub part : Part
 
 abbrev pub grown_at : ℕ → ℕ → Bool → List Placed → List Placed
-grown_at n b false rest = record { at = n; part = word (b ∷ []) } ∷ rest
-grown_at n b true [] = record { at = n; part = word (b ∷ []) } ∷ []
+grown_at n b false rest = record { at = n; part = identifier (b ∷ []) } ∷ rest
+grown_at n b true [] = record { at = n; part = identifier (b ∷ []) } ∷ []
 grown_at n b true (p ∷ rest) = joined p.part
   where
     joined : Part → List Placed
-    joined (word w) = record { at = n; part = word (b ∷ w) } ∷ rest
-    joined (sign m) = record { at = n; part = word (b ∷ []) } ∷ p ∷ rest
+    joined (identifier w) = record { at = n; part = identifier (b ∷ w) } ∷ rest
+    joined (sign m) = record { at = n; part = identifier (b ∷ []) } ∷ p ∷ rest
 
 abbrev pub placed : ℕ → List ℕ → List Placed
 placed n [] = []
-placed n (b ∷ rest) = cond (is_blank b) (placed (n + 1) rest) (cond (is_name_byte b) (grown_at n b (begins_word rest) (placed (n + 1) rest))
+placed n (b ∷ rest) = cond (is_blank b) (placed (n + 1) rest) (cond (is_name_byte b) (grown_at n b (begins_identifier rest) (placed (n + 1) rest))
     (record { at = n; part = sign (sign_of b) } ∷ placed (n + 1) rest))
 
 -- blanks stand between parts, neither before the first nor after the last

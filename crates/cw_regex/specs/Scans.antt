@@ -4,18 +4,18 @@ use Rattle.cw_regex.specs.declared.phase.Phase.{Phase}
 use Rattle.cw_regex.specs.declared.phase.Phase.TheVariants.{Right}
 use Rattle.cw_regex.specs.declared.scan.Scanned.{Scanned}
 use Rattle.cw_rights.specs.Valid.{is_name_byte}
-use Rattle.cw_regex.specs.Parts.{begins_word, parts, starts_blank, ends_blank}
+use Rattle.cw_regex.specs.Parts.{begins_identifier, parts, starts_blank, ends_blank}
 use Rattle.cw_regex.specs.Machine.{run, start, deepest}
 
--- whether the last byte is one of a word
-abbrev pub ends_word : List ℕ → Bool
-ends_word [] = false
-ends_word (b ∷ []) = is_name_byte b
-ends_word (b ∷ (c ∷ s)) = ends_word (c ∷ s)
+-- whether the last byte is one of an identifier
+abbrev pub ends_identifier : List ℕ → Bool
+ends_identifier [] = false
+ends_identifier (b ∷ []) = is_name_byte b
+ends_identifier (b ∷ (c ∷ s)) = ends_identifier (c ∷ s)
 
--- no word goes on from the one side into the other
+-- no identifier goes on from the one side into the other
 abbrev pub Apart : List ℕ → List ℕ → Type 0
-Apart s t = (ends_word s && begins_word t) ≡ false
+Apart s t = (ends_identifier s && begins_identifier t) ≡ false
 
 -- a test by itself may not go on after its right, not even by blanks
 abbrev pub May : Bool → Phase → List ℕ → Type 0

@@ -1,10 +1,10 @@
 -- Working definitions: the next part from a place of a text on.
 use Rattle.std.specs.Prelude.{◌≡◌, ℕ, Bool, true, false, ◌-◌, ◌<◌, ◌≤◌, List, [], ◌∷◌, take, drop, length}
 use Rattle.cw_regex.specs.declared.text.Token.{Token}
-use Rattle.cw_regex.specs.declared.text.Token.TheVariants.{End, Word, Sign as SignToken}
+use Rattle.cw_regex.specs.declared.text.Token.TheVariants.{End, Identifier, Sign as SignToken}
 use Rattle.cw_regex.specs.declared.text.Sign.TheVariants.{BracketOpen, Colon}
 use Rattle.cw_regex.specs.Grammar.{Subject, ambient, holds}
-use Rattle.cw_regex.specs.Parts.{Part, word, sign, parts, placed}
+use Rattle.cw_regex.specs.Parts.{Part, identifier, sign, parts, placed}
 
 abbrev pub begins_colon : List Part → Bool
 begins_colon (sign Colon ∷ rest) = true
@@ -33,5 +33,5 @@ pub record IsEnd (text : List ℕ) (at : ℕ) : Type 0 where
 
 abbrev pub IsToken : List ℕ → ℕ → Token → Type 0
 IsToken text at End = IsEnd text at
-IsToken text at (Word from to) = Comes text at from to (word (take (to - from) (drop from text)))
+IsToken text at (Identifier from to) = Comes text at from to (identifier (take (to - from) (drop from text)))
 IsToken text at (SignToken m to) = (from : ℕ) × Comes text at from to (sign m)

@@ -18,11 +18,11 @@ use indexmap::IndexSet;
 use std::alloc::{AllocError, Global};
 
 /// The number of a label, 0 where it has none.
-fn label_number(labels: &IndexSet<Vec<u8>>, word: &[u8]) -> u16
+fn label_number(labels: &IndexSet<Vec<u8>>, identifier: &[u8]) -> u16
     requires { index_set_len labels.now ≤ 65535 }
-    ensures { result ≡ number_in (names_in labels.now.keys) word.now }
+    ensures { result ≡ number_in (names_in labels.now.keys) identifier.now }
 {
-    match labels.get_index_of(word) {
+    match labels.get_index_of(identifier) {
         None => 0,
         Some(number) => number as u16,
     }
@@ -110,7 +110,7 @@ fn step(
 {
     match token_at(text, at) {
         Token::End => Ok((building, at)),
-        Token::Word { from, to } => {
+        Token::Identifier { from, to } => {
             let number = label_number(labels, &text[from..to]);
             let (next, end) = put_label(
                 alloc,

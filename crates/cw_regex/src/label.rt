@@ -25,14 +25,14 @@ fn add_label(alloc: Global, labels: &mut IndexSet<Vec<u8>>, name: &[u8]) -> Resu
     Ok(())
 }
 
-/// How far the words outside brackets were added: the place, and whether it is inside brackets.
+/// How far the identifiers outside brackets were added: the place, and whether it is inside brackets.
 #[derive(Clone, Copy, Drop)]
 struct Labelled {
     at: usize,
     inside: bool,
 }
 
-/// Goes over one part of the text, and numbers it where it is a label: a word outside brackets. None at the end.
+/// Goes over one part of the text, and numbers it where it is a label: an identifier outside brackets. None at the end.
 fn label_token(
     alloc: Global,
     text: &[u8],
@@ -54,7 +54,7 @@ fn label_token(
 {
     match token_at(text, so_far.at) {
         Token::End => Ok(None),
-        Token::Word { from, to } => {
+        Token::Identifier { from, to } => {
             if !so_far.inside {
                 add_label(alloc, labels, &text[from..to])?;
             }
@@ -71,7 +71,7 @@ fn label_token(
     }
 }
 
-/// Adds the labels of a text, its words outside brackets, where they are new, from left to right.
+/// Adds the labels of a text, its identifiers outside brackets, where they are new, from left to right.
 pub fn add_labels(
     alloc: Global,
     text: &[u8],

@@ -7,7 +7,7 @@ ghost use Rattle.std.specs.Str.{bytes_eq};
 ghost use Rattle.cw_regex.specs.Parts.{sign as part};
 ghost use Rattle.cw_regex.specs.Grammar.{is_digit, is_descriptor, amb};
 ghost use Rattle.cw_regex.specs.Scans.{is_held};
-ghost use Rattle.cw_regex.specs.Machine.{kept, step, in_test, step_word, step_sign, takes_atom, is_end, is_test_end, start, ends_here};
+ghost use Rattle.cw_regex.specs.Machine.{kept, step, in_test, step_identifier, step_sign, takes_atom, is_end, is_test_end, start, ends_here};
 
 use crate::text::Sign;
 use cw_rights::is_name;
@@ -37,44 +37,51 @@ pub enum Phase {
     Right,
 }
 
-/// Whether a word is the number of a descriptor that is open at the start.
-fn is_digit(word: &[u8]) -> bool
-    ensures { result ≡ is_digit word.now }
+/// Whether an identifier is the number of a descriptor that is open at the start.
+fn is_digit(identifier: &[u8]) -> bool
+    ensures { result ≡ is_digit identifier.now }
 {
-    match word {
+    match identifier {
         [byte] => *byte == b'0' || *byte == b'1' || *byte == b'2',
         _ => false,
     }
 }
 
-/// What comes after this word at the start of a test: `amb` or a descriptor.
-fn in_test(word: &[u8]) -> Option<Phase>
-    ensures { result ≡ in_test word.now }
+/// What comes after this identifier at the start of a test: `amb` or a descriptor.
+fn in_test(identifier: &[u8]) -> Option<Phase>
+    ensures { result ≡ in_test identifier.now }
 {
-    if word == b"amb".as_slice() {
+    if identifier == b"amb".as_slice() {
         return Some(Phase::Ambient);
     }
-    if is_name(word) || is_digit(word) {
+    if is_name(identifier) || is_digit(identifier) {
         return Some(Phase::Descriptor);
     }
     None
 }
 
-/// This phase, where the word is a name.
-fn if_name(word: &[u8], phase: Phase) -> Option<Phase>
-    ensures { result ≡ cond (is_name word.now) (Some phase) None }
+/// This phase, where the identifier is a name.
+fn if_name(identifier: &[u8], phase: Phase) -> Option<Phase>
+    ensures { result ≡ cond (is_name identifier.now) (Some phase) None }
 {
-    if is_name(word) { Some(phase) } else { None }
+    if is_name(identifier) {
+        Some(phase)
+    } else {
+        None
+    }
 }
 
-/// The phase after a word.
-pub fn step_word(phase: Phase, word: &[u8]) -> Option<Phase>
-    ensures { result ≡ step_word phase word.now }
+/// The phase after an identifier.
+pub fn step_identifier(phase: Phase, identifier: &[u8]) -> Option<Phase>
+    ensures { result ≡ step_identifier phase identifier.now }
 {
     match phase {
-        Phase::Begin | Phase::Label | Phase::Whole | Phase::Repeated => if_name(word, Phase::Label),
-        Phase::Test | Phase::Negated => in_test(word),
-        Phase::Colon => if_name(word, Phase::Right),
+        Phase::Begin | Phase::Label | Phase::Whole | Phase::Repeated => if_name(
+            identifier,
+            Phase::Label,
+        ),
+        Phase::Test | Phase::Negated => in_test(identifier),
+        Phase::Colon => if_name(identifier, Phase::Right),
         Phase::Ambient | Phase::Descriptor | Phase::Right => None,
     }
 }
@@ -137,7 +144,7 @@ pub fn ends_here(alone: bool, phase: Phase, depth: u32) -> bool
     is_end(phase) && depth == 0
 }
 
-/// Whether a word that may not stand there begins with a digit that may.
+/// Whether an identifier that may not stand there begins with a digit that may.
 pub fn kept(phase: Phase, first: u8) -> bool
     ensures { result ≡ kept phase first }
 {

@@ -5,11 +5,11 @@ ghost use Rattle.std.specs.Option.{option_map};
 ghost use Rattle.cw_regex.specs.Parts.{sign, parts, ends_blank};
 ghost use Rattle.cw_regex.specs.Grammar.{IsFaultAt};
 ghost use Rattle.cw_regex.specs.Machine.{step, start, ends_here, deepest, In, kept};
-ghost use Rattle.cw_regex.specs.Pieces.{IsBlankAt, IsSignAt, IsWordAt};
+ghost use Rattle.cw_regex.specs.Fronts.{IsBlankAt, IsSignAt, IsIdentifierAt};
 ghost use Rattle.cw_regex.specs.Scans.{ScanAt};
 
-use crate::phase::{Phase, ends_here, is_held, kept, start, step, step_word};
-use crate::text::{Piece, Sign, ends_blank, piece_at};
+use crate::phase::{Phase, ends_here, is_held, kept, start, step, step_identifier};
+use crate::text::{Front, Sign, ends_blank, front_at};
 
 /// How far a scan has come: the place, the phase, how many parentheses are open and were open at most.
 #[derive(Clone, Copy, Drop)]
@@ -40,15 +40,15 @@ fn scan_blank(text: &[u8], alone: bool, scan: Scanned) -> Result<Scanned, usize>
     })
 }
 
-/// Goes over a word.
-fn scan_word(text: &[u8], alone: bool, scan: Scanned, end: usize) -> Result<Scanned, usize>
+/// Goes over an identifier.
+fn scan_identifier(text: &[u8], alone: bool, scan: Scanned, end: usize) -> Result<Scanned, usize>
     requires is { ScanAt alone text.now scan }
-    requires word { IsWordAt text.now scan.at end }
+    requires identifier { IsIdentifierAt text.now scan.at end }
     ensures ok { IfOk result (λ next. ScanAt alone text.now next) }
     ensures on { IfOk result (λ next. scan.at < next.at) }
     ensures err { IfErr result (λ n. IsFaultAt (In alone) text.now n) }
 {
-    match step_word(scan.phase, &text[scan.at..end]) {
+    match step_identifier(scan.phase, &text[scan.at..end]) {
         Some(phase) => Ok(Scanned {
             at: end,
             phase,
@@ -80,7 +80,7 @@ fn scan_sign(text: &[u8], alone: bool, scan: Scanned, sign: Sign) -> Result<Scan
 }
 
 /// Goes over what stands next.
-fn scan_piece(text: &[u8], alone: bool, scan: Scanned) -> Result<Scanned, usize>
+fn scan_front(text: &[u8], alone: bool, scan: Scanned) -> Result<Scanned, usize>
     requires is { ScanAt alone text.now scan }
     requires more { scan.at < length text.now }
     requires few { length text.now ≤ 65535 }
@@ -88,10 +88,10 @@ fn scan_piece(text: &[u8], alone: bool, scan: Scanned) -> Result<Scanned, usize>
     ensures on { IfOk result (λ next. scan.at < next.at) }
     ensures err { IfErr result (λ n. IsFaultAt (In alone) text.now n) }
 {
-    match piece_at(text, scan.at) {
-        Piece::Blank => scan_blank(text, alone, scan),
-        Piece::Word(end) => scan_word(text, alone, scan, end),
-        Piece::Sign(sign) => scan_sign(text, alone, scan, sign),
+    match front_at(text, scan.at) {
+        Front::Blank => scan_blank(text, alone, scan),
+        Front::Identifier(end) => scan_identifier(text, alone, scan, end),
+        Front::Sign(sign) => scan_sign(text, alone, scan, sign),
     }
 }
 
@@ -109,7 +109,7 @@ fn scan_all(text: &[u8], alone: bool) -> Result<Scanned, usize>
         most: 0,
     };
     while scan.at < text.len() {
-        scan = scan_piece(text, alone, scan)?;
+        scan = scan_front(text, alone, scan)?;
     }
     Ok(scan)
 }

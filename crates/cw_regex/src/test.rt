@@ -1,7 +1,7 @@
 //! The tests of literals.
 
 ghost use Rattle.std.specs.Prelude.{◌≡◌, ◌<◌, ◌≤◌, [], ◌∷◌, List, true, false, length, drop, map, IsTrue, IfOk, IfSome, IfNone};
-ghost use Rattle.cw_regex.specs.Parts.{Part, word, sign, parts};
+ghost use Rattle.cw_regex.specs.Parts.{Part, identifier, sign, parts};
 ghost use Rattle.cw_regex.specs.Grammar.{Name, Subject, TestForm, spelled_subject, spelled_test, spelled_more, spelled_tests};
 ghost use Rattle.cw_regex.specs.Meaning.{names_of, need_of, subject_meaning, test_meaning};
 ghost use Rattle.cw_regex.specs.Tokens.{Settled, begins_bracket};
@@ -11,7 +11,7 @@ use crate::unknown::descriptor_number;
 use cw_rights::{Descriptor, Rights, Test, right_named};
 use std::alloc::{AllocError, Global};
 
-/// The set of rights that a word names, empty where it names none.
+/// The set of rights that an identifier names, empty where it names none.
 fn right_or_none(name: &[u8], format: u8) -> Rights
     ensures { result ≡ need_of format name.now }
 {
@@ -21,18 +21,18 @@ fn right_or_none(name: &[u8], format: u8) -> Rights
     }
 }
 
-/// The right that the next word names, and where the text goes on.
+/// The right that the next identifier names, and where the text goes on.
 fn right_here(text: &[u8], at: usize, format: u8) -> (Rights, usize)
     requires { at ≤ length text.now }
     ensures within { result.1 ≤ length text.now }
     ensures on { at ≤ result.1 }
-    ensures read { (r : Name) (rest : List Part) → parts (drop at text.now) ≡ word r.bytes ∷ rest →
+    ensures read { (r : Name) (rest : List Part) → parts (drop at text.now) ≡ identifier r.bytes ∷ rest →
         result.0 ≡ need_of format r.bytes }
-    ensures rest { (r : Name) (rest : List Part) → parts (drop at text.now) ≡ word r.bytes ∷ rest →
+    ensures rest { (r : Name) (rest : List Part) → parts (drop at text.now) ≡ identifier r.bytes ∷ rest →
         parts (drop result.1 text.now) ≡ rest }
 {
     match token_at(text, at) {
-        Token::Word { from, to } => (right_or_none(&text[from..to], format), to),
+        Token::Identifier { from, to } => (right_or_none(&text[from..to], format), to),
         _ => (Rights(0), at),
     }
 }
@@ -42,9 +42,9 @@ fn right_after_colon(text: &[u8], at: usize, format: u8) -> (Rights, usize)
     requires { at ≤ length text.now }
     ensures within { result.1 ≤ length text.now }
     ensures on { at ≤ result.1 }
-    ensures read { (r : Name) (rest : List Part) → parts (drop at text.now) ≡ sign Sign.Colon ∷ word r.bytes ∷ rest →
+    ensures read { (r : Name) (rest : List Part) → parts (drop at text.now) ≡ sign Sign.Colon ∷ identifier r.bytes ∷ rest →
         result.0 ≡ need_of format r.bytes }
-    ensures rest { (r : Name) (rest : List Part) → parts (drop at text.now) ≡ sign Sign.Colon ∷ word r.bytes ∷ rest →
+    ensures rest { (r : Name) (rest : List Part) → parts (drop at text.now) ≡ sign Sign.Colon ∷ identifier r.bytes ∷ rest →
         parts (drop result.1 text.now) ≡ rest }
 {
     match token_at(text, at) {
@@ -65,7 +65,7 @@ fn subject(text: &[u8], at: usize, descriptors: &[Descriptor], format: u8) -> (T
         Settled s rest → parts (drop result.1 text.now) ≡ rest }
 {
     match token_at(text, at) {
-        Token::Word { from, to } => {
+        Token::Identifier { from, to } => {
             if colon_next(text, to) {
                 let (need, end) = right_after_colon(text, to, format);
                 let descriptor = descriptor_number(descriptors, &text[from..to]);

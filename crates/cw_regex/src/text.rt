@@ -1,16 +1,16 @@
-//! The parts of a text: words of letters, digits and `_`, and signs.
+//! The parts of a text: identifiers of letters, digits and `_`, and signs.
 
 ghost use Rattle.std.specs.Prelude.{◌≡◌, ◌+◌, ◌-◌, ◌<◌, ◌≤◌, true, false, length, take, drop, slice_index};
 ghost use Rattle.std.specs.List.{list_all};
 ghost use Rattle.cw_rights.specs.Valid.{is_name_byte};
-ghost use Rattle.cw_regex.specs.Parts.{is_blank, sign_of, begins_word, ends_blank, parts, placed};
+ghost use Rattle.cw_regex.specs.Parts.{is_blank, sign_of, begins_identifier, ends_blank, parts, placed};
 ghost use Rattle.cw_regex.specs.Faults.{colon_next};
 ghost use Rattle.cw_regex.specs.Tokens.{IsToken, begins_colon};
-ghost use Rattle.cw_regex.specs.Pieces.{IsPiece};
+ghost use Rattle.cw_regex.specs.Fronts.{IsFront};
 
 use cw_rights::is_name_byte;
 
-/// A byte that is no blank and in no word.
+/// A byte that is no blank and in no identifier.
 #[derive(Clone, Copy, Drop, PartialEq, Eq)]
 pub enum Sign {
     Dot,
@@ -56,14 +56,14 @@ fn sign_of(byte: u8) -> Sign
     }
 }
 
-/// Where the word ends that begins there.
-fn word_end(text: &[u8], at: usize) -> usize
+/// Where the identifier ends that begins there.
+fn identifier_end(text: &[u8], at: usize) -> usize
     requires inside { at < length text.now }
     requires begins { is_name_byte (slice_index text.now at) ≡ true }
     ensures after { at < result }
     ensures within { result ≤ length text.now }
-    ensures word { list_all is_name_byte (take (result - at) (drop at text.now)) ≡ true }
-    ensures stop { begins_word (drop result text.now) ≡ false }
+    ensures identifier { list_all is_name_byte (take (result - at) (drop at text.now)) ≡ true }
+    ensures stop { begins_identifier (drop result text.now) ≡ false }
 {
     for end in at + 1..text.len() {
         if !is_name_byte(text[end]) {
@@ -73,27 +73,27 @@ fn word_end(text: &[u8], at: usize) -> usize
     text.len()
 }
 
-/// What stands at a place of a text: a blank, a word up to a place, or a sign.
+/// What stands at a place of a text: a blank, an identifier up to a place, or a sign.
 #[derive(Clone, Copy, Drop)]
-pub enum Piece {
+pub enum Front {
     Blank,
-    Word(usize),
+    Identifier(usize),
     Sign(Sign),
 }
 
 /// What stands at a place.
-pub fn piece_at(text: &[u8], at: usize) -> Piece
+pub fn front_at(text: &[u8], at: usize) -> Front
     requires { at < length text.now }
-    ensures { IsPiece text.now at result }
+    ensures { IsFront text.now at result }
 {
     let byte = text[at];
     if is_blank(byte) {
-        return Piece::Blank;
+        return Front::Blank;
     }
     if is_name_byte(byte) {
-        return Piece::Word(word_end(text, at));
+        return Front::Identifier(identifier_end(text, at));
     }
-    Piece::Sign(sign_of(byte))
+    Front::Sign(sign_of(byte))
 }
 
 /// Whether the last byte of a text is a blank.
@@ -107,11 +107,11 @@ pub fn ends_blank(text: &[u8]) -> bool
     is_blank(text[text.len() - 1])
 }
 
-/// The next part of a text: a word from one place to another, or a sign up to a place.
+/// The next part of a text: an identifier from one place to another, or a sign up to a place.
 #[derive(Clone, Copy, Drop)]
 pub enum Token {
     End,
-    Word { from: usize, to: usize },
+    Identifier { from: usize, to: usize },
     Sign { sign: Sign, to: usize },
 }
 
@@ -121,10 +121,10 @@ pub fn token_at(text: &[u8], at: usize) -> Token
     ensures { IsToken text.now at result }
 {
     for from in at..text.len() {
-        match piece_at(text, from) {
-            Piece::Blank => {}
-            Piece::Word(to) => return Token::Word { from, to },
-            Piece::Sign(sign) => return Token::Sign { sign, to: from + 1 },
+        match front_at(text, from) {
+            Front::Blank => {}
+            Front::Identifier(to) => return Token::Identifier { from, to },
+            Front::Sign(sign) => return Token::Sign { sign, to: from + 1 },
         }
     }
     Token::End

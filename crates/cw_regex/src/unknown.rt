@@ -3,7 +3,7 @@
 ghost use Rattle.std.specs.Prelude.{◌≡◌, ◌<◌, ◌≤◌, false, Some, length, drop, unwrap_or, None, IfOk, IfErr, IfSome, IfNone};
 ghost use Rattle.cw_regex.specs.Parts.{placed};
 ghost use Rattle.cw_regex.specs.Meaning.{is_right, names_of, number_in};
-ghost use Rattle.cw_regex.specs.Faults.{is_known, unknown_word, first_unknown, place_of};
+ghost use Rattle.cw_regex.specs.Faults.{is_known, unknown_identifier, first_unknown, place_of};
 
 use crate::text::{Sign, Token, colon_next, token_at};
 use cw_rights::{Descriptor, right_named};
@@ -16,12 +16,12 @@ pub enum Unknown {
 }
 
 /// The number of a descriptor's name, and 0 where it isn't known.
-pub fn descriptor_number(descriptors: &[Descriptor], word: &[u8]) -> u8
+pub fn descriptor_number(descriptors: &[Descriptor], identifier: &[u8]) -> u8
     requires { length descriptors.now ≤ 8 }
-    ensures { result ≡ number_in (names_of descriptors.now) word.now }
+    ensures { result ≡ number_in (names_of descriptors.now) identifier.now }
 {
     for (i, descriptor) in descriptors.iter().enumerate() {
-        if word == descriptor.name.as_slice() {
+        if identifier == descriptor.name.as_slice() {
             return i as u8;
         }
     }
@@ -29,36 +29,36 @@ pub fn descriptor_number(descriptors: &[Descriptor], word: &[u8]) -> u8
 }
 
 /// Whether a descriptor has this name.
-fn is_known(descriptors: &[Descriptor], word: &[u8]) -> bool
-    ensures { result ≡ is_known (names_of descriptors.now) word.now }
+fn is_known(descriptors: &[Descriptor], identifier: &[u8]) -> bool
+    ensures { result ≡ is_known (names_of descriptors.now) identifier.now }
 {
     for descriptor in descriptors {
-        if word == descriptor.name.as_slice() {
+        if identifier == descriptor.name.as_slice() {
             return true;
         }
     }
     false
 }
 
-/// Whether a word isn't known: behind a `:` it is a right, before one a descriptor.
-fn unknown_word(
+/// Whether an identifier isn't known: behind a `:` it is a right, before one a descriptor.
+fn unknown_identifier(
     descriptors: &[Descriptor],
     format: u8,
     after: bool,
     before: bool,
     from: usize,
-    word: &[u8],
+    identifier: &[u8],
 ) -> Option<Unknown>
-    ensures is { result ≡ unknown_word format (names_of descriptors.now) after before from word.now }
+    ensures is { result ≡ unknown_identifier format (names_of descriptors.now) after before from identifier.now }
     ensures place { IfSome result (λ u. place_of u ≡ from) }
 {
     if after {
-        return match right_named(word, format) {
+        return match right_named(identifier, format) {
             None => Some(Unknown::Right(from)),
             Some(_) => None,
         };
     }
-    if before && !is_known(descriptors, word) {
+    if before && !is_known(descriptors, identifier) {
         return Some(Unknown::Descriptor(from));
     }
     None
@@ -96,9 +96,9 @@ fn search_token(
             at: to,
             after: matches!(sign, Sign::Colon),
         })),
-        Token::Word { from, to } => {
+        Token::Identifier { from, to } => {
             let before = colon_next(text, to);
-            match unknown_word(
+            match unknown_identifier(
                 descriptors,
                 format,
                 so_far.after,

@@ -10,8 +10,8 @@ use Rattle.cw_syntax.specs.Names.{text, number_in}
 use Rattle.cw_syntax.specs.Trees.{Tree, Node, Trees, none, more}
 use Rattle.cw_syntax.specs.Plans.{Scene, Action, Computes, Opens, Closes, Invokes, action_of, call_action, assigned_action, descriptor_of, closed_by, closes_if, opens_if}
 
-pub place_within : {X : Type 0} (p : X → Bool) (xs : List X) (n : ℕ) → position p xs ≡ Some n → n < length xs
-place_within p xs n e = by (nat_lt (position_or_len p xs) (length xs)) refl
+pub index_within : {X : Type 0} (p : X → Bool) (xs : List X) (n : ℕ) → position p xs ≡ Some n → n < length xs
+index_within p xs n e = by (nat_lt (position_or_len p xs) (length xs)) refl
   where
     by : (t : Bool) → nat_lt (position_or_len p xs) (length xs) ≡ t → n < length xs
     by true t =
@@ -36,7 +36,7 @@ module _ (s : Scene) where
   closes_within (Some d) h = h d refl
 
   named_within : (name : List ℕ) (n : ℕ) → number_in s.names.descriptors name ≡ Some n → n < length s.names.descriptors
-  named_within name n e = place_within (bytes_eq name) s.names.descriptors n e
+  named_within name n e = index_within (bytes_eq name) s.names.descriptors n e
 
   descriptor_within : (t : Tree) (n : ℕ) → descriptor_of s t ≡ Some n → n < length s.names.descriptors
   descriptor_within (Node NameOp parts from to) n e = named_within _ n e
@@ -61,7 +61,7 @@ module _ (s : Scene) where
   assigned_within x name None h = opens_within (number_in s.names.descriptors (text s.source x)) (named_within (text s.source x))
 
   pub acts_within : (t : Tree) → IsWithin s (action_of s t)
-  acts_within (Node (CallOp f) arguments from to) = call_within (text s.source f) arguments (number_in s.functions (text s.source f)) (place_within (bytes_eq (text s.source f)) s.functions)
+  acts_within (Node (CallOp f) arguments from to) = call_within (text s.source f) arguments (number_in s.functions (text s.source f)) (index_within (bytes_eq (text s.source f)) s.functions)
   acts_within (Node (Assign zero) (more (Node NameOp parts at end) (more (Node (CallOp f) arguments at' end') none)) from to) =
-      assigned_within (record { from = at; to = end }) (text s.source f) (number_in s.functions (text s.source f)) (place_within (bytes_eq (text s.source f)) s.functions)
+      assigned_within (record { from = at; to = end }) (text s.source f) (number_in s.functions (text s.source f)) (index_within (bytes_eq (text s.source f)) s.functions)
   acts_within _ = tt

@@ -2,7 +2,7 @@
 pub mod Acting
 pub mod Shapes
 pub mod Bounds
-pub mod Places
+pub mod Indices
 mod Alike
 mod LabelShapes
 mod LabelJoins

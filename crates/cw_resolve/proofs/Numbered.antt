@@ -51,5 +51,5 @@ module _ {X : Type 0} (p : X → Bool) where
       by false h = h
 
   -- a place is found where some item passes
-  pub some_place : (xs : List X) → is_some (position p xs) ≡ list_any p xs
-  some_place xs = ap is_some (position_from-zero p xs) ∙ some_from 0 xs
+  pub some_index : (xs : List X) → is_some (position p xs) ≡ list_any p xs
+  some_index xs = ap is_some (position_from-zero p xs) ∙ some_from 0 xs

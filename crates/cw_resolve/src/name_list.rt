@@ -57,7 +57,7 @@ impl<'s> NameList<'s> {
         ensures number { result ≡ number_in self.now name.now }
     {
         if self.names.len() <= FEW {
-            place_of(&self.names, name)
+            index_of(&self.names, name)
         } else {
             find(&self.numbers, name)
         }
@@ -72,7 +72,7 @@ impl<'s> NameList<'s> {
 }
 
 /// The place of a name in a list, by a walk.
-fn place_of(names: &[&[u8]], name: &[u8]) -> Option<usize>
+fn index_of(names: &[&[u8]], name: &[u8]) -> Option<usize>
     ensures { result ≡ number_in (map text_at names.now) name.now }
 {
     for (i, other) in names.iter().enumerate() {

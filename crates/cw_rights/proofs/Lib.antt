@@ -4,6 +4,6 @@ pub mod Bools
 pub mod LawProofs
 pub mod Limits
 pub mod Named
-pub mod Pieces
+pub mod Factors
 pub mod Plainly
 pub mod Rows

@@ -4,11 +4,11 @@ use Rattle.std.proofs.Common.{⊎_elim, length-append, length-drop, add-one, nat
 use Rattle.std.proofs.lemmas.Bool.Decides.{nat_tests}
 use Rattle.std.proofs.Math.Nat.{mul-le-mul_left, mul-le-mul_right}
 use Rattle.cw_rights.specs.Trees.{Literal, Tree, nothing, never, one, seq, alt, star, plus, maybe}
-use Rattle.cw_rights.specs.Words.{Word, Pieces, Matches}
+use Rattle.cw_rights.specs.Words.{Word, Factors, Matches}
 use Rattle.cw_rights.specs.Plain.{is_nil, is_letter, some_below, chain, if_nil, plain, cost}
 use Rattle.std.proofs.lemmas.Bool.{or_cases, or_left, or_right, and_from as and_both}
 use Rattle.cw_lemmas.proofs.Truths.{and_first as and_left, and_second as and_right}
-use Rattle.cw_rights.proofs.Pieces.{NotNil, not_nil}
+use Rattle.cw_rights.proofs.Factors.{NotNil, not_nil}
 
 -- some number below n
 pub below_has : (n : ℕ) (f : ℕ → Bool) (i : ℕ) → i < n → f i ≡ true → some_below n f ≡ true
@@ -44,21 +44,21 @@ nil_of (c ∷ w) e = absurd (cc)
 is_of : (w : Word) → w ≡ [] → is_nil w ≡ true
 is_of w e = ap is_nil e
 
--- the pieces of a star
+-- the factors of a star
 module _ (p : Word → Bool) (P : Word → Type 0) (sound : (w : Word) → p w ≡ true → P w) (complete : (w : Word) → P w → p w ≡ true) where
-  pub chain_sound : (n : ℕ) (w : Word) → chain p n w ≡ true → (us : List Word) × Pieces P us w
+  pub chain_sound : (n : ℕ) (w : Word) → chain p n w ≡ true → (us : List Word) × Factors P us w
   chain_sound zero w e = ([], nil_of w e)
   chain_sound (suc n) w e = by (λ v. chain_sound n v) (or_cases (is_nil w) _ e)
     where
-      by : ((v : Word) → chain p n v ≡ true → (us : List Word) × Pieces P us v) → (is_nil w ≡ true) ⊎ (some_below (length w) (λ i. p (take (i + 1) w) && chain p n (drop (i + 1) w)) ≡ true) →
-          (us : List Word) × Pieces P us w
+      by : ((v : Word) → chain p n v ≡ true → (us : List Word) × Factors P us v) → (is_nil w ≡ true) ⊎ (some_below (length w) (λ i. p (take (i + 1) w) && chain p n (drop (i + 1) w)) ≡ true) →
+          (us : List Word) × Factors P us w
       by rec (inl x) = ([], nil_of w x)
       by rec (inr x) =
           let f = below_found (length w) (λ i. p (take (i + 1) w) && chain p n (drop (i + 1) w)) x in
           let r = rec (drop (f.0 + 1) w) (and_right (p (take (f.0 + 1) w)) (chain p n (drop (f.0 + 1) w)) f.2) in
           (take (f.0 + 1) w ∷ r.0, (drop (f.0 + 1) w, cut_whole (f.0 + 1) w, sound (take (f.0 + 1) w) (and_left _ _ f.2), r.1))
 
-  pub chain_complete : (us : List Word) (n : ℕ) (w : Word) → length w ≤ n → Pieces P us w → chain p n w ≡ true
+  pub chain_complete : (us : List Word) (n : ℕ) (w : Word) → length w ≤ n → Factors P us w → chain p n w ≡ true
   chain_complete [] zero w l h = is_of w h
   chain_complete [] (suc n) w l h = or_left _ _ (is_of w h)
   chain_complete (u ∷ us) n w l h = by u n l h.1 h.2 (λ m k. chain_complete us m h.0 k h.3)
@@ -96,11 +96,11 @@ letter_sound l (c ∷ (d ∷ w)) e = absurd (cc)
 plus_of_star : (r : Tree) (w : Word) → NotNil w → Matches (star r) w → Matches (plus r) w
 plus_of_star r w n h = by h.0 h.1
   where
-    by : (us : List Word) → Pieces (Matches r) us w → Matches (plus r) w
+    by : (us : List Word) → Factors (Matches r) us w → Matches (plus r) w
     by [] p = absurd (not_nil w n p)
     by (u ∷ us) p = (u, us, p)
 
--- the first piece of an empty word
+-- the first factor of an empty word
 first_nil : (u v : Word) → [] ≡ u ++ v → u ≡ []
 first_nil [] v e = refl
 first_nil (c ∷ u) v e = absurd (cc)
@@ -137,11 +137,11 @@ plain_is (plus r) w = (
   back w (plain_is r w).1 (λ us. chain_complete (plain r) (Matches r) (λ v. (plain_is r v).0) (λ v. (plain_is r v).1) us (length w) w (omega arith)),
 )
   where
-    to : (w : Word) → (plain r w ≡ true → Matches r w) → (chain (plain r) (length w) w ≡ true → (us : List Word) × Pieces (Matches r) us w) → plain (plus r) w ≡ true → Matches (plus r) w
+    to : (w : Word) → (plain r w ≡ true → Matches r w) → (chain (plain r) (length w) w ≡ true → (us : List Word) × Factors (Matches r) us w) → plain (plus r) w ≡ true → Matches (plus r) w
     to [] f g e = ([], [], ([], refl, f e, refl))
     to (c ∷ w) f g e = plus_of_star r (c ∷ w) tt (g e)
 
-    back : (w : Word) → (Matches r w → plain r w ≡ true) → ((us : List Word) → Pieces (Matches r) us w → chain (plain r) (length w) w ≡ true) → Matches (plus r) w → plain (plus r) w ≡ true
+    back : (w : Word) → (Matches r w → plain r w ≡ true) → ((us : List Word) → Factors (Matches r) us w → chain (plain r) (length w) w ≡ true) → Matches (plus r) w → plain (plus r) w ≡ true
     back [] f g m = let q = m.2 in f (subst (Matches r) (first_nil m.0 q.0 q.1) q.2)
     back (c ∷ w) f g m = g (m.0 ∷ m.1) m.2
 plain_is (maybe r) w = (
@@ -163,8 +163,8 @@ cost_rises (star r) m n h = let a = cost_rises r m n h in let z = mul_le (m + 1)
 cost_rises (plus r) m n h = let a = cost_rises r m n h in let z = mul_le (m + 1) (cost r m + 2) (n + 1) (cost r n + 2) (omega arith) (omega arith) in omega (arith, z)
 cost_rises (maybe r) m n h = let a = cost_rises r m n h in omega arith
 
-pub star_piece : (r : Tree) (m n : ℕ) → m ≤ n → cost r m + 1 < (n + 1) * (cost r n + 2)
-star_piece r m n h =
+pub star_factor : (r : Tree) (m n : ℕ) → m ≤ n → cost r m + 1 < (n + 1) * (cost r n + 2)
+star_factor r m n h =
     let a = cost_rises r m n h in
     let z = mul_le 1 (cost r n + 2) (n + 1) (cost r n + 2) (omega arith) (omega arith) in
     omega (arith, z)
@@ -184,7 +184,7 @@ below_same : (n : ℕ) (f g : ℕ → Bool) → ((i : ℕ) → f i ≡ g i) → 
 below_same zero f g h = refl
 below_same (suc n) f g h = rw (below_same n f g h, h n) refl
 
--- a star, its first piece taken off
+-- a star, its first factor taken off
 chain_step : (p : Word → Bool) (w : Word) → 0 < length w → chain p (length w) w ≡ some_below (length w) (λ i. p (take (i + 1) w) && chain p (length (drop (i + 1) w)) (drop (i + 1) w))
 chain_step p [] l = absurd (omega arith)
 chain_step p (c ∷ w) l = below_same (suc (length w)) (λ i. p (take (i + 1) (c ∷ w)) && chain p (length w) (drop (i + 1) (c ∷ w)))

@@ -17,7 +17,7 @@ abbrev pub some_below : ℕ → (ℕ → Bool) → Bool
 some_below zero f = false
 some_below (suc n) f = some_below n f || f n
 
--- the word is at most n pieces that pass the test and have a letter
+-- the word is at most n factors that pass the test and have a letter
 abbrev pub chain : (Word → Bool) → ℕ → Word → Bool
 chain p zero w = is_nil w
 chain p (suc n) w = is_nil w || some_below (length w) (λ i. p (take (i + 1) w) && chain p n (drop (i + 1) w))

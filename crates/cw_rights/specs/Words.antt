@@ -34,10 +34,10 @@ fits literal letter = label_fits literal.label letter.label && tests_hold letter
 abbrev pub Word : Type 0
 Word = List Letter
 
--- the word is this list of pieces, each of which is in P
-abbrev pub Pieces : (Word → Type 0) → List Word → Word → Type 0
-Pieces P [] w = w ≡ []
-Pieces P (u ∷ us) w = (v : Word) × (w ≡ u ++ v) × P u × Pieces P us v
+-- the word is this list of factors, each of which is in P
+abbrev pub Factors : (Word → Type 0) → List Word → Word → Type 0
+Factors P [] w = w ≡ []
+Factors P (u ∷ us) w = (v : Word) × (w ≡ u ++ v) × P u × Factors P us v
 
 -- the expression matches the word whole
 abbrev pub Matches : Tree → Word → Type 0
@@ -46,6 +46,6 @@ Matches never w = ⊥
 Matches (one l) w = (c : Letter) × (w ≡ c ∷ []) × IsTrue (fits l c)
 Matches (seq r s) w = (u : Word) × (v : Word) × (w ≡ u ++ v) × Matches r u × Matches s v
 Matches (alt r s) w = Matches r w ⊎ Matches s w
-Matches (star r) w = (us : List Word) × Pieces (Matches r) us w
-Matches (plus r) w = (u : Word) × (us : List Word) × Pieces (Matches r) (u ∷ us) w
+Matches (star r) w = (us : List Word) × Factors (Matches r) us w
+Matches (plus r) w = (u : Word) × (us : List Word) × Factors (Matches r) (u ∷ us) w
 Matches (maybe r) w = (w ≡ []) ⊎ Matches r w

@@ -25,7 +25,7 @@ use Rattle.cw_game.proofs.Link.{violates_bad, board_moves}
 use Rattle.cw_lemmas.proofs.Truths.{not_both}
 use Rattle.cw_trace.specs.Traces.{Names, move_lines}
 use Rattle.cw_trace.specs.Told.{spot_lines}
-use Rattle.cw_run.specs.Walks.{Here, Wait, ret_of, config_of, mems_of, place}
+use Rattle.cw_run.specs.Walks.{Here, Wait, ret_of, config_of, mems_of, landing}
 use Rattle.cw_run.proofs.Sees.{Sees, sees_visit, sees_asked, sees_step, sees_branch, sees_label, sees_open, sees_close, sees_call, sees_split, sees_end, see, below, board_on}
 use Rattle.cw_run.proofs.Sits.{IsCallOf, Waiting, Least, Sits, Stepped, arrived, told_by, state_of_board}
 
@@ -142,7 +142,7 @@ module _ (names : Names) (g : Game) (t : Table) (plan : Plan) (right : AreStates
   call_on : (frame : Frame) (frames : List Frame) (kept : List (Option Caps)) (caps : Caps) (word : Word) (phase : Phase) (h : Here) (waits : List Wait) (split : Bool) (j f n m : ℕ)
       → let b = board_on (frame ∷ frames) kept caps word phase in Together problem g b (config_of h waits) → StandsOn (Least g) g (frame ∷ frames) kept caps word phase h.pos h.state (map ret_of waits)
       → Waiting frames kept waits → slice_get g.spots h.pos ≡ Some (call_spot split j f n) → option_and_then (λ r. mem_in t r.callee) (into_at t j split h.mem) ≡ Some m
-      → Step (state_of_board b (mems_of h waits)) On (spot_lines names g.policy g.main (call_spot split j f n) On) (place (g.entry f, h.state) m) (wait_at h j n split ∷ waits)
+      → Step (state_of_board b (mems_of h waits)) On (spot_lines names g.policy g.main (call_spot split j f n) On) (landing (g.entry f, h.state) m) (wait_at h j n split ∷ waits)
   call_on frame frames kept caps word phase h waits split j f n m goes stands waiting es em =
       let sn = see (Least g) g.spots g.policy (g.exit stands.0) frame caps word phase h.pos h.state stands.1 in
       let sees : Sees frame phase (call_spot split j f n) = subst (λ o. Sees frame phase o) (same_Some sn.0 (call_spot split j f n) (sym sn.1 ∙ es)) sn.2 in
@@ -150,7 +150,7 @@ module _ (names : Names) (g : Game) (t : Table) (plan : Plan) (right : AreStates
     where
       by : IsCallHere j f split frame phase
           → Step (state_of_board (board_on (frame ∷ frames) kept caps word phase) (mems_of h waits)) On (spot_lines names g.policy g.main (call_spot split j f n) On)
-          (place (g.entry f, h.state) m) (wait_at h j n split ∷ waits)
+          (landing (g.entry f, h.state) m) (wait_at h j n split ∷ waits)
       by c =
           let rets = map ret_of waits in
           let frame2 : Frame = Todo (Call c.at j c.callee) ∷ c.rest in
@@ -177,19 +177,19 @@ module _ (names : Names) (g : Game) (t : Table) (plan : Plan) (right : AreStates
               waiting = subst (λ fs. Waiting fs to.0.kept (wait_at h j n split ∷ waits)) (sym stay.0) (subst (λ k. Waiting (frame2 ∷ frames) k (wait_at h j n split ∷ waits)) (sym stay.1) waiting2);
             };
             acts = told_by names g t plan right laid has held holds b h waits On (call_spot split j f n) stands es;
-            reaches = arrived names g t plan right laid has held holds to.0 (place (g.entry f, h.state) m) (wait_at h j n split ∷ waits) to.2;
+            reaches = arrived names g t plan right laid has held holds to.0 (landing (g.entry f, h.state) m) (wait_at h j n split ∷ waits) to.2;
           }
 
   pub call_step : (s : State) (h : Here) (waits : List Wait) (split : Bool) (j f n m : ℕ) → Sits plan g s h waits → slice_get g.spots h.pos ≡ Some (call_spot split j f n)
       → option_and_then (λ r. mem_in t r.callee) (into_at t j split h.mem) ≡ Some m
-      → Step s On (spot_lines names g.policy g.main (call_spot split j f n) On) (place (g.entry f, h.state) m) (wait_at h j n split ∷ waits)
+      → Step s On (spot_lines names g.policy g.main (call_spot split j f n) On) (landing (g.entry f, h.state) m) (wait_at h j n split ∷ waits)
   call_step s h waits split j f n m sits es em =
-      subst (λ ms. Step (state_of_board s.board ms) On (spot_lines names g.policy g.main (call_spot split j f n) On) (place (g.entry f, h.state) m) (wait_at h j n split ∷ waits))
+      subst (λ ms. Step (state_of_board s.board ms) On (spot_lines names g.policy g.main (call_spot split j f n) On) (landing (g.entry f, h.state) m) (wait_at h j n split ∷ waits))
       (sym sits.mems) (on s.board.stack s.board.kept s.board.caps s.board.word s.board.phase sits.goes sits.stands sits.waiting)
     where
       on : (stack : List Frame) (kept : List (Option Caps)) (caps : Caps) (word : Word) (phase : Phase) → Together problem g (board_on stack kept caps word phase) (config_of h waits)
           → StandsOn (Least g) g stack kept caps word phase h.pos h.state (map ret_of waits) → Waiting (below stack) kept waits
-          → Step (state_of_board (board_on stack kept caps word phase) (mems_of h waits)) On (spot_lines names g.policy g.main (call_spot split j f n) On) (place (g.entry f, h.state) m)
+          → Step (state_of_board (board_on stack kept caps word phase) (mems_of h waits)) On (spot_lines names g.policy g.main (call_spot split j f n) On) (landing (g.entry f, h.state) m)
           (wait_at h j n split ∷ waits)
       on [] kept caps word phase goes stands waiting = absurd stands
       on (frame ∷ frames) kept caps word phase goes stands waiting = call_on frame frames kept caps word phase h waits split j f n m goes stands waiting es em
@@ -231,7 +231,7 @@ module _ (names : Names) (g : Game) (t : Table) (plan : Plan) (right : AreStates
       → StandsOn (Least g) g (frame ∷ frames) kept caps word phase h.pos h.state (map ret_of (w ∷ waits))
       → Waiting frames kept (w ∷ waits) → slice_get g.spots h.pos ≡ Some (Exit f) → state_of t h.mem ≡ Some exit
       → option_and_then (λ r. mem_in t r.after) (back_at t w.seam w.split w.mem exit) ≡ Some m
-      → Step (state_of_board b (mems_of h (w ∷ waits))) On (spot_lines names g.policy g.main (Exit f) On) (place (w.back, returned g.states (kept_at w.split w.state) h.state) m) waits
+      → Step (state_of_board b (mems_of h (w ∷ waits))) On (spot_lines names g.policy g.main (Exit f) On) (landing (w.back, returned g.states (kept_at w.split w.state) h.state) m) waits
   return_on frame [] kept caps word phase h w waits f exit m goes stands waiting es ex em = absurd waiting
   return_on frame (frame2 ∷ frames) [] caps word phase h w waits f exit m goes stands waiting es ex em = absurd waiting
   return_on frame (frame2 ∷ frames) (k ∷ kept) caps word phase h w waits f exit m goes stands waiting es ex em =
@@ -241,7 +241,7 @@ module _ (names : Names) (g : Game) (t : Table) (plan : Plan) (right : AreStates
     where
       by : IsEndHere frame phase → IsCallOf frame2 w
           → Step (state_of_board (board_on (frame ∷ (frame2 ∷ frames)) (k ∷ kept) caps word phase) (mems_of h (w ∷ waits))) On (spot_lines names g.policy g.main (Exit f) On)
-          (place (w.back, returned g.states (kept_at w.split w.state) h.state) m) waits
+          (landing (w.back, returned g.states (kept_at w.split w.state) h.state) m) waits
       by c call =
           let rets = map ret_of waits in
           let b = board_on (frame ∷ (frame2 ∷ frames)) (k ∷ kept) caps word phase in
@@ -271,20 +271,20 @@ module _ (names : Names) (g : Game) (t : Table) (plan : Plan) (right : AreStates
               waiting = subst (λ fs. Waiting fs to.0.kept waits) (sym stay.0) (subst (λ ks. Waiting frames ks waits) (sym stay.1) waiting.2);
             };
             acts = told_by names g t plan right laid has held holds b h (w ∷ waits) On (Exit f) stands es;
-            reaches = arrived names g t plan right laid has held holds to.0 (place (w.back, returned g.states (kept_at w.split w.state) h.state) m) waits to.2;
+            reaches = arrived names g t plan right laid has held holds to.0 (landing (w.back, returned g.states (kept_at w.split w.state) h.state) m) waits to.2;
           }
 
   pub return_step : (s : State) (h : Here) (w : Wait) (waits : List Wait) (f exit m : ℕ) → Sits plan g s h (w ∷ waits) → slice_get g.spots h.pos ≡ Some (Exit f) → state_of t h.mem ≡ Some exit
       → option_and_then (λ r. mem_in t r.after) (back_at t w.seam w.split w.mem exit) ≡ Some m
-      → Step s On (spot_lines names g.policy g.main (Exit f) On) (place (w.back, returned g.states (kept_at w.split w.state) h.state) m) waits
+      → Step s On (spot_lines names g.policy g.main (Exit f) On) (landing (w.back, returned g.states (kept_at w.split w.state) h.state) m) waits
   return_step s h w waits f exit m sits es ex em =
-      subst (λ ms. Step (state_of_board s.board ms) On (spot_lines names g.policy g.main (Exit f) On) (place (w.back, returned g.states (kept_at w.split w.state) h.state) m) waits)
+      subst (λ ms. Step (state_of_board s.board ms) On (spot_lines names g.policy g.main (Exit f) On) (landing (w.back, returned g.states (kept_at w.split w.state) h.state) m) waits)
       (sym sits.mems) (on s.board.stack s.board.kept s.board.caps s.board.word s.board.phase sits.goes sits.stands sits.waiting)
     where
       on : (stack : List Frame) (kept : List (Option Caps)) (caps : Caps) (word : Word) (phase : Phase) → Together problem g (board_on stack kept caps word phase) (config_of h (w ∷ waits))
           → StandsOn (Least g) g stack kept caps word phase h.pos h.state (map ret_of (w ∷ waits)) → Waiting (below stack) kept (w ∷ waits)
           → Step (state_of_board (board_on stack kept caps word phase) (mems_of h (w ∷ waits))) On (spot_lines names g.policy g.main (Exit f) On)
-          (place (w.back, returned g.states (kept_at w.split w.state) h.state) m) waits
+          (landing (w.back, returned g.states (kept_at w.split w.state) h.state) m) waits
       on [] kept caps word phase goes stands waiting = absurd stands
       on (frame ∷ frames) kept caps word phase goes stands waiting = return_on frame frames kept caps word phase h w waits f exit m goes stands waiting es ex em
 

@@ -1,4 +1,4 @@
--- Which words enter a function, and how many of a tape do.
+-- Which entries enter a function, and how many of a tape do.
 use Rattle.std.proofs.Common.{◌≡◌, ℕ, ◌+◌, ◌<◌, ◌≤◌, List, take, length, get_or, Bool, true, false, Option, Some, None, option_map, sym, ap, arith}
 use Rattle.std.proofs.lemmas.Option.{none-some, same_Some}
 use Rattle.std.proofs.lemmas.List.Sums.{sum_by_more, sum_by-take-le}
@@ -11,7 +11,7 @@ use Rattle.cw_model.specs.Runs.{mem_in}
 use Rattle.cw_game.specs.declared.spots.Spot.{Spot}
 use Rattle.cw_game.specs.declared.spots.Spot.TheVariants.{Visit, Asked, Step, Branch, Label, Open, Close, Call, SplitCall, Exit}
 use Rattle.cw_game.specs.Games.{Game, resumed}
-use Rattle.cw_run.specs.Walks.{Here, Wait, Next, To, Into, Back, Over, Resumed, Stopped, place, within, called, ended, going_on, refusing, asked, next_of, entered, enters, entries}
+use Rattle.cw_run.specs.Walks.{Here, Wait, Next, To, Into, Back, Over, Resumed, Stopped, landing, within, called, ended, going_on, refusing, asked, next_of, entered, enters, entries}
 
 one_at_most : (n : Next) → entered n ≤ 1
 one_at_most (To h) = omega arith
@@ -26,9 +26,9 @@ none_by_to : (o : Option Here) (n : Next) → option_map To o ≡ Some n → ent
 none_by_to None n e = absurd (none-some n e)
 none_by_to (Some h) n e = ap entered (sym (same_Some (To h) n e))
 
-none_by_resumed : (pair : ℕ × ℕ) (o : Option ℕ) (n : Next) → option_map (λ m. Resumed (place pair m)) o ≡ Some n → entered n ≡ 0
+none_by_resumed : (pair : ℕ × ℕ) (o : Option ℕ) (n : Next) → option_map (λ m. Resumed (landing pair m)) o ≡ Some n → entered n ≡ 0
 none_by_resumed pair None n e = absurd (none-some n e)
-none_by_resumed pair (Some m) n e = ap entered (sym (same_Some (Resumed (place pair m)) n e))
+none_by_resumed pair (Some m) n e = ap entered (sym (same_Some (Resumed (landing pair m)) n e))
 
 none_by_going : (t : Table) (seam : ℕ) (pair : ℕ × ℕ) (m : Option MemId) (n : Next) → going_on t seam pair m ≡ Some n → entered n ≡ 0
 none_by_going t seam pair None n e = ap entered (sym (same_Some (Stopped seam) n e))
@@ -79,7 +79,7 @@ by_end g t h waits Stop n e = absurd (none-some n e)
 none_at_most : (n : Next) (by : Move) → entered n ≡ 0 → entered n ≤ enters by
 none_at_most n by e = omega (arith, e)
 
--- a move enters a function only by a word that can
+-- a move enters a function only by an entry that can
 pub entered_by : (g : Game) (t : Table) (h : Here) (waits : List Wait) (spot : Spot) (by : Move) (n : Next) → next_of g t h waits spot by ≡ Some n → entered n ≤ enters by
 entered_by g t h waits (Call j f back) by n e = by_call g t h j f back false by n e
 entered_by g t h waits (SplitCall j f back) by n e = by_call g t h j f back true by n e
@@ -92,7 +92,7 @@ entered_by g t h waits (Label j l to) by n e = none_at_most n by (none_by_to (wi
 entered_by g t h waits (Open j d to) by n e = none_at_most n by (none_by_to (within g t h (Open j d to) by) n e)
 entered_by g t h waits (Close j d to) by n e = none_at_most n by (none_by_to (within g t h (Close j d to) by) n e)
 
--- there is room for the call of one word more, and the calls are as many as words so far can have begun
+-- there is room for the call of one entry more, and the calls are as many as entries so far can have begun
 pub room_for : (tape : List Move) (i : ℕ) (by : Move) (calls room : ℕ) → i < length tape → by ≡ get_or tape i by → calls ≤ entries (take i tape) → entries tape ≤ room
     → calls + enters by ≤ room
 room_for tape i by calls room lt is few most = omega (arith, few, most, ap enters is, sum_by_more enters tape i by lt, sum_by-take-le enters tape (i + 1))

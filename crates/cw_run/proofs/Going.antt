@@ -1,4 +1,4 @@
--- A run from a state, word by word: where it is, and what was told on the way.
+-- A run from a state, entry by entry: where it is, and what was told on the way.
 use Rattle.std.proofs.Common.{◌≡◌, ℕ, List, [], ◌∷◌, ◌++◌, map, false, Option, Some, None, refl, sym, ap, ap₂, ◌∙◌, subst, append_assoc, append-nil, option_and_then}
 use Rattle.std.specs.Prelude.{slice_get, option_map}
 use Rattle.std.proofs.lemmas.Option.{same_Some}
@@ -21,19 +21,19 @@ use Rattle.cw_game.specs.Together.{at_start}
 use Rattle.cw_game.proofs.Link.{starts_at, environments_turn}
 use Rattle.cw_trace.specs.Traces.{Names, reached_lines}
 use Rattle.cw_trace.specs.Told.{spot_lines, lines_at, label_at}
-use Rattle.cw_run.specs.Walks.{at_pos, Here, Wait, ret_of, config_of, Next, place_of, stop_lines, waits_after, next_of, Stopped, with_stop, next_here, Arrives, LandsAt, Goes, start_here}
+use Rattle.cw_run.specs.Walks.{at_pos, Here, Wait, ret_of, config_of, Next, landing_of, stop_lines, waits_after, next_of, Stopped, with_stop, next_here, Arrives, LandsAt, Goes, start_here}
 use Rattle.cw_run.proofs.Sees.{see, below}
 use Rattle.cw_run.proofs.Sits.{Waiting, Least, Sits, arrived}
 use Rattle.cw_run.proofs.Runs.{IsRunAt, IsOver, LeadsTo, rested, leads_on}
 
 -- where the run is
 abbrev pub IsAt : Names → Game → Table → Plan → State → (List ℕ → List ℕ) → List Move → List ℕ → Option Here → List Wait → Type 0
-IsAt names g t plan from own words text (Some h) waits = IsRunAt names g t plan from own words text h waits × (weavers_in (slice_get g.spots h.pos) ≡ false)
-IsAt names g t plan from own words text None waits = IsOver names g t plan from own words text
+IsAt names g t plan from own entries text (Some h) waits = IsRunAt names g t plan from own entries text h waits × (weavers_in (slice_get g.spots h.pos) ≡ false)
+IsAt names g t plan from own entries text None waits = IsOver names g t plan from own entries text
 
 -- what was appended so far is the trace of the run so far
 abbrev pub RunSoFar : Names → Game → Table → Plan → State → (List ℕ → List ℕ) → List Move → Option Here → List Wait → List ℕ → List ℕ → Type 0
-RunSoFar names g t plan from own words place waits old new = (text : List ℕ) × (new ≡ old ++ text) × IsAt names g t plan from own words text place waits
+RunSoFar names g t plan from own entries landing waits old new = (text : List ℕ) × (new ≡ old ++ text) × IsAt names g t plan from own entries text landing waits
 
 module _ (names : Names) (g : Game) (t : Table) (plan : Plan) (right : AreStates g.policy g.spots g.states (Reached g.policy g.spots g.states)) (laid : IsLaidOut plan g)
     (has_them : HasRoutines plan g)
@@ -116,22 +116,22 @@ module _ (names : Names) (g : Game) (t : Table) (plan : Plan) (right : AreStates
   stop_is old (Stopped seam) = refl
   stop_is old _ = sym (append-nil old)
 
-  landed : (from : State) (words : List Move) (text lines old mid new : List ℕ) (n : Next) (waits : List Wait) (o place : Option Here) → mid ≡ old ++ text
-      → LandsAt names g t held own n o place (mid ++ own lines) new → LeadsTo names g t plan right laid has_them held holds from own own_none words text lines n o waits
-      → RunSoFar names g t plan from own words place waits old new
-  landed from words text lines old mid new n waits (Some to) (Some here) em a k =
+  landed : (from : State) (entries : List Move) (text lines old mid new : List ℕ) (n : Next) (waits : List Wait) (o landing : Option Here) → mid ≡ old ++ text
+      → LandsAt names g t held own n o landing (mid ++ own lines) new → LeadsTo names g t plan right laid has_them held holds from own own_none entries text lines n o waits
+      → RunSoFar names g t plan from own entries landing waits old new
+  landed from entries text lines old mid new n waits (Some to) (Some here) em a k =
       let all = text ++ (own lines ++ stop_lines own n) in
-      let k2 = subst (λ l. IsRunAt names g t plan from own words l to waits) (grouped text (own lines) (stop_lines own n) (label to)) k in
-      let r = rested names g t plan right laid has_them held holds from own own_none words all to here waits k2 a.rests a.same in (
+      let k2 = subst (λ l. IsRunAt names g t plan from own entries l to waits) (grouped text (own lines) (stop_lines own n) (label to)) k in
+      let r = rested names g t plan right laid has_them held holds from own own_none entries all to here waits k2 a.rests a.same in (
         all ++ label here,
         told_so old text (own lines) (stop_lines own n) (label here) mid new em
             (a.told ∙ ap₂ (λ l m. l ++ m) (stop_is (mid ++ own lines) n) (label_here to here a.same)),
         r,
       )
-  landed from words text lines old mid new n waits None None em en k =
+  landed from entries text lines old mid new n waits None None em en k =
       (text ++ (own lines ++ stop_lines own n), told_end old text (own lines) (stop_lines own n) mid new em (en ∙ stop_is (mid ++ own lines) n), k)
-  landed from words text lines old mid new n waits (Some to) None em l k = absurd l
-  landed from words text lines old mid new n waits None (Some here) em l k = absurd l
+  landed from entries text lines old mid new n waits (Some to) None em l k = absurd l
+  landed from entries text lines old mid new n waits None (Some here) em l k = absurd l
 
   -- what stands at the place of a run
   pub spot_of : (s : State) (h : Here) (waits : List Wait) → Sits plan g s h waits → (spot : Spot) × (slice_get g.spots h.pos ≡ Some spot)
@@ -143,19 +143,19 @@ module _ (names : Names) (g : Game) (t : Table) (plan : Plan) (right : AreStates
       on (frame ∷ frames) kept caps word phase stands =
           let sn = see (Least g) g.spots g.policy (g.exit stands.0) frame caps word phase h.pos h.state stands.1 in (sn.0, sn.1)
 
-  -- One word more.
-  pub went : (from : State) (words : List Move) (h : Here) (waits waits2 : List Wait) (place : Option Here) (old mid new : List ℕ) (by : Move) (n : Next)
-      → RunSoFar names g t plan from own words (Some h) waits old mid → next_here g t h waits by ≡ Some n
-      → Goes names g t held own n waits waits2 place (mid ++ own (lines_at names g.policy g.main (slice_get g.spots h.pos) by)) new
-      → RunSoFar names g t plan from own (words ++ by ∷ []) place waits2 old new
-  went from words h waits waits2 place old mid new by n (text, em, run) en go =
+  -- One entry more.
+  pub went : (from : State) (entries : List Move) (h : Here) (waits waits2 : List Wait) (landing : Option Here) (old mid new : List ℕ) (by : Move) (n : Next)
+      → RunSoFar names g t plan from own entries (Some h) waits old mid → next_here g t h waits by ≡ Some n
+      → Goes names g t held own n waits waits2 landing (mid ++ own (lines_at names g.policy g.main (slice_get g.spots h.pos) by)) new
+      → RunSoFar names g t plan from own (entries ++ by ∷ []) landing waits2 old new
+  went from entries h waits waits2 landing old mid new by n (text, em, run) en go =
       let sp = spot_of run.0.state h waits run.0.sits in
       let es = sp.1 in
       let en2 : next_of g t h waits sp.0 by ≡ Some n = sym (ap (option_and_then (λ s. next_of g t h waits s by)) es) ∙ en in
-      let lands = subst (λ o. LandsAt names g t held own n (place_of n) place (mid ++ own (lines_at names g.policy g.main o by)) new) es go.lands in
-      subst (λ ws. RunSoFar names g t plan from own (words ++ by ∷ []) place ws old new) (sym go.waiting)
-      (landed from (words ++ by ∷ []) text (spot_lines names g.policy g.main sp.0 by) old mid new n (waits_after n waits) (place_of n) place em lands
-      (leads_on names g t plan right laid has_them held holds from own own_none words text h waits run.0 sp.0 by n es (sym (ap weavers_in es) ∙ run.1) en2))
+      let lands = subst (λ o. LandsAt names g t held own n (landing_of n) landing (mid ++ own (lines_at names g.policy g.main o by)) new) es go.lands in
+      subst (λ ws. RunSoFar names g t plan from own (entries ++ by ∷ []) landing ws old new) (sym go.waiting)
+      (landed from (entries ++ by ∷ []) text (spot_lines names g.policy g.main sp.0 by) old mid new n (waits_after n waits) (landing_of n) landing em lands
+      (leads_on names g t plan right laid has_them held holds from own own_none entries text h waits run.0 sp.0 by n es (sym (ap weavers_in es) ∙ run.1) en2))
 
   -- At rest it is the environment's turn, and nothing is over.
   pub not_over : (s : State) (h : Here) (waits : List Wait) → Sits plan g s h waits → s.board.phase ≡ Over → ⊥

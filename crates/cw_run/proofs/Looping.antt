@@ -34,22 +34,22 @@ use Rattle.cw_wcheck.proofs.Sounds.{sound}
 use Rattle.cw_trace.specs.Traces.{Names}
 use Rattle.cw_trace.specs.Labels.{names_of as trace_names_of}
 use Rattle.cw_trace.specs.Steps.{End, Ended, TapeSpent, BadMove}
-use Rattle.cw_run.specs.declared.run.Place.{Place as PlaceData}
-use Rattle.cw_run.specs.declared.run.Place.TheVariants.{At, Over}
+use Rattle.cw_run.specs.declared.run.Landing.{Landing as LandingData}
+use Rattle.cw_run.specs.declared.run.Landing.TheVariants.{At, Over}
 use Rattle.cw_run.specs.declared.walk.Here.{Here as HereData}
 use Rattle.cw_run.specs.declared.walk.Wait.{Wait as WaitData}
-use Rattle.cw_run.specs.Walks.{here_of, wait_of, innermost, place_in, start_here, IsHere, IsWait, IsPlace, Arrives, Answered}
+use Rattle.cw_run.specs.Walks.{here_of, wait_of, innermost, landing_in, start_here, IsHere, IsWait, IsLanding, Arrives, Answered}
 use Rattle.cw_run.specs.Woven.{Tells}
 use Rattle.cw_run.proofs.Going.{begun, went}
-use Rattle.cw_run.proofs.Main.{same, start_on, Ran, spent, over, bad_word, past_end}
+use Rattle.cw_run.proofs.Main.{same, start_on, Ran, spent, over, bad_entry, past_end}
 
 abbrev pub plan_here : Held → List ℕ → File → Plan
 plan_here h source file = plan_of (names_of (policy_of h.states.policy)) source file
 
--- what the loop keeps when so many words have been read
-pub record LoopKeeps (names : Names) (h : Held) (t : Table) (plan : Plan) (words : List Move) (place : PlaceData) (waits : List WaitData) (old new : List ℕ) : Type 0 where
-  pub run : Ran names (game_of h) t plan words (place_in place) (innermost waits) old new
-  pub there : IsPlace (game_of h) (place_in place)
+-- what the loop keeps when so many entries have been read
+pub record LoopKeeps (names : Names) (h : Held) (t : Table) (plan : Plan) (entries : List Move) (landing : LandingData) (waits : List WaitData) (old new : List ℕ) : Type 0 where
+  pub run : Ran names (game_of h) t plan entries (landing_in landing) (innermost waits) old new
+  pub there : IsLanding (game_of h) (landing_in landing)
   pub waiting : All (λ w. IsWait (game_of h) (wait_of w)) waits
 
 one_more : (tape : List Move) (i : ℕ) (by : Move) → i < length tape → by ≡ get_or tape i by → take (i + 1) tape ≡ take i tape ++ by ∷ []
@@ -83,8 +83,8 @@ module _ (h : Held) (source : List ℕ) (file : File) (t : Table) (names : Names
   pub safe : Sound (problem_of policy source file) t
   safe = sound (Reached g.policy g.spots g.states) (problem_of policy source file) g t refl of.states of.laid (good_closed g t good) valid.few_limits
 
-  abbrev Keeps : List Move → PlaceData → List WaitData → List ℕ → List ℕ → Type 0
-  Keeps words place waits old new = LoopKeeps names h t plan words place waits old new
+  abbrev Keeps : List Move → LandingData → List WaitData → List ℕ → List ℕ → Type 0
+  Keeps entries landing waits old new = LoopKeeps names h t plan entries landing waits old new
 
   pub loop_begun : (here : HereData) (waits : List WaitData) (old new : List ℕ) → Arrives names g t held same (start_here g t) (here_of here) old new → IsHere g (here_of here) → waits ≡ []
       → Keeps [] (At here) waits old new
@@ -92,19 +92,19 @@ module _ (h : Held) (source : List ℕ) (file : File) (t : Table) (names : Names
       subst (λ ws. Keeps [] (At here) ws old new) (sym none)
       (record { run = begun names g t plan of.states of.laid of.routines held holds same refl (here_of here) old new a; there = there; waiting = All-nil (λ w. IsWait g (wait_of w)) })
 
-  pub loop_went : (tape : List Move) (i : ℕ) (by : Move) (here : HereData) (p place : PlaceData) (o : Option PlaceData) (waits waits2 : List WaitData) (old mid new : List ℕ) → i < length tape
-      → by ≡ get_or tape i by → p ≡ At here → o ≡ Some place → Keeps (take i tape) p waits old mid
+  pub loop_went : (tape : List Move) (i : ℕ) (by : Move) (here : HereData) (p landing : LandingData) (o : Option LandingData) (waits waits2 : List WaitData) (old mid new : List ℕ) → i < length tape
+      → by ≡ get_or tape i by → p ≡ At here → o ≡ Some landing → Keeps (take i tape) p waits old mid
       → Answered names g t held same (here_of here) by o (innermost waits) (innermost waits2) mid new
-      → IsPlace g (place_in place) → All (λ w. IsWait g (wait_of w)) waits2 → Keeps (take (i + 1) tape) place waits2 old new
-  loop_went tape i by here p place o waits waits2 old mid new lt is ep eo k0 a there all =
+      → IsLanding g (landing_in landing) → All (λ w. IsWait g (wait_of w)) waits2 → Keeps (take (i + 1) tape) landing waits2 old new
+  loop_went tape i by here p landing o waits waits2 old mid new lt is ep eo k0 a there all =
       let k = subst (λ z. Keeps (take i tape) z waits old mid) ep k0 in
       let w = subst (λ z. Answered names g t held same (here_of here) by z (innermost waits) (innermost waits2) mid new) eo a in
       let n = w.0 in
-      subst (λ words. Keeps words place waits2 old new) (sym (one_more tape i by lt is))
+      subst (λ entries. Keeps entries landing waits2 old new) (sym (one_more tape i by lt is))
       (record {
         run =
             went names g t plan of.states of.laid of.routines held holds same refl (start_on g t plan) (take i tape) (here_of here) (innermost waits) (innermost waits2)
-            (place_in place) old mid new by n k.run w.1 w.2;
+            (landing_in landing) old mid new by n k.run w.1 w.2;
         there = there;
         waiting = all;
       })
@@ -115,7 +115,7 @@ module _ (h : Held) (source : List ℕ) (file : File) (t : Table) (names : Names
   named : (tape : List Move) (end : End) (old new : List ℕ) → names ≡ trace_names_of source file plan → Tells (problem_of policy source file) names t tape end old new → Puts tape end old new
   named tape end old new e k = subst (λ ns. Tells (problem_of policy source file) ns t tape end old new) e k
 
-  pub loop_bad : (tape : List Move) (i : ℕ) (by : Move) (here : HereData) (p : PlaceData) (o : Option PlaceData) (waits waits2 : List WaitData) (old mid new : List ℕ)
+  pub loop_bad : (tape : List Move) (i : ℕ) (by : Move) (here : HereData) (p : LandingData) (o : Option LandingData) (waits waits2 : List WaitData) (old mid new : List ℕ)
       → names ≡ trace_names_of source file plan → i < length tape → by ≡ get_or tape i by → p ≡ At here → o ≡ None → Keeps (take i tape) p waits old mid
       → Answered names g t held same (here_of here) by o (innermost waits) (innermost waits2) mid new → Puts tape (BadMove i) old new
   loop_bad tape i by here p o waits waits2 old mid new e lt is ep eo k0 a0 =
@@ -123,25 +123,25 @@ module _ (h : Held) (source : List ℕ) (file : File) (t : Table) (names : Names
       let a = subst (λ z. Answered names g t held same (here_of here) by z (innermost waits) (innermost waits2) mid new) eo a0 in
       named tape (BadMove i) old new e
       (subst (λ l. Tells (problem_of policy source file) names t tape (BadMove i) old l) (sym a.1)
-      (bad_word names g t plan of.states of.laid of.routines held holds safe tape i by (here_of here) (innermost waits) old mid k.run (slice_get_read tape (length tape) i by refl lt is) a.0))
+      (bad_entry names g t plan of.states of.laid of.routines held holds safe tape i by (here_of here) (innermost waits) old mid k.run (slice_get_read tape (length tape) i by refl lt is) a.0))
 
-  pub loop_past : (tape : List Move) (i : ℕ) (by : Move) (p : PlaceData) (waits : List WaitData) (old new : List ℕ) → names ≡ trace_names_of source file plan → i < length tape
+  pub loop_past : (tape : List Move) (i : ℕ) (by : Move) (p : LandingData) (waits : List WaitData) (old new : List ℕ) → names ≡ trace_names_of source file plan → i < length tape
       → by ≡ get_or tape i by → p ≡ Over → Keeps (take i tape) p waits old new → Puts tape (BadMove i) old new
   loop_past tape i by p waits old new e lt is ep k0 =
       let k = subst (λ z. Keeps (take i tape) z waits old new) ep k0 in
       named tape (BadMove i) old new e (past_end names g t plan of.states of.laid of.routines held holds safe tape i by (innermost waits) old new k.run
       (slice_get_read tape (length tape) i by refl lt is))
 
-  all_read : (tape : List Move) (i : ℕ) (p : PlaceData) (waits : List WaitData) (old new : List ℕ) → length tape ≤ i → Keeps (take i tape) p waits old new → Keeps tape p waits old new
+  all_read : (tape : List Move) (i : ℕ) (p : LandingData) (waits : List WaitData) (old new : List ℕ) → length tape ≤ i → Keeps (take i tape) p waits old new → Keeps tape p waits old new
   all_read tape i p waits old new le k = subst (λ l. Keeps l p waits old new) (take_all i tape le) k
 
-  pub loop_spent : (tape : List Move) (i : ℕ) (here : HereData) (p : PlaceData) (waits : List WaitData) (old new : List ℕ) → names ≡ trace_names_of source file plan → length tape ≤ i
+  pub loop_spent : (tape : List Move) (i : ℕ) (here : HereData) (p : LandingData) (waits : List WaitData) (old new : List ℕ) → names ≡ trace_names_of source file plan → length tape ≤ i
       → p ≡ At here → Keeps (take i tape) p waits old new → Puts tape TapeSpent old new
   loop_spent tape i here p waits old new e le ep k0 =
       let k = all_read tape i (At here) waits old new le (subst (λ z. Keeps (take i tape) z waits old new) ep k0) in
       named tape TapeSpent old new e (spent names g t plan of.states of.laid of.routines held holds safe tape (here_of here) (innermost waits) old new k.run)
 
-  pub loop_over : (tape : List Move) (i : ℕ) (p : PlaceData) (waits : List WaitData) (old new : List ℕ) → names ≡ trace_names_of source file plan → length tape ≤ i
+  pub loop_over : (tape : List Move) (i : ℕ) (p : LandingData) (waits : List WaitData) (old new : List ℕ) → names ≡ trace_names_of source file plan → length tape ≤ i
       → p ≡ Over → Keeps (take i tape) p waits old new → Puts tape Ended old new
   loop_over tape i p waits old new e le ep k0 =
       let k = all_read tape i Over waits old new le (subst (λ z. Keeps (take i tape) z waits old new) ep k0) in

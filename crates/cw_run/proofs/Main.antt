@@ -32,7 +32,7 @@ start_on g t plan = start_state (record { plan = plan; policy = g.policy }) t
 
 -- the run so far, from the start
 abbrev pub Ran : Names → Game → Table → Plan → List Move → Option Here → List Wait → List ℕ → List ℕ → Type 0
-Ran names g t plan words place waits old new = RunSoFar names g t plan (start_on g t plan) same words place waits old new
+Ran names g t plan entries landing waits old new = RunSoFar names g t plan (start_on g t plan) same entries landing waits old new
 
 module _ (names : Names) (g : Game) (t : Table) (plan : Plan) (right : AreStates g.policy g.spots g.states (Reached g.policy g.spots g.states)) (laid : IsLaidOut plan g)
     (has_them : HasRoutines plan g)
@@ -73,10 +73,10 @@ module _ (names : Names) (g : Game) (t : Table) (plan : Plan) (right : AreStates
         told = en ∙ ap (λ l. old ++ l) (sym s.tells ∙ trace_is (start_state problem t) s.steps);
       }
 
-  -- the word is none of the board's moves
-  pub bad_word : (tape : List Move) (i : ℕ) (by : Move) (h : Here) (waits : List Wait) (old new : List ℕ) → Ran names g t plan (take i tape) (Some h) waits old new
+  -- the entry is none of the board's moves
+  pub bad_entry : (tape : List Move) (i : ℕ) (by : Move) (h : Here) (waits : List Wait) (old new : List ℕ) → Ran names g t plan (take i tape) (Some h) waits old new
       → slice_get tape i ≡ Some by → next_here g t h waits by ≡ None → told_by tape (BadMove i) old new
-  bad_word tape i by h waits old new (text, en, run) word lost =
+  bad_entry tape i by h waits old new (text, en, run) word lost =
       let s = run.0.run in
       let sp = spot_of names g t plan right laid has_them held holds same refl run.0.state h waits run.0.sits in
       let spot = sp.0 in

@@ -31,7 +31,7 @@ use Rattle.cw_game.proofs.Link.{Stands, bad_violates, environments_turn, unrefus
 use Rattle.cw_product.specs.Moves.{pair_of, is_left_in, next_in, next_at}
 use Rattle.cw_trace.specs.Traces.{Names}
 use Rattle.cw_trace.specs.Steps.{IsNoMove}
-use Rattle.cw_run.specs.Walks.{Here, Wait, ret_of, config_of, mems_of, place, mem_after, within, To, Over as AllOver, Back, Stopped, called, returning, ended, going_on, refusing, asked, next_of}
+use Rattle.cw_run.specs.Walks.{Here, Wait, ret_of, config_of, mems_of, landing, mem_after, within, To, Over as AllOver, Back, Stopped, called, returning, ended, going_on, refusing, asked, next_of}
 use Rattle.cw_run.proofs.Sees.{Sees, see, is_inner, below, board_on, remembered}
 use Rattle.cw_run.proofs.Sits.{same_lead, with_rets, Waiting, Least, Sits}
 use Rattle.cw_lemmas.proofs.Options.{option_map_some as mapped, option_map_none}
@@ -126,7 +126,7 @@ module _ (names : Names) (g : Game) (t : Table) (plan : Plan) (right : AreStates
       let d = tie.to_pair next mv in
       let pair = leads_pair h waits by spot d.0 es inner good d.1 in
       let lost : mem_after t h.mem spot by ≡ None =
-      option_map_none (place pair.0) (mem_after t h.mem spot by) (sym (ap (option_and_then (λ (r : ℕ × ℕ). option_map (place r) (mem_after t h.mem spot by))) pair.1) ∙ none) in
+      option_map_none (landing pair.0) (mem_after t h.mem spot by) (sym (ap (option_and_then (λ (r : ℕ × ℕ). option_map (landing r) (mem_after t h.mem spot by))) pair.1) ∙ none) in
       let turn = environments_turn (Least g) g plan right laid has s.board c sits.stands (ap weavers_in es ∙ env) in
       there s by next (mems_of h waits) safe sits.mems turn mv
       (memory_is s.board h waits by spot sits.stands es inner turn never ∙ ap (option_map (λ n. n ∷ map (λ (w : Wait). w.mem) waits)) lost)
@@ -216,7 +216,7 @@ module _ (names : Names) (g : Game) (t : Table) (plan : Plan) (right : AreStates
   returning_none h w e = by (state_of t h.mem) e
     where
       by : (o : Option ℕ)
-          → option_and_then (λ exit. option_map (λ m. Back (place (w.back, returned g.states (kept_at w.split w.state) h.state) m))
+          → option_and_then (λ exit. option_map (λ m. Back (landing (w.back, returned g.states (kept_at w.split w.state) h.state) m))
           (option_and_then (λ r. mem_in t r.after) (back_at t w.seam w.split w.mem exit))) o ≡ None
           → option_and_then (λ exit. option_and_then (λ r. mem_in t r.after) (back_at t w.seam w.split w.mem exit)) o ≡ None
       by None e = refl

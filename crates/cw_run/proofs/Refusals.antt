@@ -26,7 +26,7 @@ use Rattle.cw_game.proofs.Link.{violates_bad}
 use Rattle.cw_lemmas.proofs.Truths.{not_both}
 use Rattle.cw_trace.specs.Traces.{Names, move_lines, reached_lines, answered_lines, stopped_lines}
 use Rattle.cw_trace.specs.Lines.{try_line, stop_line}
-use Rattle.cw_run.specs.Walks.{Here, Wait, ret_of, config_of, mems_of, place}
+use Rattle.cw_run.specs.Walks.{Here, Wait, ret_of, config_of, mems_of, landing}
 use Rattle.cw_run.proofs.Sees.{Sees, sees_visit, sees_asked, sees_step, sees_branch, sees_label, sees_open, sees_close, sees_call, sees_split, sees_end, see, below, board_on}
 use Rattle.cw_run.proofs.Sits.{Waiting, Least, Sits, Stepped, arrived, state_of_board}
 use Rattle.cw_run.proofs.Calls.{Finishes}
@@ -132,7 +132,7 @@ module _ (names : Names) (g : Game) (t : Table) (plan : Plan) (right : AreStates
       (m : ℕ) → Together problem g (board_on (frame ∷ frames) kept caps word (Asked i a later)) (config_of h waits) → resumed g h.pos h.state ≡ Some (h.pos + 1, h.state)
       → StandsOn (Least g) g (frame ∷ frames) kept caps word (Asked i a later) h.pos h.state (map ret_of waits) → Waiting frames kept waits
       → slice_get g.spots h.pos ≡ Some (AskedSpot j i a) → seam_in frame ≡ Some j → can_stop g.policy caps a ≡ true → refused_with t (try_at t j i h.mem) ≡ Some m
-      → Resumes (state_of_board (board_on (frame ∷ frames) kept caps word (Asked i a later)) (mems_of h waits)) j i a (place (h.pos + 1, h.state) m) waits
+      → Resumes (state_of_board (board_on (frame ∷ frames) kept caps word (Asked i a later)) (mems_of h waits)) j i a (landing (h.pos + 1, h.state) m) waits
   resume_on frame frames kept caps word i j a later h waits m goes er stands waiting es seam can em =
       let w = stands.1 in
       let asked = board_on (frame ∷ frames) kept caps word (Asked i a later) in
@@ -158,7 +158,7 @@ module _ (names : Names) (g : Game) (t : Table) (plan : Plan) (right : AreStates
             waiting = waiting;
           };
           acts = refl;
-          reaches = arrived names g t plan right laid has held holds next (place (h.pos + 1, h.state) m) waits there;
+          reaches = arrived names g t plan right laid has held holds next (landing (h.pos + 1, h.state) m) waits there;
         };
       }
 
@@ -184,22 +184,22 @@ module _ (names : Names) (g : Game) (t : Table) (plan : Plan) (right : AreStates
       }
 
   pub resume_step : (s : State) (h : Here) (waits : List Wait) (j i m : ℕ) (a : Primitive) (pair : ℕ × ℕ) → Sits plan g s h waits → slice_get g.spots h.pos ≡ Some (AskedSpot j i a)
-      → resumed g h.pos h.state ≡ Some pair → refused_with t (try_at t j i h.mem) ≡ Some m → Resumes s j i a (place pair m) waits
+      → resumed g h.pos h.state ≡ Some pair → refused_with t (try_at t j i h.mem) ≡ Some m → Resumes s j i a (landing pair m) waits
   resume_step s h waits j i m a pair sits es er em =
-      subst (λ ms. Resumes (state_of_board s.board ms) j i a (place pair m) waits) (sym sits.mems)
+      subst (λ ms. Resumes (state_of_board s.board ms) j i a (landing pair m) waits) (sym sits.mems)
       (on s.board.stack s.board.kept s.board.caps s.board.word s.board.phase sits.goes sits.stands sits.waiting)
     where
       on : (stack : List Frame) (kept : List (Option Caps)) (caps : Caps) (word : Word) (phase : Phase) → Together problem g (board_on stack kept caps word phase) (config_of h waits)
           → StandsOn (Least g) g stack kept caps word phase h.pos h.state (map ret_of waits)
-          → Waiting (below stack) kept waits → Resumes (state_of_board (board_on stack kept caps word phase) (mems_of h waits)) j i a (place pair m) waits
+          → Waiting (below stack) kept waits → Resumes (state_of_board (board_on stack kept caps word phase) (mems_of h waits)) j i a (landing pair m) waits
       on [] kept caps word phase goes stands waiting = absurd stands
       on (frame ∷ frames) kept caps word phase goes stands waiting =
           let sn = see (Least g) g.spots g.policy (g.exit stands.0) frame caps word phase h.pos h.state stands.1 in
           let k = asked_here j i a frame phase sn.0 (same_Some sn.0 (AskedSpot j i a) (sym sn.1 ∙ es)) sn.2 in
           let there = subst (λ ph. StandsOn (Least g) g (frame ∷ frames) kept caps word ph h.pos h.state (map ret_of waits)) k.is_phase stands in
           let c = can_of frame frames kept caps word i j a k.later h.pos h.state (map ret_of waits) pair there es er in
-          subst (λ ph. Resumes (state_of_board (board_on (frame ∷ frames) kept caps word ph) (mems_of h waits)) j i a (place pair m) waits) (sym k.is_phase)
-          (subst (λ z. Resumes (state_of_board (board_on (frame ∷ frames) kept caps word (Asked i a k.later)) (mems_of h waits)) j i a (place z m) waits) c.1
+          subst (λ ph. Resumes (state_of_board (board_on (frame ∷ frames) kept caps word ph) (mems_of h waits)) j i a (landing pair m) waits) (sym k.is_phase)
+          (subst (λ z. Resumes (state_of_board (board_on (frame ∷ frames) kept caps word (Asked i a k.later)) (mems_of h waits)) j i a (landing z m) waits) c.1
           (resume_on frame frames kept caps word i j a k.later h waits m (subst (λ ph. Together problem g (board_on (frame ∷ frames) kept caps word ph) (config_of h waits)) k.is_phase goes)
           (er ∙ ap Some (sym c.1)) there waiting es k.is_seam c.0 em))
 

@@ -1,4 +1,4 @@
--- A run as far as it has gone: its steps, the words that were read, the text that was told, and where it is.
+-- A run as far as it has gone: its steps, the entries that were read, the text that was told, and where it is.
 use Rattle.std.proofs.Common.{◌≡◌, ℕ, ◌+◌, List, [], ◌∷◌, ◌++◌, map, Bool, true, false, Option, Some, None, is_some, option_map, option_and_then, refl, sym, ap, ap₂, ◌∙◌, subst}
 use Rattle.std.proofs.Common.{append-nil, append_assoc}
 use Rattle.std.specs.Prelude.{slice_get}
@@ -27,11 +27,11 @@ use Rattle.cw_game.specs.Together.{Together, by_move}
 use Rattle.cw_game.proofs.Link.{Stands, party_of, turn_is, board_moves, environments_turn, weavers_turn}
 use Rattle.cw_trace.specs.Lines.{try_line, stop_line}
 use Rattle.cw_trace.specs.Traces.{Names, move_lines, reached_lines}
-use Rattle.cw_trace.specs.Steps.{Step, Follows, state_after, word_by, words_of}
-use Rattle.cw_trace.proofs.Grown.{follows_grown, state_grown, words_grown}
+use Rattle.cw_trace.specs.Steps.{Step, Follows, state_after, entry_by, entries_of}
+use Rattle.cw_trace.proofs.Grown.{follows_grown, state_grown, entries_grown}
 use Rattle.cw_trace.specs.Told.{spot_lines, label_at}
-use Rattle.cw_run.specs.Walks.{Here, Wait, ret_of, config_of, mems_of, place, within, Next, To, Into, Back, Over as AllOver, Resumed, Stopped, at_pos}
-use Rattle.cw_run.specs.Walks.{called, ended, going_on, refusing, asked, next_of, stop_lines, place_of, waits_after, Rests, stays as rests_stays, tries as rests_tries, skips as rests_skips}
+use Rattle.cw_run.specs.Walks.{Here, Wait, ret_of, config_of, mems_of, landing, within, Next, To, Into, Back, Over as AllOver, Resumed, Stopped, at_pos}
+use Rattle.cw_run.specs.Walks.{called, ended, going_on, refusing, asked, next_of, stop_lines, landing_of, waits_after, Rests, stays as rests_stays, tries as rests_tries, skips as rests_skips}
 use Rattle.cw_run.proofs.Sees.{is_inner, Sees, sees_visit, sees_asked, sees_step, sees_branch, sees_label, sees_open, sees_close, sees_call, sees_split, sees_end, see, below, board_on, stays}
 use Rattle.cw_run.proofs.Sits.{chained, Waiting, Least, Sits, Stepped, arrived, told_by, inner_step}
 use Rattle.cw_lemmas.proofs.Options.{option_map_some as mapped}
@@ -108,21 +108,21 @@ module _ (names : Names) (g : Game) (t : Table) (plan : Plan) (from : State) (ow
       ∙ sym (append_assoc (own_lines s.board one.by one.next.board) (own_trace one.next before) (own_lines (state_after one.next before).board last.by last.next.board))
 
   -- The steps so far, with what they read and tell.
-  pub record HasSteps (words : List Move) (text : List ℕ) (s : State) : Type 0 where
+  pub record HasSteps (entries : List Move) (text : List ℕ) (s : State) : Type 0 where
     pub steps : List Step
     pub follows : Follows problem_on t from steps
-    pub reads : words_of from steps ≡ words
+    pub reads : entries_of from steps ≡ entries
     pub tells : own_trace from steps ≡ text
     pub comes : state_after from steps ≡ s
 
-  pub record IsRunAt (words : List Move) (text : List ℕ) (h : Here) (waits : List Wait) : Type 0 where
+  pub record IsRunAt (entries : List Move) (text : List ℕ) (h : Here) (waits : List Wait) : Type 0 where
     pub state : State
-    pub run : HasSteps words text state
+    pub run : HasSteps entries text state
     pub sits : Sits plan g state h waits
 
-  pub record IsOver (words : List Move) (text : List ℕ) : Type 0 where
+  pub record IsOver (entries : List Move) (text : List ℕ) : Type 0 where
     pub state : State
-    pub run : HasSteps words text state
+    pub run : HasSteps entries text state
     pub over : state.board.phase ≡ Over
 
 module _ (names : Names) (g : Game) (t : Table) (plan : Plan) (right : AreStates g.policy g.spots g.states (Reached g.policy g.spots g.states)) (laid : IsLaidOut plan g) (has : HasRoutines plan g)
@@ -137,37 +137,37 @@ module _ (names : Names) (g : Game) (t : Table) (plan : Plan) (right : AreStates
   StepTo s by lines to waits = Stepped names g t plan right laid has held holds s by lines to waits
 
   abbrev Has : List Move → List ℕ → State → Type 0
-  Has words text s = HasSteps names g t plan from own words text s
+  Has entries text s = HasSteps names g t plan from own entries text s
 
   abbrev IsRun : List Move → List ℕ → Here → List Wait → Type 0
-  IsRun words text h waits = IsRunAt names g t plan from own words text h waits
+  IsRun entries text h waits = IsRunAt names g t plan from own entries text h waits
 
   abbrev step_by : Move → State → Step
   step_by by next = record { by = by; next = next }
 
   -- one step more
-  pub grown : (words : List Move) (text acted reached : List ℕ) (s next : State) (by : Move) → Has words text s → WovenStep problem t s by next
+  pub grown : (entries : List Move) (text acted reached : List ℕ) (s next : State) (by : Move) → Has entries text s → WovenStep problem t s by next
       → move_lines names problem s.board s.board.phase by ≡ acted → reached_lines names g.policy next.board next.board.phase ≡ reached
-      → Has (words ++ word_by (turn_of s.board.phase) by) (text ++ (own acted ++ own reached)) next
-  grown words text acted reached s next by h step e f =
+      → Has (entries ++ entry_by (turn_of s.board.phase) by) (text ++ (own acted ++ own reached)) next
+  grown entries text acted reached s next by h step e f =
       let one = step_by by next in
       record {
         steps = h.steps ++ one ∷ [];
         follows = follows_grown problem t from h.steps one h.follows (subst (λ z. WovenStep problem t z by next) (sym h.comes) step);
-        reads = words_grown from h.steps one ∙ ap₂ (λ l (z : State). l ++ word_by (turn_of z.board.phase) by) h.reads h.comes;
+        reads = entries_grown from h.steps one ∙ ap₂ (λ l (z : State). l ++ entry_by (turn_of z.board.phase) by) h.reads h.comes;
         tells = own_grown names g t plan from own from h.steps one
             ∙ ap₂ (λ l (z : State). l ++ own_lines names g t plan from own z.board by next.board) h.tells h.comes
             ∙ ap₂ (λ l m. text ++ (own l ++ own m)) e f;
         comes = state_grown from h.steps one;
       }
 
-  with_word : (words : List Move) (text : List ℕ) (s from : State) (by : Move) → turn_of from.board.phase ≡ Some Environment → Has (words ++ word_by (turn_of from.board.phase) by) text s
-      → Has (words ++ by ∷ []) text s
-  with_word words text s from by e h = subst (λ o. Has (words ++ word_by o by) text s) e h
+  with_entry : (entries : List Move) (text : List ℕ) (s from : State) (by : Move) → turn_of from.board.phase ≡ Some Environment → Has (entries ++ entry_by (turn_of from.board.phase) by) text s
+      → Has (entries ++ by ∷ []) text s
+  with_entry entries text s from by e h = subst (λ o. Has (entries ++ entry_by o by) text s) e h
 
-  without_word : (words : List Move) (text : List ℕ) (s from : State) (by : Move) → turn_of from.board.phase ≡ Some Weaver → Has (words ++ word_by (turn_of from.board.phase) by) text s
-      → Has words text s
-  without_word words text s from by e h = subst (λ l. Has l text s) (append-nil words) (subst (λ o. Has (words ++ word_by o by) text s) e h)
+  without_entry : (entries : List Move) (text : List ℕ) (s from : State) (by : Move) → turn_of from.board.phase ≡ Some Weaver → Has (entries ++ entry_by (turn_of from.board.phase) by) text s
+      → Has entries text s
+  without_entry entries text s from by e h = subst (λ l. Has l text s) (append-nil entries) (subst (λ o. Has (entries ++ entry_by o by) text s) e h)
 
   abbrev label_of : Here → List ℕ
   label_of h = label_at names g.policy (held h.state) (slice_get g.spots h.pos)
@@ -176,11 +176,11 @@ module _ (names : Names) (g : Game) (t : Table) (plan : Plan) (right : AreStates
   step_text text lines more = text ++ (lines ++ more)
 
   -- the environment's step
-  moved_on : (words : List Move) (text lines : List ℕ) (s : State) (by : Move) (to : Here) (waits : List Wait) → turn_of s.board.phase ≡ Some Environment → Has words text s
+  moved_on : (entries : List Move) (text lines : List ℕ) (s : State) (by : Move) (to : Here) (waits : List Wait) → turn_of s.board.phase ≡ Some Environment → Has entries text s
       → StepTo s by lines to waits
-      → IsRun (words ++ by ∷ []) (step_text text (own lines) (label to)) to waits
-  moved_on words text lines s by to waits turn h k =
-      record { state = k.next; run = with_word words (step_text text (own lines) (label to)) k.next s by turn (grown words text lines (label_of to) s k.next by h k.steps k.acts k.reaches); sits = k.sits }
+      → IsRun (entries ++ by ∷ []) (step_text text (own lines) (label to)) to waits
+  moved_on entries text lines s by to waits turn h k =
+      record { state = k.next; run = with_entry entries (step_text text (own lines) (label to)) k.next s by turn (grown entries text lines (label_of to) s k.next by h k.steps k.acts k.reaches); sits = k.sits }
 
   -- The weaver's steps.
   visited_on : (frame : Frame) (frames : List Frame) (kept : List (Option Caps)) (caps : Caps) (word : Word) (phase : Phase) (h : Here) (waits : List Wait) (j i : ℕ) (a : Primitive)
@@ -237,14 +237,14 @@ module _ (names : Names) (g : Game) (t : Table) (plan : Plan) (right : AreStates
       on [] kept caps word phase goes stands waiting = absurd stands
       on (frame ∷ frames) kept caps word phase goes stands waiting = visited_on frame frames kept caps word phase h waits j i a by n goes stands waiting es leads memory there
 
-  weaved : (words : List Move) (text : List ℕ) (s : State) (h to : Here) (waits : List Wait) (by : Move) (j i : ℕ) (a : Primitive) → slice_get g.spots h.pos ≡ Some (VisitSpot j i a)
-      → Stands (Least g) g s.board (config_of h waits) → Has words (text ++ label h) s → StepTo s by [] to waits → IsRun words (text ++ label to) to waits
-  weaved words text s h to waits by j i a es stands run k =
+  weaved : (entries : List Move) (text : List ℕ) (s : State) (h to : Here) (waits : List Wait) (by : Move) (j i : ℕ) (a : Primitive) → slice_get g.spots h.pos ≡ Some (VisitSpot j i a)
+      → Stands (Least g) g s.board (config_of h waits) → Has entries (text ++ label h) s → StepTo s by [] to waits → IsRun entries (text ++ label to) to waits
+  weaved entries text s h to waits by j i a es stands run k =
       let turn = weavers_turn (Least g) g plan right laid has s.board (config_of h waits) stands (ap weavers_in es) in
       let none : text ++ label h ≡ text = ap (λ o. text ++ own (label_at names g.policy (held h.state) o)) es ∙ ap (λ l. text ++ l) own_none ∙ append-nil text in
-      let r = subst (λ l. Has words l s) none run in
-      let told = subst (λ l. Has (words ++ word_by (turn_of s.board.phase) by) (text ++ (l ++ label to)) k.next) own_none (grown words text [] (label_of to) s k.next by r k.steps k.acts k.reaches) in
-      record { state = k.next; run = without_word words (text ++ label to) k.next s by turn told; sits = k.sits }
+      let r = subst (λ l. Has entries l s) none run in
+      let told = subst (λ l. Has (entries ++ entry_by (turn_of s.board.phase) by) (text ++ (l ++ label to)) k.next) own_none (grown entries text [] (label_of to) s k.next by r k.steps k.acts k.reaches) in
+      record { state = k.next; run = without_entry entries (text ++ label to) k.next s by turn told; sits = k.sits }
 
   -- after a try it is the environment's turn
   tried_turn : (b next : Board) (phase : Phase) → moved problem b phase Try ≡ Some next → turn_of next.phase ≡ Some Environment
@@ -261,100 +261,100 @@ module _ (names : Names) (g : Game) (t : Table) (plan : Plan) (right : AreStates
 
   -- The weaver comes to rest, and then it isn't its turn.
   abbrev pub AtRest : List Move → List ℕ → Here → List Wait → Type 0
-  AtRest words text h waits = IsRun words text h waits × (weavers_in (slice_get g.spots h.pos) ≡ false)
+  AtRest entries text h waits = IsRun entries text h waits × (weavers_in (slice_get g.spots h.pos) ≡ false)
 
-  rested_from : (words : List Move) (text : List ℕ) (h : Here) (waits : List Wait) (p n : ℕ) → Rests g t h.mem p n → IsRun words (text ++ label (at_pos p h)) (at_pos p h) waits
-      → AtRest words (text ++ label (at_pos n h)) (at_pos n h) waits
-  rested_from words text h waits _ _ (rests_stays p e) r = (r, e)
-  rested_from words text h waits _ _ (rests_tries p j i a es e) r =
+  rested_from : (entries : List Move) (text : List ℕ) (h : Here) (waits : List Wait) (p n : ℕ) → Rests g t h.mem p n → IsRun entries (text ++ label (at_pos p h)) (at_pos p h) waits
+      → AtRest entries (text ++ label (at_pos n h)) (at_pos n h) waits
+  rested_from entries text h waits _ _ (rests_stays p e) r = (r, e)
+  rested_from entries text h waits _ _ (rests_tries p j i a es e) r =
       let step = visited r.state (at_pos p h) waits j i a Try (p + 1) r.sits es refl (λ stage what later b. refl) (ap (λ y. stays_where y h.mem) e) in (
-        weaved words text r.state (at_pos p h) (at_pos (p + 1) h) waits Try j i a es r.sits.stands r.run step,
+        weaved entries text r.state (at_pos p h) (at_pos (p + 1) h) waits Try j i a es r.sits.stands r.run step,
         party_false (weavers_in (slice_get g.spots (p + 1)))
             (sym (turn_is (Least g) g plan right laid has step.next.board (config_of (at_pos (p + 1) h) waits) step.sits.stands)
             ∙ tried_turn r.state.board step.next.board r.state.board.phase step.steps.0.1),
       )
-  rested_from words text h waits _ _ (rests_skips p n j i a es e rest) r =
-      rested_from words text h waits (p + 2) n rest
-      (weaved words text r.state (at_pos p h) (at_pos (p + 2) h) waits Skip j i a es r.sits.stands r.run
+  rested_from entries text h waits _ _ (rests_skips p n j i a es e rest) r =
+      rested_from entries text h waits (p + 2) n rest
+      (weaved entries text r.state (at_pos p h) (at_pos (p + 2) h) waits Skip j i a es r.sits.stands r.run
       (visited r.state (at_pos p h) waits j i a Skip (p + 2) r.sits es refl (λ stage what later b. refl) (ap (λ y. stays_unless y h.mem) e)))
 
-  pub rested : (words : List Move) (text : List ℕ) (h here : Here) (waits : List Wait) → IsRun words (text ++ label h) h waits → Rests g t h.mem h.pos here.pos → here ≡ at_pos here.pos h
-      → AtRest words (text ++ label here) here waits
-  rested words text h here waits r w e =
-      subst (λ z. AtRest words (text ++ label z) z waits) (sym e) (rested_from words text h waits h.pos here.pos w r)
+  pub rested : (entries : List Move) (text : List ℕ) (h here : Here) (waits : List Wait) → IsRun entries (text ++ label h) h waits → Rests g t h.mem h.pos here.pos → here ≡ at_pos here.pos h
+      → AtRest entries (text ++ label here) here waits
+  rested entries text h here waits r w e =
+      subst (λ z. AtRest entries (text ++ label z) z waits) (sym e) (rested_from entries text h waits h.pos here.pos w r)
 
   -- a step after which nothing is reached
-  quiet_grown : (words : List Move) (text acted : List ℕ) (s next : State) (by : Move) → Has words text s → WovenStep problem t s by next
+  quiet_grown : (entries : List Move) (text acted : List ℕ) (s next : State) (by : Move) → Has entries text s → WovenStep problem t s by next
       → move_lines names problem s.board s.board.phase by ≡ acted → reached_lines names g.policy next.board next.board.phase ≡ []
-      → Has (words ++ word_by (turn_of s.board.phase) by) (text ++ own acted) next
-  quiet_grown words text acted s next by h step e f =
-      subst (λ l. Has (words ++ word_by (turn_of s.board.phase) by) (text ++ l) next) (ap (λ l. own acted ++ l) own_none ∙ append-nil (own acted)) (grown words text acted [] s next by h step e f)
+      → Has (entries ++ entry_by (turn_of s.board.phase) by) (text ++ own acted) next
+  quiet_grown entries text acted s next by h step e f =
+      subst (λ l. Has (entries ++ entry_by (turn_of s.board.phase) by) (text ++ l) next) (ap (λ l. own acted ++ l) own_none ∙ append-nil (own acted)) (grown entries text acted [] s next by h step e f)
 
   over_quiet : (s : State) → s.board.phase ≡ Over → reached_lines names g.policy s.board s.board.phase ≡ []
   over_quiet s e = ap (reached_lines names g.policy s.board) e
 
   -- Where a move of the environment leads.
-  finished : (words : List Move) (text lines : List ℕ) (s : State) (by : Move) → turn_of s.board.phase ≡ Some Environment → Has words text s
-      → Finishes names g t plan right laid has held holds s by lines → IsOver names g t plan from own (words ++ by ∷ []) (text ++ own lines)
-  finished words text lines s by turn h k =
-      record { state = k.next; run = with_word words (text ++ own lines) k.next s by turn (quiet_grown words text lines s k.next by h k.steps k.acts (over_quiet k.next k.over)); over = k.over }
+  finished : (entries : List Move) (text lines : List ℕ) (s : State) (by : Move) → turn_of s.board.phase ≡ Some Environment → Has entries text s
+      → Finishes names g t plan right laid has held holds s by lines → IsOver names g t plan from own (entries ++ by ∷ []) (text ++ own lines)
+  finished entries text lines s by turn h k =
+      record { state = k.next; run = with_entry entries (text ++ own lines) k.next s by turn (quiet_grown entries text lines s k.next by h k.steps k.acts (over_quiet k.next k.over)); over = k.over }
 
   -- what a refusal leaves, with the weaver's move after it
-  refusal_grown : (words : List Move) (text : List ℕ) (s : State) (j i : ℕ) (a : Primitive) → turn_of s.board.phase ≡ Some Environment → Has words text s
-      → (r : Refuses names g t plan right laid has held holds s j i a) → Has (words ++ Refuse ∷ []) (text ++ own (try_line j i a false)) r.first
-  refusal_grown words text s j i a turn h r =
-      with_word words _ r.first s Refuse turn (quiet_grown words text (try_line j i a false) s r.first Refuse h r.refuses r.acts r.quiet)
+  refusal_grown : (entries : List Move) (text : List ℕ) (s : State) (j i : ℕ) (a : Primitive) → turn_of s.board.phase ≡ Some Environment → Has entries text s
+      → (r : Refuses names g t plan right laid has held holds s j i a) → Has (entries ++ Refuse ∷ []) (text ++ own (try_line j i a false)) r.first
+  refusal_grown entries text s j i a turn h r =
+      with_entry entries _ r.first s Refuse turn (quiet_grown entries text (try_line j i a false) s r.first Refuse h r.refuses r.acts r.quiet)
 
-  resumed_on : (words : List Move) (text : List ℕ) (s : State) (j i : ℕ) (a : Primitive) (to : Here) (waits : List Wait) → turn_of s.board.phase ≡ Some Environment → Has words text s
-      → Resumes names g t plan right laid has held holds s j i a to waits → IsRun (words ++ Refuse ∷ []) (step_text text (own (try_line j i a false)) (label to)) to waits
-  resumed_on words text s j i a to waits turn h k =
+  resumed_on : (entries : List Move) (text : List ℕ) (s : State) (j i : ℕ) (a : Primitive) (to : Here) (waits : List Wait) → turn_of s.board.phase ≡ Some Environment → Has entries text s
+      → Resumes names g t plan right laid has held holds s j i a to waits → IsRun (entries ++ Refuse ∷ []) (step_text text (own (try_line j i a false)) (label to)) to waits
+  resumed_on entries text s j i a to waits turn h k =
       let line = own (try_line j i a false) in
-      let first = refusal_grown words text s j i a turn h k.refusal in
-      let all = words ++ Refuse ∷ [] in
-      let two = subst (λ l. Has (all ++ word_by (turn_of k.refusal.first.board.phase) Skip) ((text ++ line) ++ (l ++ label to)) k.then.next) own_none
+      let first = refusal_grown entries text s j i a turn h k.refusal in
+      let all = entries ++ Refuse ∷ [] in
+      let two = subst (λ l. Has (all ++ entry_by (turn_of k.refusal.first.board.phase) Skip) ((text ++ line) ++ (l ++ label to)) k.then.next) own_none
       (grown all (text ++ line) [] (label_of to) k.refusal.first k.then.next Skip first k.then.steps k.then.acts k.then.reaches) in
-      let three = without_word all ((text ++ line) ++ label to) k.then.next k.refusal.first Skip (ap turn_of k.refusal.is_refused) two in
+      let three = without_entry all ((text ++ line) ++ label to) k.then.next k.refusal.first Skip (ap turn_of k.refusal.is_refused) two in
       record { state = k.then.next; run = subst (λ l. Has all l k.then.next) (append_assoc text line (label to)) three; sits = k.then.sits }
 
-  stopped_on : (words : List Move) (text : List ℕ) (s : State) (j i : ℕ) (a : Primitive) → turn_of s.board.phase ≡ Some Environment → Has words text s
+  stopped_on : (entries : List Move) (text : List ℕ) (s : State) (j i : ℕ) (a : Primitive) → turn_of s.board.phase ≡ Some Environment → Has entries text s
       → Stops names g t plan right laid has held holds s j i a
-      → IsOver names g t plan from own (words ++ Refuse ∷ []) (step_text text (own (try_line j i a false)) (own (stop_line j)))
-  stopped_on words text s j i a turn h k =
+      → IsOver names g t plan from own (entries ++ Refuse ∷ []) (step_text text (own (try_line j i a false)) (own (stop_line j)))
+  stopped_on entries text s j i a turn h k =
       let line = own (try_line j i a false) in
-      let first = refusal_grown words text s j i a turn h k.refusal in
-      let all = words ++ Refuse ∷ [] in
+      let first = refusal_grown entries text s j i a turn h k.refusal in
+      let all = entries ++ Refuse ∷ [] in
       let halt = own (stop_line j) in
       let two = quiet_grown all (text ++ line) (stop_line j) k.refusal.first k.then.next Stop first k.then.steps k.then.acts (over_quiet k.then.next k.then.over) in
-      let three = without_word all ((text ++ line) ++ halt) k.then.next k.refusal.first Stop (ap turn_of k.refusal.is_refused) two in
+      let three = without_entry all ((text ++ line) ++ halt) k.then.next k.refusal.first Stop (ap turn_of k.refusal.is_refused) two in
       record { state = k.then.next; run = subst (λ l. Has all l k.then.next) (append_assoc text line halt) three; over = k.then.over }
 
   -- What the next place is told of: the run goes on there, or is over.
   abbrev pub LeadsTo : List Move → List ℕ → List ℕ → Next → Option Here → List Wait → Type 0
-  LeadsTo words text lines n (Some to) waits = IsRun words (text ++ (own lines ++ (stop_lines own n ++ label to))) to waits
-  LeadsTo words text lines n None waits = IsOver names g t plan from own words (text ++ (own lines ++ stop_lines own n))
+  LeadsTo entries text lines n (Some to) waits = IsRun entries (text ++ (own lines ++ (stop_lines own n ++ label to))) to waits
+  LeadsTo entries text lines n None waits = IsOver names g t plan from own entries (text ++ (own lines ++ stop_lines own n))
 
   abbrev Leads : List Move → List ℕ → Spot → Move → List Wait → Next → Type 0
-  Leads words text spot by waits n = LeadsTo (words ++ by ∷ []) text (spot_lines names g.policy g.main spot by) n (place_of n) (waits_after n waits)
+  Leads entries text spot by waits n = LeadsTo (entries ++ by ∷ []) text (spot_lines names g.policy g.main spot by) n (landing_of n) (waits_after n waits)
 
-  module _ (words : List Move) (text : List ℕ) (h : Here) (waits : List Wait) (run : IsRun words text h waits) where
+  module _ (entries : List Move) (text : List ℕ) (h : Here) (waits : List Wait) (run : IsRun entries text h waits) where
     turn_here : (spot : Spot) → slice_get g.spots h.pos ≡ Some spot → weavers_in (Some spot) ≡ false → turn_of run.state.board.phase ≡ Some Environment
     turn_here spot es env = environments_turn (Least g) g plan right laid has run.state.board (config_of h waits) run.sits.stands (ap weavers_in es ∙ env)
 
     inner_leads : (spot : Spot) (by : Move) (n : Next) → slice_get g.spots h.pos ≡ Some spot → is_inner spot ≡ true → weavers_in (Some spot) ≡ false
-        → option_map To (within g t h spot by) ≡ Some n → Leads words text spot by waits n
+        → option_map To (within g t h spot by) ≡ Some n → Leads entries text spot by waits n
     inner_leads spot by n es inner env e =
         let m = mapped To (within g t h spot by) n e in
-        subst (λ z. Leads words text spot by waits z) m.2
-        (moved_on words text (spot_lines names g.policy g.main spot by) run.state by m.0 waits (turn_here spot es env) run.run
+        subst (λ z. Leads entries text spot by waits z) m.2
+        (moved_on entries text (spot_lines names g.policy g.main spot by) run.state by m.0 waits (turn_here spot es env) run.run
         (inner_step names g t plan right laid has held holds run.state h waits by spot m.0 run.sits es inner env m.1))
 
     call_leads_to : (split : Bool) (j f n2 : ℕ) (by : Move) (n : Next) → slice_get g.spots h.pos ≡ Some (call_spot split j f n2)
-        → called g t h j f n2 split by ≡ Some n → Leads words text (call_spot split j f n2) by waits n
+        → called g t h j f n2 split by ≡ Some n → Leads entries text (call_spot split j f n2) by waits n
     call_leads_to split j f n2 On n es e =
-        let m = mapped (λ m. Into (place (g.entry f, h.state) m) (record { seam = j; split = split; back = n2; state = h.state; mem = h.mem }))
+        let m = mapped (λ m. Into (landing (g.entry f, h.state) m) (record { seam = j; split = split; back = n2; state = h.state; mem = h.mem }))
         (option_and_then (λ r. mem_in t r.callee) (into_at t j split h.mem)) n e in
-        subst (λ z. Leads words text (call_spot split j f n2) On waits z) m.2
-        (moved_on words text (spot_lines names g.policy g.main (call_spot split j f n2) On) run.state On (place (g.entry f, h.state) m.0)
+        subst (λ z. Leads entries text (call_spot split j f n2) On waits z) m.2
+        (moved_on entries text (spot_lines names g.policy g.main (call_spot split j f n2) On) run.state On (landing (g.entry f, h.state) m.0)
         (record { seam = j; split = split; back = n2; state = h.state; mem = h.mem } ∷ waits)
         (turn_here (call_spot split j f n2) es (no_visit split)) run.run
         (call_step names g t plan right laid has held holds run.state h waits split j f n2 m.0 run.sits es m.1))
@@ -365,56 +365,56 @@ module _ (names : Names) (g : Game) (t : Table) (plan : Plan) (right : AreStates
     call_leads_to split j f n2 _ n es e = absurd (none-some n e)
 
     refusal_leads : (j i : ℕ) (a : Primitive) (pair : ℕ × ℕ) (n : Next) → slice_get g.spots h.pos ≡ Some (AskedSpot j i a) → resumed g h.pos h.state ≡ Some pair
-        → (row : Option TryRow) → try_at t j i h.mem ≡ row → refusing t j pair row ≡ Some n → Leads words text (AskedSpot j i a) Refuse waits n
+        → (row : Option TryRow) → try_at t j i h.mem ≡ row → refusing t j pair row ≡ Some n → Leads entries text (AskedSpot j i a) Refuse waits n
     refusal_leads j i a pair n es er None row e = absurd (none-some n e)
     refusal_leads j i a pair n es er (Some r) row e = by r.refused refl e
       where
-        by : (o : Option MemId) → r.refused ≡ o → going_on t j pair o ≡ Some n → Leads words text (AskedSpot j i a) Refuse waits n
+        by : (o : Option MemId) → r.refused ≡ o → going_on t j pair o ≡ Some n → Leads entries text (AskedSpot j i a) Refuse waits n
         by None en e =
-            subst (λ z. Leads words text (AskedSpot j i a) Refuse waits z) (same_Some (Stopped j) n e)
-            (stopped_on words text run.state j i a (turn_here (AskedSpot j i a) es refl) run.run
+            subst (λ z. Leads entries text (AskedSpot j i a) Refuse waits z) (same_Some (Stopped j) n e)
+            (stopped_on entries text run.state j i a (turn_here (AskedSpot j i a) es refl) run.run
             (stop_step names g t plan right laid has held holds run.state h waits j i a pair r run.sits es er row en))
         by (Some m0) en e =
-            let m = mapped (λ n. Resumed (place pair n)) (mem_in t m0) n e in
+            let m = mapped (λ n. Resumed (landing pair n)) (mem_in t m0) n e in
             let kept : refused_with t (try_at t j i h.mem) ≡ Some m.0 = ap (refused_with t) row ∙ ap (option_and_then (mem_in t)) en ∙ m.1 in
-            subst (λ z. Leads words text (AskedSpot j i a) Refuse waits z) m.2
-            (resumed_on words text run.state j i a (place pair m.0) waits (turn_here (AskedSpot j i a) es refl) run.run
+            subst (λ z. Leads entries text (AskedSpot j i a) Refuse waits z) m.2
+            (resumed_on entries text run.state j i a (landing pair m.0) waits (turn_here (AskedSpot j i a) es refl) run.run
             (resume_step names g t plan right laid has held holds run.state h waits j i m.0 a pair run.sits es er kept))
 
     asked_leads : (j i : ℕ) (a : Primitive) (by : Move) (n : Next) → slice_get g.spots h.pos ≡ Some (AskedSpot j i a) → (o : Option (ℕ × ℕ)) → resumed g h.pos h.state ≡ o
-        → asked g t h (AskedSpot j i a) j i by o ≡ Some n → Leads words text (AskedSpot j i a) by waits n
+        → asked g t h (AskedSpot j i a) j i by o ≡ Some n → Leads entries text (AskedSpot j i a) by waits n
     asked_leads j i a Refuse n es (Some pair) er e = refusal_leads j i a pair n es er (try_at t j i h.mem) refl e
     asked_leads j i a Refuse n es None er e = inner_leads (AskedSpot j i a) Refuse n es refl refl e
     asked_leads j i a by n es o er e = inner_leads (AskedSpot j i a) by n es refl refl e
 
-  end_leads : (words : List Move) (text : List ℕ) (h : Here) (waits : List Wait) → IsRun words text h waits → (f : ℕ) (by : Move) (n : Next) → slice_get g.spots h.pos ≡ Some (Exit f)
-      → ended g t h waits by ≡ Some n → Leads words text (Exit f) by waits n
-  end_leads words text h [] run f On n es e =
-      subst (λ z. Leads words text (Exit f) On [] z) (same_Some AllOver n e)
-      (subst (λ l. IsOver names g t plan from own (words ++ On ∷ []) (text ++ l)) (sym (append-nil (own (spot_lines names g.policy g.main (Exit f) On))))
-      (finished words text (spot_lines names g.policy g.main (Exit f) On) run.state On (turn_here words text h [] run (Exit f) es refl) run.run
+  end_leads : (entries : List Move) (text : List ℕ) (h : Here) (waits : List Wait) → IsRun entries text h waits → (f : ℕ) (by : Move) (n : Next) → slice_get g.spots h.pos ≡ Some (Exit f)
+      → ended g t h waits by ≡ Some n → Leads entries text (Exit f) by waits n
+  end_leads entries text h [] run f On n es e =
+      subst (λ z. Leads entries text (Exit f) On [] z) (same_Some AllOver n e)
+      (subst (λ l. IsOver names g t plan from own (entries ++ On ∷ []) (text ++ l)) (sym (append-nil (own (spot_lines names g.policy g.main (Exit f) On))))
+      (finished entries text (spot_lines names g.policy g.main (Exit f) On) run.state On (turn_here entries text h [] run (Exit f) es refl) run.run
       (end_step names g t plan right laid has held holds run.state h f run.sits es)))
-  end_leads words text h (w ∷ waits) run f On n es e =
-      let x = chained (λ exit. option_map (λ m. Back (place (w.back, returned g.states (kept_at w.split w.state) h.state) m))
+  end_leads entries text h (w ∷ waits) run f On n es e =
+      let x = chained (λ exit. option_map (λ m. Back (landing (w.back, returned g.states (kept_at w.split w.state) h.state) m))
       (option_and_then (λ r. mem_in t r.after) (back_at t w.seam w.split w.mem exit))) (state_of t h.mem) n e in
-      let m = mapped (λ m. Back (place (w.back, returned g.states (kept_at w.split w.state) h.state) m))
+      let m = mapped (λ m. Back (landing (w.back, returned g.states (kept_at w.split w.state) h.state) m))
       (option_and_then (λ r. mem_in t r.after) (back_at t w.seam w.split w.mem x.0)) n x.2 in
-      subst (λ z. Leads words text (Exit f) On (w ∷ waits) z) m.2
-      (moved_on words text (spot_lines names g.policy g.main (Exit f) On) run.state On (place (w.back, returned g.states (kept_at w.split w.state) h.state) m.0) waits
-      (turn_here words text h (w ∷ waits) run (Exit f) es refl) run.run
+      subst (λ z. Leads entries text (Exit f) On (w ∷ waits) z) m.2
+      (moved_on entries text (spot_lines names g.policy g.main (Exit f) On) run.state On (landing (w.back, returned g.states (kept_at w.split w.state) h.state) m.0) waits
+      (turn_here entries text h (w ∷ waits) run (Exit f) es refl) run.run
       (return_step names g t plan right laid has held holds run.state h w waits f x.0 m.0 run.sits es x.1 m.1))
-  end_leads words text h waits run f _ n es e = absurd (none-some n e)
+  end_leads entries text h waits run f _ n es e = absurd (none-some n e)
 
   -- A move that is found leads on.
-  pub leads_on : (words : List Move) (text : List ℕ) (h : Here) (waits : List Wait) → IsRun words text h waits → (spot : Spot) (by : Move) (n : Next)
-      → slice_get g.spots h.pos ≡ Some spot → weavers_in (Some spot) ≡ false → next_of g t h waits spot by ≡ Some n → Leads words text spot by waits n
-  leads_on words text h waits run (CallSpot j f n2) by n es env e = call_leads_to words text h waits run false j f n2 by n es e
-  leads_on words text h waits run (SplitCall j f n2) by n es env e = call_leads_to words text h waits run true j f n2 by n es e
-  leads_on words text h waits run (Exit f) by n es env e = end_leads words text h waits run f by n es e
-  leads_on words text h waits run (AskedSpot j i a) by n es env e = asked_leads words text h waits run j i a by n es (resumed g h.pos h.state) refl e
-  leads_on words text h waits run (VisitSpot j i a) by n es env e = cc
-  leads_on words text h waits run (StepSpot k) by n es env e = inner_leads words text h waits run (StepSpot k) by n es refl refl e
-  leads_on words text h waits run (Branch l r) by n es env e = inner_leads words text h waits run (Branch l r) by n es refl refl e
-  leads_on words text h waits run (LabelSpot j l k) by n es env e = inner_leads words text h waits run (LabelSpot j l k) by n es refl refl e
-  leads_on words text h waits run (OpenSpot j d k) by n es env e = inner_leads words text h waits run (OpenSpot j d k) by n es refl refl e
-  leads_on words text h waits run (CloseSpot j d k) by n es env e = inner_leads words text h waits run (CloseSpot j d k) by n es refl refl e
+  pub leads_on : (entries : List Move) (text : List ℕ) (h : Here) (waits : List Wait) → IsRun entries text h waits → (spot : Spot) (by : Move) (n : Next)
+      → slice_get g.spots h.pos ≡ Some spot → weavers_in (Some spot) ≡ false → next_of g t h waits spot by ≡ Some n → Leads entries text spot by waits n
+  leads_on entries text h waits run (CallSpot j f n2) by n es env e = call_leads_to entries text h waits run false j f n2 by n es e
+  leads_on entries text h waits run (SplitCall j f n2) by n es env e = call_leads_to entries text h waits run true j f n2 by n es e
+  leads_on entries text h waits run (Exit f) by n es env e = end_leads entries text h waits run f by n es e
+  leads_on entries text h waits run (AskedSpot j i a) by n es env e = asked_leads entries text h waits run j i a by n es (resumed g h.pos h.state) refl e
+  leads_on entries text h waits run (VisitSpot j i a) by n es env e = cc
+  leads_on entries text h waits run (StepSpot k) by n es env e = inner_leads entries text h waits run (StepSpot k) by n es refl refl e
+  leads_on entries text h waits run (Branch l r) by n es env e = inner_leads entries text h waits run (Branch l r) by n es refl refl e
+  leads_on entries text h waits run (LabelSpot j l k) by n es env e = inner_leads entries text h waits run (LabelSpot j l k) by n es refl refl e
+  leads_on entries text h waits run (OpenSpot j d k) by n es env e = inner_leads entries text h waits run (OpenSpot j d k) by n es refl refl e
+  leads_on entries text h waits run (CloseSpot j d k) by n es env e = inner_leads entries text h waits run (CloseSpot j d k) by n es refl refl e

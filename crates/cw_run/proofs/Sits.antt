@@ -26,7 +26,7 @@ use Rattle.cw_product.specs.Moves.{pair_of, is_left_in, next_in, next_at}
 use Rattle.cw_trace.specs.Traces.{Names, move_lines, reached_lines}
 use Rattle.cw_trace.specs.Told.{spot_lines, lines_at, label_at}
 use Rattle.cw_trace.proofs.Boards.{moved_on, reached_on}
-use Rattle.cw_run.specs.Walks.{Here, Wait, ret_of, config_of, mems_of, place, mem_after, within}
+use Rattle.cw_run.specs.Walks.{Here, Wait, ret_of, config_of, mems_of, landing, mem_after, within}
 use Rattle.cw_run.proofs.Sees.{Sees, see, means_in, is_inner, below}
 use Rattle.cw_run.proofs.Sees.{board_on, remembered, stays}
 use Rattle.cw_lemmas.proofs.Truths.{or_first as left_of}
@@ -149,7 +149,7 @@ module _ (names : Names) (g : Game) (t : Table) (plan : Plan) (right : AreStates
       (pair : ℕ × ℕ) (m : ℕ) → let b = board_on (frame ∷ frames) kept caps word phase in Together problem g b (config_of h waits)
       → StandsOn (Least g) g (frame ∷ frames) kept caps word phase h.pos h.state (map ret_of waits) → Waiting frames kept waits → slice_get g.spots h.pos ≡ Some spot → is_inner spot ≡ true
       → weavers_in (Some spot) ≡ false → next_at g h.pos h.state by ≡ Some pair
-      → mem_after t h.mem spot by ≡ Some m → Stepped (state_of_board b (mems_of h waits)) by (spot_lines names g.policy g.main spot by) (place pair m) waits
+      → mem_after t h.mem spot by ≡ Some m → Stepped (state_of_board b (mems_of h waits)) by (spot_lines names g.policy g.main spot by) (landing pair m) waits
   inner_on frame frames kept caps word phase h waits by spot pair m goes stands waiting es inner env en em =
       let rets = map ret_of waits in
       let b = board_on (frame ∷ frames) kept caps word phase in
@@ -174,22 +174,22 @@ module _ (names : Names) (g : Game) (t : Table) (plan : Plan) (right : AreStates
           waiting = subst (λ f. Waiting f to.0.kept waits) (sym stay.0) (subst (λ k. Waiting frames k waits) (sym stay.1) waiting);
         };
         acts = told_by b h waits by spot stands es;
-        reaches = arrived to.0 (place pair m) waits to.2;
+        reaches = arrived to.0 (landing pair m) waits to.2;
       }
 
   pub inner_step : (s : State) (h : Here) (waits : List Wait) (by : Move) (spot : Spot) (to : Here) → Sits plan g s h waits → slice_get g.spots h.pos ≡ Some spot → is_inner spot ≡ true
       → weavers_in (Some spot) ≡ false → within g t h spot by ≡ Some to → Stepped s by (spot_lines names g.policy g.main spot by) to waits
   inner_step s h waits by spot to sits es inner env e =
-      let one = chained (λ (pair : ℕ × ℕ). option_map (place pair) (mem_after t h.mem spot by)) (next_at g h.pos h.state by) to e in
-      let two = mapped (place one.0) (mem_after t h.mem spot by) to one.2 in
+      let one = chained (λ (pair : ℕ × ℕ). option_map (landing pair) (mem_after t h.mem spot by)) (next_at g h.pos h.state by) to e in
+      let two = mapped (landing one.0) (mem_after t h.mem spot by) to one.2 in
       subst (λ z. Stepped s by (spot_lines names g.policy g.main spot by) z waits) two.2
-      (subst (λ ms. Stepped (state_of_board s.board ms) by (spot_lines names g.policy g.main spot by) (place one.0 two.0) waits) (sym sits.mems)
+      (subst (λ ms. Stepped (state_of_board s.board ms) by (spot_lines names g.policy g.main spot by) (landing one.0 two.0) waits) (sym sits.mems)
       (on s.board.stack s.board.kept s.board.caps s.board.word s.board.phase one.0 two.0 sits.goes sits.stands sits.waiting one.1 two.1))
     where
       on : (stack : List Frame) (kept : List (Option Caps)) (caps : Caps) (word : Word) (phase : Phase) (pair : ℕ × ℕ) (m : ℕ)
           → Together problem g (board_on stack kept caps word phase) (config_of h waits) → StandsOn (Least g) g stack kept caps word phase h.pos h.state (map ret_of waits)
           → Waiting (below stack) kept waits → next_at g h.pos h.state by ≡ Some pair
           → mem_after t h.mem spot by ≡ Some m
-          → Stepped (state_of_board (board_on stack kept caps word phase) (mems_of h waits)) by (spot_lines names g.policy g.main spot by) (place pair m) waits
+          → Stepped (state_of_board (board_on stack kept caps word phase) (mems_of h waits)) by (spot_lines names g.policy g.main spot by) (landing pair m) waits
       on [] kept caps word phase pair m goes stands waiting en em = absurd stands
       on (frame ∷ frames) kept caps word phase pair m goes stands waiting en em = inner_on frame frames kept caps word phase h waits by spot pair m goes stands waiting es inner env en em

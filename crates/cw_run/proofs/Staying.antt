@@ -8,12 +8,12 @@ use Rattle.cw_game.specs.declared.spots.Spot.{Spot}
 use Rattle.cw_game.specs.declared.spots.Spot.TheVariants.{Step, Branch}
 use Rattle.cw_game.specs.Games.{Game}
 use Rattle.cw_product.specs.Moves.{next_in}
-use Rattle.cw_run.specs.Walks.{Here, Next, To, mem_after, next_of, place, branched_to, stepped_to, to_if}
+use Rattle.cw_run.specs.Walks.{Here, Next, To, mem_after, next_of, landing, branched_to, stepped_to, to_if}
 
 module _ (g : Game) (t : Table) (h : Here) where
   -- where a move leads where this stands
   abbrev next_with : Spot → Move → Option Spot → Option Next
-  next_with s by o = option_map To (option_and_then (λ pair. option_map (place pair) (mem_after t h.mem s by)) (next_in g h.pos h.state o by))
+  next_with s by o = option_map To (option_and_then (λ pair. option_map (landing pair) (mem_after t h.mem s by)) (next_in g h.pos h.state o by))
 
   step_moves : (n : ℕ) (by : Move) → next_with (Step n) by (Some (Step n)) ≡ to_if (stepped_to n h by)
   step_moves n Skip = refl

@@ -18,8 +18,8 @@ use Rattle.cw_trace.specs.Traces.{Names}
 use Rattle.cw_trace.specs.Told.{lines_at, label_at}
 use Rattle.cw_run.specs.declared.walk.Here.{Here as HereData}
 use Rattle.cw_run.specs.declared.walk.CallAt.{CallAt}
-use Rattle.cw_run.specs.declared.run.Place.{Place as PlaceData}
-use Rattle.cw_run.specs.declared.run.Place.TheVariants as place_data
+use Rattle.cw_run.specs.declared.run.Landing.{Landing as LandingData}
+use Rattle.cw_run.specs.declared.run.Landing.TheVariants as landing_data
 use Rattle.cw_run.specs.declared.walk.Wait.{Wait as WaitData}
 use Rattle.cw_run.specs.declared.walk.Next.{Next as NextData}
 use Rattle.cw_run.specs.declared.walk.Next.TheVariants as next_data
@@ -54,8 +54,8 @@ config_of h waits = at_pair h.pos h.state (map ret_of waits)
 abbrev pub mems_of : Here → List Wait → List ℕ
 mems_of h waits = h.mem ∷ map (λ w. w.mem) waits
 
-abbrev pub place : ℕ × ℕ → ℕ → Here
-place pair m = record { pos = pair.0; state = pair.1; mem = m }
+abbrev pub landing : ℕ × ℕ → ℕ → Here
+landing pair m = record { pos = pair.0; state = pair.1; mem = m }
 
 -- the memory after a move within a function, where the table has it
 abbrev pub mem_after : Table → ℕ → Spot → Move → Option ℕ
@@ -70,7 +70,7 @@ mem_after t m _ by = None
 
 -- where a move leads within a function, if the game and the table have it
 abbrev pub within : Game → Table → Here → Spot → Move → Option Here
-within g t h s by = option_and_then (λ pair. option_map (place pair) (mem_after t h.mem s by)) (next_at g h.pos h.state by)
+within g t h s by = option_and_then (λ pair. option_map (landing pair) (mem_after t h.mem s by)) (next_at g h.pos h.state by)
 
 -- What a move leads to: on in the same frame, into a function, back to its caller, the end of the program; and after a refusal that a stop can
 -- answer, on or the stop.
@@ -84,7 +84,7 @@ pub data Next : Type 0 where
 
 abbrev pub called : Game → Table → Here → (seam function back : ℕ) → Bool → Move → Option Next
 called g t h seam f back split On =
-    option_map (λ m. Into (place (g.entry f, h.state) m) (record { seam = seam; split = split; back = back; state = h.state; mem = h.mem }))
+    option_map (λ m. Into (landing (g.entry f, h.state) m) (record { seam = seam; split = split; back = back; state = h.state; mem = h.mem }))
     (option_and_then (λ r. mem_in t r.callee) (into_at t seam split h.mem))
 called g t h seam f back split _ = None
 
@@ -96,7 +96,7 @@ first_of (w ∷ waits) = Some w
 abbrev pub returning : Game → Table → Here → Option Wait → Option Next
 returning g t h None = Some Over
 returning g t h (Some w) =
-    option_and_then (λ exit. option_map (λ m. Back (place (w.back, returned g.states (kept_at w.split w.state) h.state) m))
+    option_and_then (λ exit. option_map (λ m. Back (landing (w.back, returned g.states (kept_at w.split w.state) h.state) m))
     (option_and_then (λ r. mem_in t r.after) (back_at t w.seam w.split w.mem exit)))
     (state_of t h.mem)
 
@@ -107,7 +107,7 @@ ended g t h waits _ = None
 -- after a refusal that a stop can answer: the row has a memory with which to go on, or the weaver stops
 abbrev pub going_on : Table → (seam : ℕ) → ℕ × ℕ → Option MemId → Option Next
 going_on t seam pair None = Some (Stopped seam)
-going_on t seam pair (Some m) = option_map (λ n. Resumed (place pair n)) (mem_in t m)
+going_on t seam pair (Some m) = option_map (λ n. Resumed (landing pair n)) (mem_in t m)
 
 abbrev pub refusing : Table → (seam : ℕ) → ℕ × ℕ → Option TryRow → Option Next
 refusing t seam pair row = option_and_then (λ r. going_on t seam pair r.refused) row
@@ -153,13 +153,13 @@ abbrev pub to_if : Option Here → Option Next
 to_if to = option_map To to
 
 -- where the run goes on after a move: the new place, and the calls that wait
-abbrev pub place_of : Next → Option Here
-place_of (To h) = Some h
-place_of (Into h w) = Some h
-place_of (Back h) = Some h
-place_of Over = None
-place_of (Resumed h) = Some h
-place_of (Stopped seam) = None
+abbrev pub landing_of : Next → Option Here
+landing_of (To h) = Some h
+landing_of (Into h w) = Some h
+landing_of (Back h) = Some h
+landing_of Over = None
+landing_of (Resumed h) = Some h
+landing_of (Stopped seam) = None
 
 abbrev pub without_first : List Wait → List Wait
 without_first [] = []
@@ -185,7 +185,7 @@ asked_memory t m seam stage Grant = option_and_then (λ r. option_and_then (mem_
 asked_memory t m seam stage Refuse = refused_with t (try_at t seam stage m)
 asked_memory t m seam stage _ = None
 
--- how many calls begin to wait: none, or one; and how many may by a word, and by the words of a tape
+-- how many calls begin to wait: none, or one; and how many may by an entry, and by the entries of a tape
 abbrev pub entered : Next → ℕ
 entered (Into h w) = 1
 entered _ = 0
@@ -254,9 +254,9 @@ pub record Arrives (names : Names) (g : Game) (t : Table) (held : ℕ → Caps) 
   pub told : new ≡ old ++ own (label_at names g.policy (held to.state) (slice_get g.spots here.pos))
 
 -- Where the run is: at a place, or over.
-abbrev pub place_in : PlaceData → Option Here
-place_in (place_data.At h) = Some (here_of h)
-place_in place_data.Over = None
+abbrev pub landing_in : LandingData → Option Here
+landing_in (landing_data.At h) = Some (here_of h)
+landing_in landing_data.Over = None
 
 -- what was told, and the stop after it
 abbrev pub with_stop : (List ℕ → List ℕ) → List ℕ → Next → List ℕ
@@ -270,25 +270,25 @@ LandsAt names g t held own n None None old new = new ≡ with_stop own old n
 LandsAt names g t held own n _ _ old new = ⊥
 
 -- What the run is after a move that leads somewhere.
-pub record Goes (names : Names) (g : Game) (t : Table) (held : ℕ → Caps) (own : List ℕ → List ℕ) (n : Next) (waits waits2 : List Wait) (place : Option Here) (old new : List ℕ) : Type 0 where
+pub record Goes (names : Names) (g : Game) (t : Table) (held : ℕ → Caps) (own : List ℕ → List ℕ) (n : Next) (waits waits2 : List Wait) (landing : Option Here) (old new : List ℕ) : Type 0 where
   pub waiting : waits2 ≡ waits_after n waits
-  pub lands : LandsAt names g t held own n (place_of n) place old new
+  pub lands : LandsAt names g t held own n (landing_of n) landing old new
 
 -- where a move leads from here
 abbrev pub next_here : Game → Table → Here → List Wait → Move → Option Next
 next_here g t h waits by = option_and_then (λ s. next_of g t h waits s by) (slice_get g.spots h.pos)
 
 -- An answer of the environment at a place: it is a move there, and the run goes on by it; or it is none.
-abbrev pub Answered : Names → Game → Table → (ℕ → Caps) → (List ℕ → List ℕ) → Here → Move → Option PlaceData → List Wait → List Wait → List ℕ → List ℕ → Type 0
+abbrev pub Answered : Names → Game → Table → (ℕ → Caps) → (List ℕ → List ℕ) → Here → Move → Option LandingData → List Wait → List Wait → List ℕ → List ℕ → Type 0
 Answered names g t held own h by None waits waits2 old new = (next_here g t h waits by ≡ None) × (new ≡ old)
-Answered names g t held own h by (Some place) waits waits2 old new =
+Answered names g t held own h by (Some landing) waits waits2 old new =
     (n : Next) × (next_here g t h waits by ≡ Some n)
-    × Goes names g t held own n waits waits2 (place_in place) (old ++ own (lines_at names g.policy g.main (slice_get g.spots h.pos) by)) new
+    × Goes names g t held own n waits waits2 (landing_in landing) (old ++ own (lines_at names g.policy g.main (slice_get g.spots h.pos) by)) new
 
-abbrev pub IsPlace : Game → Option Here → Type 0
-IsPlace g None = Unit {0}
-IsPlace g (Some h) = IsHere g h
+abbrev pub IsLanding : Game → Option Here → Type 0
+IsLanding g None = Unit {0}
+IsLanding g (Some h) = IsHere g h
 
 -- where a run starts: at the entry of `main`, with the start's state and memory
 abbrev pub start_here : Game → Table → Here
-start_here g t = place (g.entry g.main, g.states.start) t.start.0
+start_here g t = landing (g.entry g.main, g.states.start) t.start.0

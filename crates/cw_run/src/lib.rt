@@ -6,5 +6,5 @@ mod run;
 mod walk;
 
 pub use owned::{put_own_move, put_process};
-pub use run::{Place, RunEnd, begin, land, run_woven};
+pub use run::{Landing, RunEnd, begin, land, run_woven};
 pub use walk::{Here, Next, Wait, lead};

@@ -3,7 +3,7 @@
 ghost use Rattle.std.specs.Prelude.{◌≡◌, ◌++◌};
 ghost use Rattle.cw_rights.specs.Policies.{policy_of};
 ghost use Rattle.cw_io.specs.Written.{Follows};
-ghost use Rattle.cw_trace.specs.Labels.{told};
+ghost use Rattle.cw_trace.specs.Labels.{name_lists};
 ghost use Rattle.cw_trace.specs.Lines.{stop_line};
 ghost use Rattle.cw_trace.specs.Told.{spot_lines, label_lines};
 ghost use Rattle.cw_run.specs.Lines.{lead_of, own_of};
@@ -68,7 +68,7 @@ pub fn put_own_move<S: Sink>(
     out: &mut S,
 )
     requires follows { Follows S.taken S.faults S.refused writer.old out.old }
-    ensures text { writer.new.text ≡ writer.old.text ++ own_of process (spot_lines (told names.now) (policy_of policy.now) main spot by) }
+    ensures text { writer.new.text ≡ writer.old.text ++ own_of process (spot_lines (name_lists names.now) (policy_of policy.now) main spot by) }
     ensures begun { writer.new.begun ≡ writer.old.begun }
     ensures follows { Follows S.taken S.faults S.refused writer.new out.new }
 {
@@ -96,7 +96,7 @@ pub(crate) fn put_own_reached<S: Sink>(
     out: &mut S,
 )
     requires follows { Follows S.taken S.faults S.refused writer.old out.old }
-    ensures text { writer.new.text ≡ writer.old.text ++ own_of process (label_lines (told names.now) (policy_of policy.now) caps.now spot) }
+    ensures text { writer.new.text ≡ writer.old.text ++ own_of process (label_lines (name_lists names.now) (policy_of policy.now) caps.now spot) }
     ensures begun { writer.new.begun ≡ writer.old.begun }
     ensures follows { Follows S.taken S.faults S.refused writer.new out.new }
 {

@@ -17,10 +17,10 @@ ghost use Rattle.cw_product.specs.Uses.{uses_of};
 ghost use Rattle.cw_model.specs.Boards.{problem_of};
 ghost use Rattle.cw_game.specs.Conditions.{IsGoodTable};
 ghost use Rattle.cw_io.specs.Written.{Follows};
-ghost use Rattle.cw_trace.specs.Labels.{told, names_of as trace_names_of};
+ghost use Rattle.cw_trace.specs.Labels.{name_lists, names_of as trace_names_of};
 ghost use Rattle.cw_run.specs.Woven.{end_of, Tells};
 ghost use Rattle.cw_run.specs.Lines.{own_of};
-ghost use Rattle.cw_run.specs.Walks.{here_of, wait_of, next_is, innermost, entered, enters, entries, is_on, IsHere, IsWait, IsNextIn, IsPlace, Arrives, LandsAt, Answered, place_in, place_of, waits_after, start_here, without_first, first_of};
+ghost use Rattle.cw_run.specs.Walks.{here_of, wait_of, next_is, innermost, entered, enters, entries, is_on, IsHere, IsWait, IsNextIn, IsLanding, Arrives, LandsAt, Answered, landing_in, landing_of, waits_after, start_here, without_first, first_of};
 ghost use Rattle.cw_game.specs.Games.{Game as GameOf};
 
 use crate::owned::{put_own_move, put_own_reached, put_own_stop};
@@ -40,18 +40,18 @@ pub enum RunEnd {
     Ended,
     /// The tape ends before that.
     TapeSpent,
-    /// The word with this number, from 0, is no move of the board there.
+    /// The entry with this number, from 0, is no move of the board there.
     BadMove(u32),
 }
 
-/// Whether a word can enter a function.
+/// Whether an entry can enter a function.
 fn is_on(by: Move) -> bool
     ensures { result ≡ is_on by }
 {
     matches!(by, Move::On)
 }
 
-/// How many words of a tape can enter a function.
+/// How many entries of a tape can enter a function.
 fn entries(tape: &[Move]) -> usize
     ensures { result ≡ entries tape.now }
 {
@@ -71,7 +71,7 @@ fn arrive<S: Sink>(
 ) -> Here
     requires here { IsHere (game_of game.now) (here_of to) }
     requires follows { Follows S.taken S.faults S.refused writer.old out.old }
-    ensures arrives { Arrives (told names.now) (game_of game.now) table.now (caps_at (lists_of game.now.states)) (own_of process) (here_of to) (here_of result) writer.old.text writer.new.text }
+    ensures arrives { Arrives (name_lists names.now) (game_of game.now) table.now (caps_at (lists_of game.now.states)) (own_of process) (here_of to) (here_of result) writer.old.text writer.new.text }
     ensures range { IsHere (game_of game.now) (here_of result) }
     ensures begun { writer.new.begun ≡ writer.old.begun }
     ensures follows { Follows S.taken S.faults S.refused writer.new out.new }
@@ -95,7 +95,7 @@ fn arrive<S: Sink>(
 
 /// Where a run is.
 #[derive(Clone, Copy, Drop)]
-pub enum Place {
+pub enum Landing {
     /// In a function.
     At(Here),
     /// All is over.
@@ -112,7 +112,7 @@ pub fn begin<S: Sink>(
     out: &mut S,
 ) -> Here
     requires follows { Follows S.taken S.faults S.refused writer.old out.old }
-    ensures arrives { Arrives (told names.now) (game_of game.now) table.now (caps_at (lists_of game.now.states)) (own_of process) (start_here (game_of game.now) table.now) (here_of result) writer.old.text writer.new.text }
+    ensures arrives { Arrives (name_lists names.now) (game_of game.now) table.now (caps_at (lists_of game.now.states)) (own_of process) (start_here (game_of game.now) table.now) (here_of result) writer.old.text writer.new.text }
     ensures range { IsHere (game_of game.now) (here_of result) }
     ensures begun { writer.new.begun ≡ writer.old.begun }
     ensures follows { Follows S.taken S.faults S.refused writer.new out.new }
@@ -159,22 +159,22 @@ pub fn land<S: Sink>(
     next: Next,
     writer: &mut Writer<S>,
     out: &mut S,
-) -> Place
+) -> Landing
     requires next { IsNextIn (game_of game.now) (next_is next) }
     requires follows { Follows S.taken S.faults S.refused writer.old out.old }
-    ensures lands { LandsAt (told names.now) (game_of game.now) table.now (caps_at (lists_of game.now.states)) (own_of process) (next_is next) (place_of (next_is next)) (place_in result) writer.old.text writer.new.text }
-    ensures range { IsPlace (game_of game.now) (place_in result) }
+    ensures lands { LandsAt (name_lists names.now) (game_of game.now) table.now (caps_at (lists_of game.now.states)) (own_of process) (next_is next) (landing_of (next_is next)) (landing_in result) writer.old.text writer.new.text }
+    ensures range { IsLanding (game_of game.now) (landing_in result) }
     ensures begun { writer.new.begun ≡ writer.old.begun }
     ensures follows { Follows S.taken S.faults S.refused writer.new out.new }
 {
     match next {
         Next::To(to) | Next::Into(to, _) | Next::Back(to) | Next::Resumed(to) => {
-            Place::At(arrive(game, table, names, process, to, writer, out))
+            Landing::At(arrive(game, table, names, process, to, writer, out))
         }
-        Next::Over => Place::Over,
+        Next::Over => Landing::Over,
         Next::Stopped(seam) => {
             put_own_stop(process, seam, writer, out);
-            Place::Over
+            Landing::Over
         }
     }
 }
@@ -203,7 +203,7 @@ fn last_call(waits: &[Wait]) -> Option<Wait>
     waits.last().copied()
 }
 
-/// One word of the tape: where the run is after it, or none where it is no move here.
+/// One entry of the tape: where the run is after it, or none where it is no move here.
 fn answer<S: Sink>(
     game: &Game,
     table: &WeaverCert,
@@ -213,13 +213,13 @@ fn answer<S: Sink>(
     by: Move,
     writer: &mut Writer<S>,
     out: &mut S,
-) -> Option<Place>
+) -> Option<Landing>
     requires here { IsHere (game_of game.now) (here_of here) }
     requires waits { All (λ w. IsWait (game_of game.now) (wait_of w)) waits.old.items }
     requires room { vec_len waits.old + enters by ≤ vec_capacity waits.old }
     requires follows { Follows S.taken S.faults S.refused writer.old out.old }
-    ensures answered { Answered (told names.now) (game_of game.now) table.now (caps_at (lists_of game.now.states)) (own_of None) (here_of here) by result (innermost waits.old.items) (innermost waits.new.items) writer.old.text writer.new.text }
-    ensures range { IfSome result (λ place. IsPlace (game_of game.now) (place_in place)) }
+    ensures answered { Answered (name_lists names.now) (game_of game.now) table.now (caps_at (lists_of game.now.states)) (own_of None) (here_of here) by result (innermost waits.old.items) (innermost waits.new.items) writer.old.text writer.new.text }
+    ensures range { IfSome result (λ landing. IsLanding (game_of game.now) (landing_in landing)) }
     ensures waits { All (λ w. IsWait (game_of game.now) (wait_of w)) waits.new.items }
     ensures length { vec_len waits.new ≤ vec_len waits.old + enters by }
     ensures capacity { vec_capacity waits.new ≡ vec_capacity waits.old }
@@ -250,7 +250,7 @@ fn answer<S: Sink>(
 /// is appended.
 ///
 /// `Ended` comes exactly where all is over as the tape ends, `TapeSpent` where the tape ends before that, and `BadMove` with the number of
-/// the first word that is no move of the board. The game is one that was made for the program's graph and the policy, and the table meets the conditions of tables.
+/// the first entry that is no move of the board. The game is one that was made for the program's graph and the policy, and the table meets the conditions of tables.
 /// What takes memory, the names and the list of calls that wait, is made before the first byte is put: where memory is wanting nothing was appended.
 pub fn run_woven<S: Sink>(
     alloc: Global,
@@ -279,20 +279,20 @@ pub fn run_woven<S: Sink>(
 {
     let names = trace_names(alloc, checked, game.graph())?;
     let mut waits = Vec::with_capacity(alloc, entries(tape))?;
-    let mut place = Place::At(begin(game, table, &names, None, writer, out));
+    let mut landing = Landing::At(begin(game, table, &names, None, writer, out));
     for i in 0..tape.len() {
-        match place {
-            Place::Over => return Ok(RunEnd::BadMove(i as u32)),
-            Place::At(here) => {
+        match landing {
+            Landing::Over => return Ok(RunEnd::BadMove(i as u32)),
+            Landing::At(here) => {
                 match answer(game, table, &names, here, &mut waits, tape[i], writer, out) {
-                    Some(next) => place = next,
+                    Some(next) => landing = next,
                     None => return Ok(RunEnd::BadMove(i as u32)),
                 }
             }
         }
     }
-    match place {
-        Place::At(_) => Ok(RunEnd::TapeSpent),
-        Place::Over => Ok(RunEnd::Ended),
+    match landing {
+        Landing::At(_) => Ok(RunEnd::TapeSpent),
+        Landing::Over => Ok(RunEnd::Ended),
     }
 }

@@ -275,7 +275,7 @@ fn asked(
 
 /// The same place at another position.
 #[inline(always)]
-fn place_at(here: Here, pos: u32) -> Here
+fn landing_at(here: Here, pos: u32) -> Here
     ensures { here_of result ≡ at_pos pos (here_of here) }
 {
     Here {
@@ -304,7 +304,7 @@ fn behind_step(here: Here, next: u32, by: Move) -> Option<Here>
     ensures range { (g : GameOf) → IsHere g (here_of here) → IsPosition g next → IfSome result (λ to. IsHere g (here_of to)) }
 {
     match by {
-        Move::On => Some(place_at(here, next)),
+        Move::On => Some(landing_at(here, next)),
         Move::Skip | Move::Try | Move::Grant | Move::Refuse | Move::Left => None,
         Move::Right | Move::Opened | Move::Failed | Move::Stop => None,
     }
@@ -317,8 +317,8 @@ fn behind_branch(here: Here, left: u32, right: u32, by: Move) -> Option<Here>
     ensures range { (g : GameOf) → IsHere g (here_of here) → IsPosition g left → IsPosition g right → IfSome result (λ to. IsHere g (here_of to)) }
 {
     match by {
-        Move::Left => Some(place_at(here, left)),
-        Move::Right => Some(place_at(here, right)),
+        Move::Left => Some(landing_at(here, left)),
+        Move::Right => Some(landing_at(here, right)),
         Move::Skip | Move::Try | Move::Grant | Move::Refuse => None,
         Move::On | Move::Opened | Move::Failed | Move::Stop => None,
     }

@@ -51,11 +51,11 @@ abbrev pub IsSampleFault : ℕ → SampleFault → Type 0
 IsSampleFault n OutOfRange = (n ≡ 0) ⊎ (400 < n)
 IsSampleFault n NoMemory = HasSample n
 
--- the number from 1 to the last whose decimal, without leading zeros, a word is
-unfoldable pub number_up_to : (last : ℕ) → (word : List ℕ) → Option ℕ
-number_up_to zero word = None
-number_up_to (suc n) word = if bytes_eq word (decimal (suc n)) then Some (suc n) else number_up_to n word
+-- the number from 1 to the last whose decimal, without leading zeros, an argument is
+unfoldable pub number_up_to : (last : ℕ) → (argument : List ℕ) → Option ℕ
+number_up_to zero argument = None
+number_up_to (suc n) argument = if bytes_eq argument (decimal (suc n)) then Some (suc n) else number_up_to n argument
 
--- the number of a sample that a word tells
-abbrev pub sample_number : (word : List ℕ) → Option ℕ
-sample_number word = number_up_to 400 word
+-- the number of a sample that an argument tells
+abbrev pub sample_number : (argument : List ℕ) → Option ℕ
+sample_number argument = number_up_to 400 argument

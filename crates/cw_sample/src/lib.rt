@@ -1,8 +1,8 @@
 //! A policy and a source of any size, made from a number: functions that call one another in a ring.
 #![tactic(auto)]
 
+mod argument;
 mod sample;
-mod word;
 
+pub use argument::sample_number;
 pub use sample::{SampleFault, make_sample};
-pub use word::sample_number;

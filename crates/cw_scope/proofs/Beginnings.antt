@@ -18,9 +18,9 @@ first_byte source name some =
     get_or-take (name.to - name.from) (drop name.from source) 0 0 before ∙ get_or-drop name.from source 0 0 ∙ ap (λ i. slice_index source i) place
 
 -- a name that begins as none of the functions'
-pub unfound : (source : List ℕ) (functions : List Definition) (marks : List Bool) (name : Name) → Begin source functions marks → name.from < name.to
-    → slice_index_or marks (slice_index source name.from) false ≡ false → find (λ f. bytes_eq (text source name) (text source f.name)) functions ≡ None
-unfound source functions marks name begin some unmarked = begin (text source name) (ap (λ byte. slice_index_or marks byte false) (first_byte source name some) ∙ unmarked)
+pub unfound : (source : List ℕ) (functions : List Definition) (flags : List Bool) (name : Name) → Begin source functions flags → name.from < name.to
+    → slice_index_or flags (slice_index source name.from) false ≡ false → find (λ f. bytes_eq (text source name) (text source f.name)) functions ≡ None
+unfound source functions flags name begin some unmarked = begin (text source name) (ap (λ byte. slice_index_or flags byte false) (first_byte source name some) ∙ unmarked)
 
 -- a text that is shorter than another
 shorter : (t other : List ℕ) → length t < length other → bytes_eq t other ≡ false

@@ -46,16 +46,16 @@ one_more source f fs i key old new short is at updates rest name =
     one_before source f (drop (i + 1) fs) key old new at updates rest name
     ∙ ap (λ l. find (λ g. bytes_eq name.now (text source g.name)) (map definition_of l)) (sym (drop_item fs i f.now short is))
 
--- the marks with that of the first function's name
-pub begin_before : (source : List ℕ) (f : Function) (fs : List Function) (byte : ℕ) (marks : List Bool) → byte ≡ get_or (text source f.name) 0 0 → byte < length marks
-    → Begin source (map definition_of fs) marks → Begin source (map definition_of (f ∷ fs)) (set marks byte true)
-begin_before source f fs byte marks is within rest name out =
+-- the flags with that of the first function's name
+pub begin_before : (source : List ℕ) (f : Function) (fs : List Function) (byte : ℕ) (flags : List Bool) → byte ≡ get_or (text source f.name) 0 0 → byte < length flags
+    → Begin source (map definition_of fs) flags → Begin source (map definition_of (f ∷ fs)) (set flags byte true)
+begin_before source f fs byte flags is within rest name out =
     elim (cases_eq (get_or name 0 0) byte) [
       | inl e ↦
-          let on : get_or (set marks byte true) (get_or name 0 0) false ≡ true = rw e (get_or-set_same marks byte true false within) in
+          let on : get_or (set flags byte true) (get_or name 0 0) false ≡ true = rw e (get_or-set_same flags byte true false within) in
           absurd (false≢true (sym out ∙ on))
       | inr ne ↦
-          let unmarked : get_or marks (get_or name 0 0) false ≡ false = sym (get_or-set_other marks byte (get_or name 0 0) true false ne) ∙ out in
+          let unmarked : get_or flags (get_or name 0 0) false ≡ false = sym (get_or-set_other flags byte (get_or name 0 0) true false ne) ∙ out in
           ap (λ b. cond b (Some (definition_of f)) (find (λ g. bytes_eq name (text source g.name)) (map definition_of fs))) (differ ne (bytes_eq name (text source f.name)) refl) ∙ rest name unmarked
     ]
   where
@@ -63,8 +63,8 @@ begin_before source f fs byte marks is within rest name out =
     differ ne true e = absurd (ne (ap (λ z. get_or z 0 0) (same_text name (text source f.name) (sym e)) ∙ sym is))
     differ ne false e = refl
 
--- from an index on, where the next index's functions are marked
-pub begin_more : (source : List ℕ) (f : Function) (fs : List Function) (i byte : ℕ) (marks : List Bool) → i < length fs → get_or fs i f ≡ f
-    → byte ≡ get_or (text source f.name) 0 0 → byte < length marks
-    → Begin source (map definition_of (drop (i + 1) fs)) marks → Begin source (map definition_of (drop i fs)) (set marks byte true)
-begin_more source f fs i byte marks short at is within rest = rw (drop_item fs i f short at) (begin_before source f (drop (i + 1) fs) byte marks is within rest)
+-- from an index on, where the next index's functions are flagged
+pub begin_more : (source : List ℕ) (f : Function) (fs : List Function) (i byte : ℕ) (flags : List Bool) → i < length fs → get_or fs i f ≡ f
+    → byte ≡ get_or (text source f.name) 0 0 → byte < length flags
+    → Begin source (map definition_of (drop (i + 1) fs)) flags → Begin source (map definition_of (drop i fs)) (set flags byte true)
+begin_more source f fs i byte flags short at is within rest = rw (drop_item fs i f short at) (begin_before source f (drop (i + 1) fs) byte flags is within rest)

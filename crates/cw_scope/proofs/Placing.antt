@@ -8,30 +8,30 @@ use Rattle.cw_syntax.specs.declared.program.What.{What}
 use Rattle.cw_syntax.specs.declared.program.What.TheVariants.{Decl as DeclWhat, Expr as ExprWhat, Empty, Break, Continue, Return}
 use Rattle.std.specs.Prelude.{Option}
 use Rattle.cw_syntax.specs.Trees.{form_of, statement_of}
-use Rattle.cw_scope.specs.declared.walks.Placed.{Placed as HeldPlaced}
-use Rattle.cw_scope.specs.Walks.{Placed, placed, placed_within}
-use Rattle.cw_scope.specs.Held.{placed_of}
+use Rattle.cw_scope.specs.declared.walks.Nested.{Nested as HeldNested}
+use Rattle.cw_scope.specs.Walks.{Nested, nested, nested_within}
+use Rattle.cw_scope.specs.Held.{nested_of}
 use Rattle.cw_scope.proofs.Pushed.{pushed}
 
 -- itself, and then what is in it
-pub with_inner : (looped : Bool) (s : Bor Stmt) (old put : List HeldPlaced) (within : List Placed) → put ≡ old ++ record { statement = s; looped = looped } ∷ []
-    → placed_within looped (form_of (s.now).what) ≡ within → map placed_of put ++ within ≡ map placed_of old ++ placed looped (statement_of s.now)
+pub with_inner : (looped : Bool) (s : Bor Stmt) (old put : List HeldNested) (within : List Nested) → put ≡ old ++ record { statement = s; looped = looped } ∷ []
+    → nested_within looped (form_of (s.now).what) ≡ within → map nested_of put ++ within ≡ map nested_of old ++ nested looped (statement_of s.now)
 with_inner looped s old put within is e =
-    let p : HeldPlaced = record { statement = s; looped = looped } in
-    pushed placed_of old put p within is ∙ ap (λ l. map placed_of old ++ (placed_of p ∷ l)) (sym e)
+    let p : HeldNested = record { statement = s; looped = looped } in
+    pushed nested_of old put p within is ∙ ap (λ l. map nested_of old ++ (nested_of p ∷ l)) (sym e)
 
 -- itself alone
-pub alone : (looped : Bool) (s : Bor Stmt) (old put : List HeldPlaced) → put ≡ old ++ record { statement = s; looped = looped } ∷ []
-    → placed_within looped (form_of (s.now).what) ≡ [] → map placed_of put ≡ map placed_of old ++ placed looped (statement_of s.now)
-alone looped s old put is e = sym (append-nil (map placed_of put)) ∙ with_inner looped s old put [] is e
+pub alone : (looped : Bool) (s : Bor Stmt) (old put : List HeldNested) → put ≡ old ++ record { statement = s; looped = looped } ∷ []
+    → nested_within looped (form_of (s.now).what) ≡ [] → map nested_of put ≡ map nested_of old ++ nested looped (statement_of s.now)
+alone looped s old put is e = sym (append-nil (map nested_of put)) ∙ with_inner looped s old put [] is e
 
 -- statements with none in them
-pub no_inner : (looped : Bool) (w : What) → ((d : Decl) × (w ≡ DeclWhat d)) ⊎ (((e : Expr) × (w ≡ ExprWhat e)) ⊎ (w ≡ Empty)) → placed_within looped (form_of w) ≡ []
-no_inner looped w (inl h) = ap (λ v. placed_within looped (form_of v)) h.1
-no_inner looped w (inr (inl h)) = ap (λ v. placed_within looped (form_of v)) h.1
-no_inner looped w (inr (inr h)) = ap (λ v. placed_within looped (form_of v)) h
+pub no_inner : (looped : Bool) (w : What) → ((d : Decl) × (w ≡ DeclWhat d)) ⊎ (((e : Expr) × (w ≡ ExprWhat e)) ⊎ (w ≡ Empty)) → nested_within looped (form_of w) ≡ []
+no_inner looped w (inl h) = ap (λ v. nested_within looped (form_of v)) h.1
+no_inner looped w (inr (inl h)) = ap (λ v. nested_within looped (form_of v)) h.1
+no_inner looped w (inr (inr h)) = ap (λ v. nested_within looped (form_of v)) h
 
-pub no_inner_jump : (looped : Bool) (w : What) → (w ≡ Break) ⊎ ((w ≡ Continue) ⊎ ((value : Option Expr) × (w ≡ Return value))) → placed_within looped (form_of w) ≡ []
-no_inner_jump looped w (inl h) = ap (λ v. placed_within looped (form_of v)) h
-no_inner_jump looped w (inr (inl h)) = ap (λ v. placed_within looped (form_of v)) h
-no_inner_jump looped w (inr (inr h)) = ap (λ v. placed_within looped (form_of v)) h.1
+pub no_inner_jump : (looped : Bool) (w : What) → (w ≡ Break) ⊎ ((w ≡ Continue) ⊎ ((value : Option Expr) × (w ≡ Return value))) → nested_within looped (form_of w) ≡ []
+no_inner_jump looped w (inl h) = ap (λ v. nested_within looped (form_of v)) h
+no_inner_jump looped w (inr (inl h)) = ap (λ v. nested_within looped (form_of v)) h
+no_inner_jump looped w (inr (inr h)) = ap (λ v. nested_within looped (form_of v)) h.1

@@ -10,7 +10,7 @@ use Rattle.cw_syntax.proofs.Shapes.{node_is, block_form}
 use Rattle.std.specs.Prelude.{Bool, true, false, not, ◌&&◌, None}
 use Rattle.cw_scope.specs.Rules.{is_jump, loose_jump, at_if}
 use Rattle.cw_scope.specs.Names.{names_in, init_names, label_in, label_of}
-use Rattle.cw_scope.specs.Walks.{nodes, nodes_in, placed, placed_within, placed_all, init_trees_in, init_trees}
+use Rattle.cw_scope.specs.Walks.{nodes, nodes_in, nested, nested_within, nested_all, init_trees_in, init_trees}
 
 pub nodes_of : (e : Expr) → nodes (tree_of e) ≡ tree_of e ∷ nodes_in (trees_of (out-Expr e).parts.items)
 nodes_of e =
@@ -18,15 +18,15 @@ nodes_of e =
     ap nodes (node_is e) ∙ ap (λ t. t ∷ parts) (sym (node_is e))
 
 -- a block, by its statements
-pub block_placed : (looped : Bool) (w : What) (v : Vec Stmt Global) → w ≡ Block v → placed_within looped (form_of w) ≡ placed_all looped (statements_of v.items)
-block_placed looped w v e = ap (placed_within looped) (block_form w v e)
+pub block_nested : (looped : Bool) (w : What) (v : Vec Stmt Global) → w ≡ Block v → nested_within looped (form_of w) ≡ nested_all looped (statements_of v.items)
+block_nested looped w v e = ap (nested_within looped) (block_form w v e)
 
 -- a `for`, by its body
-placed_for : (looped : Bool) (h : Head) (body : Statement) → placed_within looped (for_of h body) ≡ placed true body
-placed_for looped (Head' init test step) body = refl
+nested_for : (looped : Bool) (h : Head) (body : Statement) → nested_within looped (for_of h body) ≡ nested true body
+nested_for looped (Head' init test step) body = refl
 
-pub for_placed : (looped : Bool) (w : What) (h : Box Head Global) (b : Box Stmt Global) → w ≡ For h b → placed_within looped (form_of w) ≡ placed true (statement_of b.value)
-for_placed looped w h b e = ap (λ w. placed_within looped (form_of w)) e ∙ placed_for looped h.value (statement_of b.value)
+pub for_nested : (looped : Bool) (w : What) (h : Box Head Global) (b : Box Stmt Global) → w ≡ For h b → nested_within looped (form_of w) ≡ nested true (statement_of b.value)
+for_nested looped w h b e = ap (λ w. nested_within looped (form_of w)) e ∙ nested_for looped h.value (statement_of b.value)
 
 for_init : (h : Head) (body : Statement) → init_trees_in (for_of h body) ≡ []
 for_init (Head' init test step) body = refl

@@ -7,7 +7,7 @@ use Rattle.cw_syntax.specs.declared.program.Name.{Name}
 use Rattle.cw_syntax.specs.Trees.{Tree, File}
 use Rattle.cw_scope.specs.declared.faults.ScopeFault.{ScopeFault}
 use Rattle.cw_scope.specs.declared.faults.ScopeFault.TheVariants.{NoMain, TwoFunctions, TwoLabels, Arity, CallForm, MainCalled, Reserved, Jump, Limit, NoMemory}
-use Rattle.cw_scope.specs.Walks.{Placed, every_statement, Whole, every_whole, every_node}
+use Rattle.cw_scope.specs.Walks.{Nested, every_statement, Whole, every_whole, every_node}
 use Rattle.cw_scope.specs.Names.{uses, every_name, every_label}
 use Rattle.cw_scope.specs.Rules.{different, has_main, second_function, second_label, wrong_arity, function_name, wrong_form, main_call, reserved, loose_jump}
 use Rattle.cw_resolve.specs.Soonest.{sooner, soonest}
@@ -34,7 +34,7 @@ main_called source nodes = option_map MainCalled (soonest (map (main_call source
 unfoldable pub reserved_name : List ℕ → List Name → Option ScopeFault
 reserved_name source names = option_map Reserved (soonest (map (reserved source) names))
 
-unfoldable pub jump : List Placed → Option ScopeFault
+unfoldable pub jump : List Nested → Option ScopeFault
 jump statements = option_map Jump (soonest (map (λ p. loose_jump p.looped p.statement) statements))
 
 -- no more functions, and no more different names of labels, than a source may have

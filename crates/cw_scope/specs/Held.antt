@@ -4,15 +4,15 @@ use Rattle.std.specs.Option.{option_map}
 use Rattle.std.specs.Borrow.{Bor}
 use Rattle.cw_syntax.specs.declared.program.Expr.{Expr}
 use Rattle.cw_syntax.specs.Trees.{Tree, tree_of, statement_of, perhaps_of}
-use Rattle.cw_scope.specs.declared.walks.Placed.{Placed as HeldPlaced}
+use Rattle.cw_scope.specs.declared.walks.Nested.{Nested as HeldNested}
 use Rattle.cw_scope.specs.declared.walks.Whole.{Whole as HeldWhole}
 use Rattle.cw_syntax.specs.declared.program.Head.{Head, out-Head}
 use Rattle.cw_scope.specs.declared.entries.Entry.{Entry as HeldEntry}
-use Rattle.cw_scope.specs.Walks.{Placed, Whole, given, init_trees}
+use Rattle.cw_scope.specs.Walks.{Nested, Whole, given, init_trees}
 use Rattle.cw_scope.specs.Descriptors.{Entry}
 
-abbrev pub placed_of : HeldPlaced → Placed
-placed_of p = record { statement = statement_of p.statement.now; looped = p.looped }
+abbrev pub nested_of : HeldNested → Nested
+nested_of p = record { statement = statement_of p.statement.now; looped = p.looped }
 
 abbrev pub whole_of : HeldWhole → Whole
 whole_of w = record { tree = tree_of w.tree.now; stands = w.stands }

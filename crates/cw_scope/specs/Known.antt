@@ -15,9 +15,9 @@ abbrev pub AreFirst : List ℕ → List Definition → List (Bor (List ℕ) × B
 AreFirst source functions entries =
     (name : Bor (List ℕ)) → option_map (λ f. definition_of f.now) (lookup (λ k. bytes_eq name.now k.now) entries) ≡ find (λ f. bytes_eq name.now (text source f.name)) functions
 
--- No function has a name that begins with a byte which isn't marked.
+-- No function has a name that begins with a byte which isn't flagged.
 abbrev pub Begin : List ℕ → List Definition → List Bool → Type 0
-Begin source functions marks = (name : List ℕ) → slice_index_or marks (slice_index name 0) false ≡ false → find (λ f. bytes_eq name (text source f.name)) functions ≡ None
+Begin source functions flags = (name : List ℕ) → slice_index_or flags (slice_index name 0) false ≡ false → find (λ f. bytes_eq name (text source f.name)) functions ≡ None
 
 pub record IsKnown (known : Functions) : Type 0 where
   pub first : AreFirst known.source.now (file_of known.program.now).functions known.by_name.entries

@@ -5,7 +5,7 @@ use Rattle.cw_syntax.specs.declared.program.Name.{Name}
 use Rattle.cw_syntax.specs.declared.program.Op.TheVariants.{Name as NameOp, Call as CallOp}
 use Rattle.cw_syntax.specs.declared.program.Param.{Param}
 use Rattle.cw_syntax.specs.Trees.{Tree, Node, Declaration, Statement, Stated, Form, Declares, Labels, Fors, Perhaps, nothing, just, File}
-use Rattle.cw_scope.specs.Walks.{Placed, every_statement, every_node}
+use Rattle.cw_scope.specs.Walks.{Nested, every_statement, every_node}
 
 -- the names that a declaration gives
 abbrev pub declared_names : Declaration → List Name
@@ -46,7 +46,7 @@ label_in _ = []
 abbrev pub label_of : Statement → List Name
 label_of (Stated form from to) = label_in form
 
-abbrev pub labels_of : List Placed → List Name
+abbrev pub labels_of : List Nested → List Name
 labels_of ps = flat_map (λ p. label_of p.statement) ps
 
 abbrev pub every_label : File → List Name

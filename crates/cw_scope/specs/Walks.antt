@@ -15,37 +15,37 @@ abbrev mutual
   nodes_in (more t ts) = nodes t ++ nodes_in ts
 
 -- A statement, and whether it stands in a loop.
-pub record Placed : Type 0 where
+pub record Nested : Type 0 where
   pub statement : Statement
   pub looped : Bool
 
 -- A statement and all that are in it, each before those in it, from left to right. The init of a `for` isn't among them.
 abbrev mutual
-  pub placed : Bool → Statement → List Placed
-  placed looped (Stated form from to) = record { statement = Stated form from to; looped = looped } ∷ placed_within looped form
+  pub nested : Bool → Statement → List Nested
+  nested looped (Stated form from to) = record { statement = Stated form from to; looped = looped } ∷ nested_within looped form
 
-  pub placed_within : Bool → Form → List Placed
-  placed_within looped (Block ss) = placed_all looped ss
-  placed_within looped (Labels name mark s) = placed looped s
-  placed_within looped (Chooses test s other) = placed looped s ++ placed_arm looped other
-  placed_within looped (Whiles test s) = placed true s
-  placed_within looped (Does s test) = placed true s
-  placed_within looped (Fors init test step s) = placed true s
-  placed_within looped _ = []
+  pub nested_within : Bool → Form → List Nested
+  nested_within looped (Block ss) = nested_all looped ss
+  nested_within looped (Labels name mark s) = nested looped s
+  nested_within looped (Chooses test s other) = nested looped s ++ nested_arm looped other
+  nested_within looped (Whiles test s) = nested true s
+  nested_within looped (Does s test) = nested true s
+  nested_within looped (Fors init test step s) = nested true s
+  nested_within looped _ = []
 
-  pub placed_arm : Bool → Perhaps → List Placed
-  placed_arm looped nothing = []
-  placed_arm looped (just s) = placed looped s
+  pub nested_arm : Bool → Perhaps → List Nested
+  nested_arm looped nothing = []
+  nested_arm looped (just s) = nested looped s
 
-  pub placed_all : Bool → Statements → List Placed
-  placed_all looped nil = []
-  placed_all looped (cons s ss) = placed looped s ++ placed_all looped ss
+  pub nested_all : Bool → Statements → List Nested
+  nested_all looped nil = []
+  nested_all looped (cons s ss) = nested looped s ++ nested_all looped ss
 
 -- those of a function, and of a file
-abbrev pub body_of : Definition → List Placed
-body_of f = placed_all false f.body
+abbrev pub body_of : Definition → List Nested
+body_of f = nested_all false f.body
 
-abbrev pub every_statement : File → List Placed
+abbrev pub every_statement : File → List Nested
 every_statement file = flat_map body_of file.functions
 
 abbrev pub given : Option Tree → List Tree

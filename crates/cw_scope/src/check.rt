@@ -5,7 +5,7 @@ ghost use Rattle.cw_syntax.specs.Trees.{definition_of, file_of};
 ghost use Rattle.cw_scope.specs.Rules.{second_label, wrong_form};
 ghost use Rattle.cw_resolve.specs.Soonest.{soonest};
 ghost use Rattle.cw_scope.specs.Faults.{no_main, two_functions, two_labels, arity, call_form, main_called, reserved_name, jump, limit, ◌or_else◌, scope_fault, IsDue};
-ghost use Rattle.cw_scope.specs.Held.{placed_of, whole_of, tree_at};
+ghost use Rattle.cw_scope.specs.Held.{nested_of, whole_of, tree_at};
 ghost use Rattle.cw_scope.specs.Mentions.{every_call};
 ghost use Rattle.cw_scope.specs.Names.{uses, every_label, every_name};
 ghost use Rattle.cw_scope.specs.Walks.{every_node, every_statement, every_whole};
@@ -18,7 +18,7 @@ use crate::lists::{body_of, every_statement, every_whole};
 use crate::names::{every_name, function_names, labels, uses};
 use crate::places;
 use crate::rules::{are_more, has_main, repeated};
-use crate::walks::{Placed, Whole};
+use crate::walks::{Nested, Whole};
 use cw_core::{Quantity, limits};
 use cw_resolve::sooner;
 use cw_syntax::checked::Checked;
@@ -161,8 +161,8 @@ fn reserved_name(source: &[u8], names: &[Name]) -> Option<ScopeFault>
 
 /// A `break` or `continue` outside loops.
 #[tactic(auto, unfolding(crate::specs::Faults::jump))]
-fn jump(statements: &[Placed]) -> Option<ScopeFault>
-    ensures { result ≡ jump (map placed_of statements.now) }
+fn jump(statements: &[Nested]) -> Option<ScopeFault>
+    ensures { result ≡ jump (map nested_of statements.now) }
 {
     match places::loose_jumps(statements) {
         None => None,
@@ -212,12 +212,12 @@ fn early_fault(
 fn mention_fault(
     alloc: Global,
     known: Functions,
-    statements: &[Placed],
+    statements: &[Nested],
     wholes: &[Whole],
     early: Option<ScopeFault>,
 ) -> Result<Option<ScopeFault>, AllocError>
     requires known { IsKnown known }
-    requires statements { map placed_of statements.now ≡ every_statement (file_of known.program.now) }
+    requires statements { map nested_of statements.now ≡ every_statement (file_of known.program.now) }
     requires wholes { map whole_of wholes.now ≡ every_whole (file_of known.program.now) }
     ensures { IfOk result (λ fault. fault ≡ early
         or_else arity known.entry.source.now (file_of known.entry.program.now) (every_node (file_of known.entry.program.now))
@@ -243,10 +243,10 @@ fn called_fault(
     alloc: Global,
     source: &[u8],
     program: &Program,
-    statements: &[Placed],
+    statements: &[Nested],
     early: Option<ScopeFault>,
 ) -> Result<Option<ScopeFault>, AllocError>
-    requires { map placed_of statements.now ≡ every_statement (file_of program.now) }
+    requires { map nested_of statements.now ≡ every_statement (file_of program.now) }
     ensures { IfOk result (λ fault. fault ≡ early
         or_else arity source.now (file_of program.now) (every_node (file_of program.now))
         or_else call_form source.now (file_of program.now) (uses (file_of program.now)) (every_whole (file_of program.now))

@@ -18,4 +18,4 @@ pub use check::check_scope;
 pub use descriptors::{DescriptorFault, check_descriptors};
 pub use faults::ScopeFault;
 pub use lists::{body_of, every_statement};
-pub use walks::Placed;
+pub use walks::Nested;

@@ -4,16 +4,16 @@ ghost use Rattle.std.specs.Prelude.{◌≡◌, [], ◌∷◌, ◌++◌, map, IfO
 ghost use Rattle.std.specs.List.{flat_map};
 ghost use Rattle.std.specs.Option.{option_map};
 ghost use Rattle.cw_syntax.specs.Trees.{tree_of, trees_of, array_of, statement_of, statements_of, declared_of, declaration_of, definition_of, file_of, perhaps_of};
-ghost use Rattle.cw_scope.specs.Walks.{placed_all, body_of, every_statement, given, listed, size_of, item_trees, declaration_trees, init_trees, inner, wholes_of, every_whole};
-ghost use Rattle.cw_scope.specs.Held.{placed_of, whole_of, tree_at, head_trees};
+ghost use Rattle.cw_scope.specs.Walks.{nested_all, body_of, every_statement, given, listed, size_of, item_trees, declaration_trees, init_trees, inner, wholes_of, every_whole};
+ghost use Rattle.cw_scope.specs.Held.{nested_of, whole_of, tree_at, head_trees};
 
-use crate::walks::{Placed, Whole, put_statements};
+use crate::walks::{Nested, Whole, put_statements};
 use cw_syntax::program::{Decl, Expr, Function, Head, Item, Program, Stmt, What};
 use std::alloc::{AllocError, Global};
 
 /// The statements of a function.
-pub fn body_of<'p>(alloc: Global, function: &'p Function) -> Result<Vec<Placed<'p>>, AllocError>
-    ensures { IfOk result (λ ps. map placed_of ps.items ≡ body_of (definition_of function.now)) }
+pub fn body_of<'p>(alloc: Global, function: &'p Function) -> Result<Vec<Nested<'p>>, AllocError>
+    ensures { IfOk result (λ ps. map nested_of ps.items ≡ body_of (definition_of function.now)) }
 {
     let mut statements = Vec::new(alloc);
     put_statements(&function.body, false, &mut statements)?;
@@ -21,8 +21,8 @@ pub fn body_of<'p>(alloc: Global, function: &'p Function) -> Result<Vec<Placed<'
 }
 
 /// Appends the statements of all functions.
-fn put_bodies<'p>(functions: &'p [Function], out: &mut Vec<Placed<'p>>) -> Result<(), AllocError>
-    ensures { IfOk result (λ _. map placed_of out.new.items ≡ map placed_of out.old.items ++ flat_map body_of (map definition_of functions.now)) }
+fn put_bodies<'p>(functions: &'p [Function], out: &mut Vec<Nested<'p>>) -> Result<(), AllocError>
+    ensures { IfOk result (λ _. map nested_of out.new.items ≡ map nested_of out.old.items ++ flat_map body_of (map definition_of functions.now)) }
 {
     for function in functions {
         put_statements(&function.body, false, out)?;
@@ -34,8 +34,8 @@ fn put_bodies<'p>(functions: &'p [Function], out: &mut Vec<Placed<'p>>) -> Resul
 pub fn every_statement<'p>(
     alloc: Global,
     program: &'p Program,
-) -> Result<Vec<Placed<'p>>, AllocError>
-    ensures { IfOk result (λ ps. map placed_of ps.items ≡ every_statement (file_of program.now)) }
+) -> Result<Vec<Nested<'p>>, AllocError>
+    ensures { IfOk result (λ ps. map nested_of ps.items ≡ every_statement (file_of program.now)) }
 {
     let mut statements = Vec::new(alloc);
     put_bodies(&program.functions, &mut statements)?;
@@ -154,11 +154,11 @@ fn put_wholes<'p>(statement: &'p Stmt, out: &mut Vec<Whole<'p>>) -> Result<(), A
 }
 
 /// Appends the whole expressions of some statements.
-fn put_all_wholes<'p>(statements: &[Placed<'p>], out: &mut Vec<Whole<'p>>) -> Result<(), AllocError>
-    ensures { IfOk result (λ _. map whole_of out.new.items ≡ map whole_of out.old.items ++ flat_map (λ p. wholes_of p.statement) (map placed_of statements.now)) }
+fn put_all_wholes<'p>(statements: &[Nested<'p>], out: &mut Vec<Whole<'p>>) -> Result<(), AllocError>
+    ensures { IfOk result (λ _. map whole_of out.new.items ≡ map whole_of out.old.items ++ flat_map (λ p. wholes_of p.statement) (map nested_of statements.now)) }
 {
-    for placed in statements {
-        put_wholes(placed.statement, out)?;
+    for nested in statements {
+        put_wholes(nested.statement, out)?;
     }
     Ok(())
 }
@@ -167,9 +167,9 @@ fn put_all_wholes<'p>(statements: &[Placed<'p>], out: &mut Vec<Whole<'p>>) -> Re
 pub(crate) fn every_whole<'p>(
     alloc: Global,
     program: &'p Program,
-    statements: &[Placed<'p>],
+    statements: &[Nested<'p>],
 ) -> Result<Vec<Whole<'p>>, AllocError>
-    requires { map placed_of statements.now ≡ every_statement (file_of program.now) }
+    requires { map nested_of statements.now ≡ every_statement (file_of program.now) }
     ensures { IfOk result (λ ws. map whole_of ws.items ≡ every_whole (file_of program.now)) }
 {
     let mut wholes = Vec::new(alloc);

@@ -6,11 +6,11 @@ ghost use Rattle.std.specs.Option.{option_to_list};
 ghost use Rattle.cw_syntax.specs.Trees.{tree_of, statement_of, declared_of, declaration_of, definition_of, prototype_of, file_of, perhaps_of};
 ghost use Rattle.cw_scope.specs.Walks.{every_statement, every_node};
 ghost use Rattle.cw_scope.specs.Names.{declared_names, param_names, local_names, init_names, globals, locals, label_of, labels_of, plain_name, called_name, uses, function_places, every_name};
-ghost use Rattle.cw_scope.specs.Held.{placed_of, tree_at};
+ghost use Rattle.cw_scope.specs.Held.{nested_of, tree_at};
 ghost use Rattle.cw_scope.specs.Mentions.{every_plain, every_call};
 ghost use Rattle.cw_syntax.specs.declared.program.Head.{out-Head};
 
-use crate::walks::Placed;
+use crate::walks::Nested;
 use cw_syntax::program::{Decl, Expr, Function, Item, Name, Op, Param, Program, Proto, Stmt, What};
 use std::alloc::{AllocError, Global};
 
@@ -98,11 +98,11 @@ fn put_local_names(statement: &Stmt, out: &mut Vec<Name>) -> Result<(), AllocErr
 }
 
 /// Appends the names that some statements declare.
-fn put_all_local_names(statements: &[Placed], out: &mut Vec<Name>) -> Result<(), AllocError>
-    ensures { IfOk result (λ _. out.new.items ≡ out.old.items ++ flat_map (λ p. local_names p.statement) (map placed_of statements.now)) }
+fn put_all_local_names(statements: &[Nested], out: &mut Vec<Name>) -> Result<(), AllocError>
+    ensures { IfOk result (λ _. out.new.items ≡ out.old.items ++ flat_map (λ p. local_names p.statement) (map nested_of statements.now)) }
 {
-    for placed in statements {
-        put_local_names(placed.statement, out)?;
+    for nested in statements {
+        put_local_names(nested.statement, out)?;
     }
     Ok(())
 }
@@ -125,11 +125,11 @@ fn put_label(statement: &Stmt, out: &mut Vec<Name>) -> Result<(), AllocError>
 }
 
 /// Appends the labels of these statements.
-fn put_labels(statements: &[Placed], out: &mut Vec<Name>) -> Result<(), AllocError>
-    ensures { IfOk result (λ _. out.new.items ≡ out.old.items ++ labels_of (map placed_of statements.now)) }
+fn put_labels(statements: &[Nested], out: &mut Vec<Name>) -> Result<(), AllocError>
+    ensures { IfOk result (λ _. out.new.items ≡ out.old.items ++ labels_of (map nested_of statements.now)) }
 {
-    for placed in statements {
-        put_label(placed.statement, out)?;
+    for nested in statements {
+        put_label(nested.statement, out)?;
     }
     Ok(())
 }
@@ -214,9 +214,9 @@ fn put_function_names(functions: &[Function], out: &mut Vec<Name>) -> Result<(),
 pub(crate) fn locals(
     alloc: Global,
     program: &Program,
-    statements: &[Placed],
+    statements: &[Nested],
 ) -> Result<Vec<Name>, AllocError>
-    requires { map placed_of statements.now ≡ every_statement (file_of program.now) }
+    requires { map nested_of statements.now ≡ every_statement (file_of program.now) }
     ensures { IfOk result (λ names. names.items ≡ locals (file_of program.now)) }
 {
     let mut names = Vec::new(alloc);
@@ -227,8 +227,8 @@ pub(crate) fn locals(
 }
 
 /// The labels of these statements.
-pub(crate) fn labels(alloc: Global, statements: &[Placed]) -> Result<Vec<Name>, AllocError>
-    ensures { IfOk result (λ names. names.items ≡ labels_of (map placed_of statements.now)) }
+pub(crate) fn labels(alloc: Global, statements: &[Nested]) -> Result<Vec<Name>, AllocError>
+    ensures { IfOk result (λ names. names.items ≡ labels_of (map nested_of statements.now)) }
 {
     let mut names = Vec::new(alloc);
     put_labels(statements, &mut names)?;
@@ -240,10 +240,10 @@ pub(crate) fn labels(alloc: Global, statements: &[Placed]) -> Result<Vec<Name>, 
 pub(crate) fn uses(
     alloc: Global,
     program: &Program,
-    statements: &[Placed],
+    statements: &[Nested],
     plain: &[Name],
 ) -> Result<Vec<Name>, AllocError>
-    requires statements { map placed_of statements.now ≡ every_statement (file_of program.now) }
+    requires statements { map nested_of statements.now ≡ every_statement (file_of program.now) }
     requires plain { plain.now ≡ every_plain (file_of program.now) }
     ensures { IfOk result (λ names. names.items ≡ uses (file_of program.now)) }
 {

@@ -4,14 +4,14 @@ ghost use Rattle.std.specs.Prelude.{◌≡◌, map};
 ghost use Rattle.cw_syntax.specs.Trees.{file_of};
 ghost use Rattle.cw_scope.specs.Rules.{wrong_arity, function_name, defined_call, main_call, reserved, loose_jump};
 ghost use Rattle.cw_resolve.specs.Soonest.{soonest};
-ghost use Rattle.cw_scope.specs.Held.{placed_of, tree_at};
+ghost use Rattle.cw_scope.specs.Held.{nested_of, tree_at};
 ghost use Rattle.cw_scope.specs.Known.{IsKnown};
 ghost use Rattle.cw_scope.specs.Mentions.{every_call};
 ghost use Rattle.cw_scope.specs.Walks.{every_node};
 
 use crate::functions::Functions;
 use crate::rules;
-use crate::walks::Placed;
+use crate::walks::Nested;
 use cw_resolve::sooner;
 use cw_syntax::program::{Expr, Name};
 
@@ -97,12 +97,12 @@ pub(crate) fn reserved_names(source: &[u8], names: &[Name]) -> Option<u32>
 
 /// The soonest place of a `break` or `continue` outside loops.
 #[tactic(auto, using(cw_resolve::proofs::Lesser::sooner_assoc))]
-pub(crate) fn loose_jumps(statements: &[Placed]) -> Option<u32>
-    ensures { result ≡ soonest (map (λ p. loose_jump p.looped p.statement) (map placed_of statements.now)) }
+pub(crate) fn loose_jumps(statements: &[Nested]) -> Option<u32>
+    ensures { result ≡ soonest (map (λ p. loose_jump p.looped p.statement) (map nested_of statements.now)) }
 {
     let mut place = None;
-    for placed in statements {
-        place = sooner(place, rules::loose_jump(*placed));
+    for nested in statements {
+        place = sooner(place, rules::loose_jump(*nested));
     }
     place
 }

@@ -7,11 +7,11 @@ ghost use Rattle.cw_syntax.specs.Names.{text};
 ghost use Rattle.cw_syntax.specs.Trees.{tree_of, definition_of, file_of};
 ghost use Rattle.cw_scope.specs.Rules.{at_if, repeated, different, is_main, is_reserved, is_call, defined, has_main, wrong_arity, function_name, defined_call, external_call, main_call, reserved, loose_jump};
 ghost use Rattle.cw_resolve.specs.Soonest.{sooner};
-ghost use Rattle.cw_scope.specs.Held.{placed_of};
+ghost use Rattle.cw_scope.specs.Held.{nested_of};
 ghost use Rattle.cw_scope.specs.Known.{IsKnown};
 
 use crate::functions::{Functions, found, is_defined};
-use crate::walks::Placed;
+use crate::walks::Nested;
 use cw_syntax::names::text;
 use cw_syntax::program::{Expr, Function, Name, Op, Program, What};
 use std::alloc::{AllocError, Global};
@@ -186,12 +186,12 @@ pub(crate) fn reserved(source: &[u8], name: Name) -> Option<u32>
 }
 
 /// A `break` or `continue` that stands in no loop.
-pub(crate) fn loose_jump(placed: Placed) -> Option<u32>
-    ensures { result ≡ loose_jump (placed_of placed.entry).looped (placed_of placed.entry).statement }
+pub(crate) fn loose_jump(nested: Nested) -> Option<u32>
+    ensures { result ≡ loose_jump (nested_of nested.entry).looped (nested_of nested.entry).statement }
 {
-    let statement = placed.statement;
+    let statement = nested.statement;
     match &statement.what {
-        What::Break | What::Continue => at_if(!placed.looped, statement.from),
+        What::Break | What::Continue => at_if(!nested.looped, statement.from),
         What::Block(_) | What::Label(_, _, _) | What::If(_, _, _) => None,
         What::While(_, _) | What::Do(_, _) => None,
         What::For(_, _) => None,

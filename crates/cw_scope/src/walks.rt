@@ -2,8 +2,8 @@
 
 ghost use Rattle.std.specs.Prelude.{◌≡◌, ◌++◌, map, IfOk};
 ghost use Rattle.cw_syntax.specs.Trees.{tree_of, trees_of, statement_of, statements_of};
-ghost use Rattle.cw_scope.specs.Walks.{nodes, nodes_in, placed, placed_all};
-ghost use Rattle.cw_scope.specs.Held.{placed_of, tree_at};
+ghost use Rattle.cw_scope.specs.Walks.{nodes, nodes_in, nested, nested_all};
+ghost use Rattle.cw_scope.specs.Held.{nested_of, tree_at};
 ghost use Rattle.cw_scope.specs.Mentions.{own_name, own_call, names_at, names_all, calls_at, calls_all};
 
 use crate::names::plain_name;
@@ -13,7 +13,7 @@ use std::alloc::AllocError;
 
 /// A statement, and whether it stands in a loop.
 #[derive(Clone, Copy, Drop)]
-pub struct Placed<'p> {
+pub struct Nested<'p> {
     pub statement: &'p Stmt,
     pub looped: bool,
 }
@@ -106,15 +106,15 @@ fn put_all_mentions<'p>(
 }
 
 /// Appends a statement and all that are in it, each before those in it.
-#[cycle(placed)]
+#[cycle(nested)]
 fn put_statement<'p>(
     statement: &'p Stmt,
     looped: bool,
-    out: &mut Vec<Placed<'p>>,
+    out: &mut Vec<Nested<'p>>,
 ) -> Result<(), AllocError>
-    ensures { IfOk result (λ _. map placed_of out.new.items ≡ map placed_of out.old.items ++ placed looped (statement_of statement.now)) }
+    ensures { IfOk result (λ _. map nested_of out.new.items ≡ map nested_of out.old.items ++ nested looped (statement_of statement.now)) }
 {
-    out.push(Placed { statement, looped })?;
+    out.push(Nested { statement, looped })?;
     match &statement.what {
         What::Block(statements) => put_statements(statements, looped, out),
         What::Label(_, _, body) => put_statement(body, looped, out),
@@ -134,13 +134,13 @@ fn put_statement<'p>(
 }
 
 /// Appends these statements with all that are in them.
-#[cycle(placed)]
+#[cycle(nested)]
 pub(crate) fn put_statements<'p>(
     statements: &'p [Stmt],
     looped: bool,
-    out: &mut Vec<Placed<'p>>,
+    out: &mut Vec<Nested<'p>>,
 ) -> Result<(), AllocError>
-    ensures { IfOk result (λ _. map placed_of out.new.items ≡ map placed_of out.old.items ++ placed_all looped (statements_of statements.now)) }
+    ensures { IfOk result (λ _. map nested_of out.new.items ≡ map nested_of out.old.items ++ nested_all looped (statements_of statements.now)) }
 {
     for statement in statements {
         put_statement(statement, looped, out)?;

@@ -1,4 +1,4 @@
--- Names of a kind, in lists.
+-- Names of a shape, in lists.
 use Rattle.std.proofs.Common.{◌≡◌, ℕ, List, [], ◌∷◌, ◌++◌, Bool, true, false, cond, map, filter, refl, sym, ap, ◌∙◌, Vec, Box, Global}
 use Rattle.std.proofs.lemmas.List.{append_assoc}
 use Rattle.cw_syntax.specs.declared.program.Stmt.{Stmt}
@@ -9,22 +9,22 @@ use Rattle.cw_syntax.specs.Trees.{Declared, Statement, form_of, for_of, statemen
 use Rattle.cw_syntax.proofs.Shapes.{block_form}
 use Rattle.cw_value.specs.Machines.{declared_by, declared_in, names_of}
 
-module _ (bytes : List ℕ) (kind : Declared → Bool) where
-  kept_too : (d : Declared) (ds : List Declared) (b : Bool) → map (λ i. text bytes i.name) (cond b (d ∷ filter kind ds) (filter kind ds))
-      ≡ map (λ i. text bytes i.name) (cond b (d ∷ []) []) ++ map (λ i. text bytes i.name) (filter kind ds)
+module _ (bytes : List ℕ) (shape : Declared → Bool) where
+  kept_too : (d : Declared) (ds : List Declared) (b : Bool) → map (λ i. text bytes i.name) (cond b (d ∷ filter shape ds) (filter shape ds))
+      ≡ map (λ i. text bytes i.name) (cond b (d ∷ []) []) ++ map (λ i. text bytes i.name) (filter shape ds)
   kept_too d ds true = refl
   kept_too d ds false = refl
 
-  pub names_first : (d : Declared) (ds : List Declared) → names_of bytes kind (d ∷ ds) ≡ names_of bytes kind (d ∷ []) ++ names_of bytes kind ds
-  names_first d ds = kept_too d ds (kind d)
+  pub names_first : (d : Declared) (ds : List Declared) → names_of bytes shape (d ∷ ds) ≡ names_of bytes shape (d ∷ []) ++ names_of bytes shape ds
+  names_first d ds = kept_too d ds (shape d)
 
-  pub names_both : (ds es : List Declared) → names_of bytes kind (ds ++ es) ≡ names_of bytes kind ds ++ names_of bytes kind es
+  pub names_both : (ds es : List Declared) → names_of bytes shape (ds ++ es) ≡ names_of bytes shape ds ++ names_of bytes shape es
   names_both [] es = refl
   names_both (d ∷ ds) es =
       names_first d (ds ++ es)
-      ∙ ap (λ l. names_of bytes kind (d ∷ []) ++ l) (names_both ds es)
-      ∙ sym (append_assoc (names_of bytes kind (d ∷ [])) (names_of bytes kind ds) (names_of bytes kind es))
-      ∙ ap (λ l. l ++ names_of bytes kind es) (sym (names_first d ds))
+      ∙ ap (λ l. names_of bytes shape (d ∷ []) ++ l) (names_both ds es)
+      ∙ sym (append_assoc (names_of bytes shape (d ∷ [])) (names_of bytes shape ds) (names_of bytes shape es))
+      ∙ ap (λ l. l ++ names_of bytes shape es) (sym (names_first d ds))
 
 for_declares : (h : Head) (body : Statement) → declared_in (for_of h body) ≡ []
 for_declares (Head' init test step) body = refl

@@ -16,6 +16,6 @@ abbrev pub statement_at : Bor Stmt → Statement
 statement_at s = statement_of s.now
 
 -- whether a declared name is an array, or whether it is none
-abbrev pub of_kind : Bool → Declared → Bool
-of_kind true = is_array
-of_kind false = is_plain
+abbrev pub of_shape : Bool → Declared → Bool
+of_shape true = is_array
+of_shape false = is_plain

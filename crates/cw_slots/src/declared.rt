@@ -6,7 +6,7 @@ ghost use Rattle.cw_syntax.specs.Names.{text};
 ghost use Rattle.cw_syntax.specs.Trees.{declaration_of, declared_of, definition_of, file_of, statement_of, statements_of};
 ghost use Rattle.cw_value.specs.Deeds.{said_all};
 ghost use Rattle.cw_value.specs.Machines.{declared_by, names_of, own_names, parameters, shared_names};
-ghost use Rattle.cw_slots.specs.Texts.{of_kind, statement_at, text_at};
+ghost use Rattle.cw_slots.specs.Texts.{of_shape, statement_at, text_at};
 
 use crate::names::Names;
 use crate::statements::said;
@@ -15,8 +15,8 @@ use cw_syntax::program::{Decl, Function, Item, Param, Program, Stmt, What};
 use std::alloc::{AllocError, Global};
 
 /// Whether an item is an array, or whether it is none.
-fn is_of_kind(arrays: bool, item: &Item) -> bool
-    ensures { result ≡ of_kind arrays (declared_of item.now) }
+fn is_of_shape(arrays: bool, item: &Item) -> bool
+    ensures { result ≡ of_shape arrays (declared_of item.now) }
 {
     if arrays {
         item.array.is_some()
@@ -25,29 +25,29 @@ fn is_of_kind(arrays: bool, item: &Item) -> bool
     }
 }
 
-/// Appends the name of an item of this kind.
+/// Appends the name of an item of this shape.
 fn put_name<'s>(
     source: &'s [u8],
     arrays: bool,
     item: &Item,
     out: &mut Vec<&'s [u8]>,
 ) -> Result<(), AllocError>
-    ensures { IfOk result (λ _. map text_at out.new.items ≡ map text_at out.old.items ++ names_of source.now (of_kind arrays) (declared_of item.now ∷ [])) }
+    ensures { IfOk result (λ _. map text_at out.new.items ≡ map text_at out.old.items ++ names_of source.now (of_shape arrays) (declared_of item.now ∷ [])) }
 {
-    if is_of_kind(arrays, item) {
+    if is_of_shape(arrays, item) {
         out.push(text(source, item.name))?;
     }
     Ok(())
 }
 
-/// Appends the names of the items of this kind.
+/// Appends the names of the items of this shape.
 fn put_items<'s>(
     source: &'s [u8],
     arrays: bool,
     items: &[Item],
     out: &mut Vec<&'s [u8]>,
 ) -> Result<(), AllocError>
-    ensures { IfOk result (λ _. map text_at out.new.items ≡ map text_at out.old.items ++ names_of source.now (of_kind arrays) (map declared_of items.now)) }
+    ensures { IfOk result (λ _. map text_at out.new.items ≡ map text_at out.old.items ++ names_of source.now (of_shape arrays) (map declared_of items.now)) }
 {
     for item in items {
         put_name(source, arrays, item, out)?;
@@ -55,14 +55,14 @@ fn put_items<'s>(
     Ok(())
 }
 
-/// Appends the names of this kind that a statement itself declares.
+/// Appends the names of this shape that a statement itself declares.
 fn put_statement<'s>(
     source: &'s [u8],
     arrays: bool,
     statement: &Stmt,
     out: &mut Vec<&'s [u8]>,
 ) -> Result<(), AllocError>
-    ensures { IfOk result (λ _. map text_at out.new.items ≡ map text_at out.old.items ++ names_of source.now (of_kind arrays) (declared_by (statement_of statement.now))) }
+    ensures { IfOk result (λ _. map text_at out.new.items ≡ map text_at out.old.items ++ names_of source.now (of_shape arrays) (declared_by (statement_of statement.now))) }
 {
     match &statement.what {
         What::Decl(declaration) => put_items(source, arrays, &declaration.items, out),
@@ -74,14 +74,14 @@ fn put_statement<'s>(
     }
 }
 
-/// Appends the names of this kind that these statements declare.
+/// Appends the names of this shape that these statements declare.
 fn put_statements<'s>(
     source: &'s [u8],
     arrays: bool,
     statements: &[&Stmt],
     out: &mut Vec<&'s [u8]>,
 ) -> Result<(), AllocError>
-    ensures { IfOk result (λ _. map text_at out.new.items ≡ map text_at out.old.items ++ names_of source.now (of_kind arrays) (flat_map declared_by (map statement_at statements.now))) }
+    ensures { IfOk result (λ _. map text_at out.new.items ≡ map text_at out.old.items ++ names_of source.now (of_shape arrays) (flat_map declared_by (map statement_at statements.now))) }
 {
     for statement in statements {
         put_statement(source, arrays, statement, out)?;
@@ -89,14 +89,14 @@ fn put_statements<'s>(
     Ok(())
 }
 
-/// Appends the names of these declarations of this kind.
+/// Appends the names of these declarations of this shape.
 fn put_declarations<'s>(
     source: &'s [u8],
     arrays: bool,
     declarations: &[Decl],
     out: &mut Vec<&'s [u8]>,
 ) -> Result<(), AllocError>
-    ensures { IfOk result (λ _. map text_at out.new.items ≡ map text_at out.old.items ++ names_of source.now (of_kind arrays) (flat_map (λ d. d.items) (map declaration_of declarations.now))) }
+    ensures { IfOk result (λ _. map text_at out.new.items ≡ map text_at out.old.items ++ names_of source.now (of_shape arrays) (flat_map (λ d. d.items) (map declaration_of declarations.now))) }
 {
     for declaration in declarations {
         put_items(source, arrays, &declaration.items, out)?;

@@ -10,5 +10,5 @@ mod statements;
 pub use declared::{own_names, shared_names};
 pub use names::Names;
 pub use numbers::Kept;
-pub use scope::{Place, Scope};
+pub use scope::{Location, Scope};
 pub use statements::said;

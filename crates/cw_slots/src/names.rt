@@ -9,7 +9,7 @@ use crate::numbers::{Kept, Numbers};
 use std::alloc::{AllocError, Global};
 use std::marker::Model;
 
-/// Up to so many names of a kind are found sooner by a walk.
+/// Up to so many names of a shape are found sooner by a walk.
 const FEW: usize = 6;
 
 /// Names by their numbers: those that are no arrays, and the arrays.

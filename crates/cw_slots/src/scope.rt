@@ -1,8 +1,8 @@
 //! What a name stands for where it is used.
 ghost use Rattle.std.specs.Prelude.{◌≡◌, Some};
 ghost use Rattle.cw_syntax.specs.Names.{slice};
-ghost use Rattle.cw_value.specs.Expressions.{given_for, place_of};
-ghost use Rattle.cw_slots.specs.Shown.{own_kept, place_in, scope_of, shared_if_kept};
+ghost use Rattle.cw_value.specs.Expressions.{given_for, location_of};
+ghost use Rattle.cw_slots.specs.Shown.{own_kept, location_in, scope_of, shared_if_kept};
 
 use crate::names::Names;
 use crate::numbers::Kept;
@@ -11,7 +11,7 @@ use std::alloc::Global;
 
 /// Where the value of a name is kept: among those of its function or of the file, by its number there, or nowhere.
 #[derive(Clone, Copy, Drop, Debug, PartialEq, Eq)]
-pub enum Place {
+pub enum Location {
     Own(usize),
     OwnArray(usize),
     Shared(usize),
@@ -41,12 +41,12 @@ impl<'a, 's> Scope<'a, 's> {
 
     /// Where the value of a name is kept. A name of the function hides one of the file.
     #[inline(never)]
-    pub fn place(&self, name: &[u8]) -> Place
-        ensures place { place_in result ≡ place_of (scope_of self.now) name.now }
+    pub fn location(&self, name: &[u8]) -> Location
+        ensures location { location_in result ≡ location_of (scope_of self.now) name.now }
     {
         match self.own.find(name) {
-            Some(kept) => own_place(kept),
-            None => shared_place(self.shared.find(name)),
+            Some(kept) => own_location(kept),
+            None => shared_location(self.shared.find(name)),
         }
     }
 
@@ -79,25 +79,25 @@ fn value_of(given: &(Vec<u8>, i64)) -> Option<i64>
 
 /// Where the value of a name of the function is kept.
 #[inline(always)]
-fn own_place(kept: Kept) -> Place
-    ensures { place_in result ≡ own_kept kept }
+fn own_location(kept: Kept) -> Location
+    ensures { location_in result ≡ own_kept kept }
 {
     match kept {
-        Kept::Plain(n) => Place::Own(n),
-        Kept::Array(n) => Place::OwnArray(n),
+        Kept::Plain(n) => Location::Own(n),
+        Kept::Array(n) => Location::OwnArray(n),
     }
 }
 
 /// Where the value of a name is kept that is none of the function's.
 #[inline(always)]
-fn shared_place(kept: Option<Kept>) -> Place
-    ensures { place_in result ≡ shared_if_kept kept }
+fn shared_location(kept: Option<Kept>) -> Location
+    ensures { location_in result ≡ shared_if_kept kept }
 {
     match kept {
-        None => Place::Nowhere,
+        None => Location::Nowhere,
         Some(kept) => match kept {
-            Kept::Plain(n) => Place::Shared(n),
-            Kept::Array(n) => Place::SharedArray(n),
+            Kept::Plain(n) => Location::Shared(n),
+            Kept::Array(n) => Location::SharedArray(n),
         },
     }
 }

@@ -5,7 +5,7 @@ use Rattle.std.proofs.lemmas.Bool.{eq-eqb, eqb-true, not-true}
 use Rattle.std.proofs.lemmas.Option.{slice_get_within, slice_get-get_or, get_or_from_slice_get, same_Some, none-some}
 use Rattle.std.proofs.lemmas.List.Quantifiers.{position-Some}
 use Rattle.std.proofs.lemmas.List.Sums.{prefix_len_passes}
-use Rattle.cw_resolve.proofs.Places.{no_place}
+use Rattle.cw_resolve.proofs.Indices.{no_index}
 use Rattle.cw_rights.specs.declared.capabilities.Primitive.TheVariants.{Limit, Enter, Split}
 use Rattle.cw_certs.specs.declared.moves.Move.{Move}
 use Rattle.cw_certs.specs.declared.moves.Move.TheVariants.{Skip, Try, Grant, Refuse, On, Left, Right, Opened, Failed}
@@ -75,20 +75,20 @@ called o false j f n e = ap call_in e
 pub the_context : (c : Context) (f e : ℕ) → (nat_eq c.function f && nat_eq c.promise e) ≡ true → c ≡ context f e
 the_context c f e h = let b = both (nat_eq c.function f) (nat_eq c.promise e) h in ap₂ context (eqb-true c.function f b.0) (eqb-true c.promise e b.1)
 
-pub place_is : (contexts : List Context) (f e i : ℕ) → position (λ (c : Context). nat_eq c.function f && nat_eq c.promise e) contexts ≡ Some i → slice_get contexts i ≡ Some (context f e)
-place_is contexts f e i h =
+pub index_is : (contexts : List Context) (f e i : ℕ) → position (λ (c : Context). nat_eq c.function f && nat_eq c.promise e) contexts ≡ Some i → slice_get contexts i ≡ Some (context f e)
+index_is contexts f e i h =
     let d : Context = context f e in
     let s = position-Some (λ (c : Context). nat_eq c.function f && nat_eq c.promise e) contexts i d h in
     slice_get-get_or contexts i d s.0 ∙ ap (λ (y : Context). Some y) (the_context (get_or contexts i d) f e s.1)
 
 seeks_all : (p : Context → Bool) (xs : List Context) → position p xs ≡ None → (k : ℕ) (d : Context) → k < length xs → p (get_or xs k d) ≡ false
 seeks_all p xs h k d lt =
-    let n = no_place p xs (sym h) in
+    let n = no_index p xs (sym h) in
     let passes = prefix_len_passes (λ x. not (p x)) xs k d (omega (arith, lt, n)) in
     not-true (p (get_or xs k d)) passes
 
-pub place_none : (contexts : List Context) (f e : ℕ) → position (λ (c : Context). nat_eq c.function f && nat_eq c.promise e) contexts ≡ None → Contains contexts (context f e) → ⊥
-place_none contexts f e h is =
+pub index_none : (contexts : List Context) (f e : ℕ) → position (λ (c : Context). nat_eq c.function f && nat_eq c.promise e) contexts ≡ None → Contains contexts (context f e) → ⊥
+index_none contexts f e h is =
     let p : Context → Bool = λ c. nat_eq c.function f && nat_eq c.promise e in
     let none = seeks_all p contexts h is.0 (context f e) is.1 in
     let some : p (context f e) ≡ true = ap₂ (λ a b. a && b) (eq-eqb f f refl) (eq-eqb e e refl) in
@@ -96,14 +96,14 @@ place_none contexts f e h is =
     cc
 
 -- the same of what a search answers
-pub place_some : (contexts : List Context) (f e : ℕ) (o : Option ℕ) → o ≡ position (λ (c : Context). nat_eq c.function f && nat_eq c.promise e) contexts → IfSome o (λ i. slice_get contexts i ≡ Some (context f e))
-place_some contexts f e (Some i) h = place_is contexts f e i (sym h)
-place_some contexts f e None h = tt
+pub index_some : (contexts : List Context) (f e : ℕ) (o : Option ℕ) → o ≡ position (λ (c : Context). nat_eq c.function f && nat_eq c.promise e) contexts → IfSome o (λ i. slice_get contexts i ≡ Some (context f e))
+index_some contexts f e (Some i) h = index_is contexts f e i (sym h)
+index_some contexts f e None h = tt
 
-pub place_lacks : (contexts : List Context) (f e : ℕ) (o : Option ℕ) → o ≡ position (λ (c : Context). nat_eq c.function f && nat_eq c.promise e) contexts
+pub index_lacks : (contexts : List Context) (f e : ℕ) (o : Option ℕ) → o ≡ position (λ (c : Context). nat_eq c.function f && nat_eq c.promise e) contexts
     → IfNone o (Contains contexts (context f e) → ⊥)
-place_lacks contexts f e (Some i) h = tt
-place_lacks contexts f e None h = place_none contexts f e (sym h)
+index_lacks contexts f e (Some i) h = tt
+index_lacks contexts f e None h = index_none contexts f e (sym h)
 
 module _ (g : Game) (functions : ℕ) (routed : AreRouted g functions) (b : Blocks) (blocks : AreBlocks g b) where
   pub cell_within : (at : Tabled) (p q : ℕ) → HasCell g b at p q → p < length g.spots

@@ -9,7 +9,7 @@ pub mod Looking
 pub mod Low
 pub mod Moves
 pub mod Numbering
-pub mod Placed
+pub mod Indexed
 pub mod Rounding
 pub mod Routing
 pub mod Slots

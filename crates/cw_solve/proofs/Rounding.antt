@@ -36,10 +36,10 @@ module _ (g : Game) (functions : ℕ) (routed : AreRouted g functions) where
       → cell < cells_of g t.blocks.contexts.items
       → IsInRound g t n (slot_of t.blocks at p q) → IsAsked g t.blocks.contexts.items n p q at.context.promise → Holds g (suc n) p q (has at.context.promise) ≡ false
       → Writes t new cell (n + 1) → IsInRound g new n (slot_of t.blocks at p q + 1)
-  look_false t new at n p q cell table is place lt round asked h w =
+  look_false t new at n p q cell table is index lt round asked h w =
       elim (cases_eq (get_or t.heights.items (slot_of t.blocks at p q) 0) 0) [
-        | inl none ↦ written none (w.none (ap (λ y. get_or t.heights.items y 0) place ∙ none))
-        | inr some ↦ kept some (w.some (λ z. some (ap (λ y. get_or t.heights.items y 0) (sym place) ∙ z)))
+        | inl none ↦ written none (w.none (ap (λ y. get_or t.heights.items y 0) index ∙ none))
+        | inr some ↦ kept some (w.some (λ z. some (ap (λ y. get_or t.heights.items y 0) (sym index) ∙ z)))
       ]
     where
       held : get_or t.heights.items (slot_of t.blocks at p q) 0 ≡ 0 → Holds g n p q (has at.context.promise) ≡ true
@@ -49,14 +49,14 @@ module _ (g : Game) (functions : ℕ) (routed : AreRouted g functions) where
           sym (rw none at r)
 
       within : slot_of t.blocks at p q < length t.heights.items
-      within = omega (arith, lt, place, table.cells)
+      within = omega (arith, lt, index, table.cells)
 
       written : get_or t.heights.items (slot_of t.blocks at p q) 0 ≡ 0 → (new.heights.items ≡ set t.heights.items cell (n + 1)) × (new.written ≡ t.written + 1)
           → IsInRound g new n (slot_of t.blocks at p q + 1)
       written none e =
           let one : n + 1 ≡ suc n = omega arith in
           let heights : set t.heights.items (slot_of t.blocks at p q) (suc n) ≡ new.heights.items = ap₂ (λ (k v : ℕ). set t.heights.items k v)
-          (sym place) (sym one) ∙ sym e.0 in
+          (sym index) (sym one) ∙ sym e.0 in
           let a = written_more g functions routed t.blocks.contexts.items t.heights.items n at.number at.context p q is within round.written (held none) h in
           let b = looked_written g functions routed t.blocks.contexts.items t.heights.items n at.number at.context p q is within round.looked asked in
           record {

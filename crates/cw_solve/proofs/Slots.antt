@@ -1,4 +1,4 @@
--- Each cell of a table has a place of its own.
+-- Each cell of a table has an index of its own.
 use Rattle.std.proofs.Common.{◌≡◌, ℕ, ◌+◌, ◌-◌, ◌*◌, ◌/◌, ◌%◌, ◌<◌, ◌≤◌, List, Some, take, refl, sym, ap, ap₂, ◌∙◌, subst, arith, inl, inr, mul_comm}
 use Rattle.std.specs.Prelude.{slice_get, sum_by}
 use Rattle.std.proofs.lemmas.Bool.{cases_lt}
@@ -37,7 +37,7 @@ module _ (g : Game) (contexts : List Context) where
   row_within : (i : ℕ) (c : Context) (p q : ℕ) → IsCell g contexts i c p q → p - g.entry c.function < positions g c.function
   row_within i c p q is = omega (arith, is.of.0, is.of.1)
 
-  -- the place of a cell among those of its context
+  -- the index of a cell among those of its context
   pub within : (i : ℕ) (c : Context) (p q : ℕ) → IsCell g contexts i c p q → q * positions g c.function + (p - g.entry c.function) < size g c.function
   within i c p q is =
       let lt = mul-add-lt q (positions g c.function) (p - g.entry c.function) g.states.count is.state (row_within i c p q is) in

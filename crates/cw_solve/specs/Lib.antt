@@ -4,7 +4,7 @@ pub mod Contexts
 pub mod Few
 pub mod Low
 pub mod Numbering
-pub mod Placed
+pub mod Indexed
 pub mod Rounds
 pub mod Solved
 pub mod Tabled

@@ -3,10 +3,10 @@
 
 pub mod contexts;
 pub mod fault;
+pub mod indices;
 pub mod laws;
 mod look;
 mod number;
-pub mod places;
 mod rounds;
 pub mod solved;
 pub mod table;
@@ -14,5 +14,5 @@ mod tries;
 
 pub use contexts::Context;
 pub use fault::{SolveFault, TableFault};
-pub use places::Places;
+pub use indices::Indices;
 pub use solved::{Solved, solve};

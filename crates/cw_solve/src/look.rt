@@ -12,7 +12,7 @@ ghost use Rattle.cw_solve.specs.Rounds.{base, slot, AreWritten, IsAsked};
 ghost use Rattle.cw_solve.specs.Tables.{IsTable, IsTabled, HasCell, IsInRound, IsLater, IsMissing, HasCall, Writes, is_none};
 
 use crate::contexts::Context;
-use crate::table::{Table, Tabled, holds, numbered, place_of, promised, slot};
+use crate::table::{Table, Tabled, holds, index_of, numbered, promised, slot};
 use cw_certs::Move;
 use cw_core::{PosId, StateId};
 use cw_game::Spot;
@@ -62,7 +62,7 @@ fn call_holds(
     ensures missing { IfErr result (λ c. IsMissing (game_of game.now) table.now.blocks c) }
 {
     let promise = promised(game, table, n, at, state, back, split);
-    match place_of(&table.blocks.contexts, function, &promise) {
+    match index_of(&table.blocks.contexts, function, &promise) {
         None => Err(Context { function, promise }),
         Some(number) => {
             let callee = numbered(game, &table.blocks, number);

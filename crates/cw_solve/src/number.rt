@@ -42,7 +42,7 @@ impl<'g> Solved<'g> {
         requires { IsPosition (game_of self.now.game) pos.0 }
     {
         let game = self.game();
-        let point = game.place(pos).point;
+        let point = game.site(pos).point;
         match game.graph().nodes.get(point.0 as usize) {
             None => 0,
             Some(node) => node.function,

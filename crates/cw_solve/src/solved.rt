@@ -8,7 +8,7 @@ ghost use Rattle.cw_solve.specs.Solved.{IsCause};
 
 use crate::contexts::Context;
 use crate::fault::SolveFault;
-use crate::places::Places;
+use crate::indices::Indices;
 use crate::table::{Table, fact_fit, height_in, numbered, slot};
 use crate::tries::solve_table;
 use cw_core::{PosId, StateId, StateSet};
@@ -21,7 +21,7 @@ use std::marker::Model;
 pub struct Solved<'g> {
     game: &'g Game<'g>,
     table: Table,
-    places: Places,
+    indices: Indices,
 }
 
 impl<'g> Model for Solved<'g> {
@@ -55,7 +55,7 @@ pub fn solve<'g>(alloc: Global, game: &'g Game<'g>) -> Result<Solved<'g>, SolveF
     ensures cause { IfErr result (λ fault. IsCause (game_of game.now) fault) }
 {
     let table = solve_table(alloc, game)?;
-    Ok(Solved::of(game, table, Places::make(alloc)))
+    Ok(Solved::of(game, table, Indices::make(alloc)))
 }
 
 impl<'g> Solved<'g> {
@@ -66,8 +66,8 @@ impl<'g> Solved<'g> {
     ghost use Rattle.cw_solve.specs.Rounds.{slot};
     ghost use Rattle.cw_solve.specs.Solved.{IsKept, IsNumbered, IsHeightIn};
 
-    /// The solved game of a table that is done, for solvers. Its contexts are looked for among the places first.
-    pub fn of(game: &'g Game<'g>, table: Table, places: Places) -> Solved<'g>
+    /// The solved game of a table that is done, for solvers. Its contexts are looked for among the indices first.
+    pub fn of(game: &'g Game<'g>, table: Table, indices: Indices) -> Solved<'g>
         requires kept { IsKept game.now table }
         ensures game { result.game ≡ game.now }
         ensures contexts { result.contexts ≡ table.blocks.contexts.items }
@@ -75,7 +75,7 @@ impl<'g> Solved<'g> {
         Solved {
             game,
             table,
-            places,
+            indices,
         }
     }
 
@@ -135,8 +135,8 @@ impl<'g> Solved<'g> {
         ensures none { IfNone result (Contains self.now.contexts (context function promise.now) → ⊥) }
     {
         match self
-            .places
-            .place_of(&self.table.blocks.contexts, function, promise)
+            .indices
+            .index_of(&self.table.blocks.contexts, function, promise)
         {
             Some(number) => Some(number as u32),
             None => None,
@@ -146,7 +146,7 @@ impl<'g> Solved<'g> {
     /// The number of the one context that may be of a function and have this promise.
     pub(crate) fn number_near(&self, function: u16, promise: &StateSet) -> u32 {
         match self
-            .places
+            .indices
             .find(&self.table.blocks.contexts, function, promise)
         {
             None => 0,

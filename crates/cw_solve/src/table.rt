@@ -168,8 +168,8 @@ pub(crate) fn fact_fit(heights: &[u32])
 }
 
 /// The number of a context.
-pub fn place_of(contexts: &[Context], function: u16, promise: &StateSet) -> Option<usize>
-    ensures place { result ≡ position (λ c. nat_eq c.function function && nat_eq c.promise promise.now) contexts.now }
+pub fn index_of(contexts: &[Context], function: u16, promise: &StateSet) -> Option<usize>
+    ensures index { result ≡ position (λ c. nat_eq c.function function && nat_eq c.promise promise.now) contexts.now }
     ensures within { IfSome result (λ i. i < length contexts.now) }
 {
     contexts

@@ -3,10 +3,10 @@ use Rattle.std.proofs.Common.{◌≡◌, ◌⊎◌, ℕ, Bool, true, false, List
 use Rattle.std.proofs.lemmas.Option.{same_Some}
 use Rattle.std.specs.Prelude.{option_map}
 use Rattle.cw_syntax.specs.Plans.{Stm, Plain, Break, Continue, Return, Open, Close, Call, Group, Label, If, While, Do, For, Stms, end, then, Routine, Plan}
-use Rattle.cw_syntax.specs.Frames.{Item, Entry, Todo, Test, After, Mark, End, Frame, items_of, new_frame, frame_of, init_if, after_if, opened, opened_all, settle, Way, front}
+use Rattle.cw_syntax.specs.Frames.{Item, Entry, Todo, Test, After, LoopEnd, End, Frame, items_of, new_frame, frame_of, init_if, after_if, expanded, expanded_all, settle, Way, front}
 use Rattle.cw_syntax.specs.Frames.{PathFrom, stack_of, start_stack}
 use Rattle.cw_syntax.specs.Steps.{Ends, no_items, an_end, an_entry, a_statement, a_test, a_step, a_loops_end, Passes, entry, plain, left, right, goes_in, goes_out, goes_on, step}
-use Rattle.cw_syntax.specs.Steps.{break_out, continue_at, return_at, label, opened as opened_way, failed, close, Steps, within, call, returns, over}
+use Rattle.cw_syntax.specs.Steps.{break_out, continue_at, return_at, label, expanded as opened_way, failed, close, Steps, within, call, returns, over}
 use Rattle.cw_syntax.proofs.Settling.{settles_to}
 use Rattle.cw_syntax.proofs.Tabled.{tabled}
 use Rattle.cw_source.specs.Items.{IsPassed}
@@ -49,7 +49,7 @@ module _ (plan : Plan) where
   Kept (Todo s) = (x : Item) → Has s x → HasIn plan x
   Kept (Test at decided stepped s) = HasIn plan (Test at decided stepped s) × (stepped ≡ true → HasIn plan (After at)) × ((x : Item) → Has s x → HasIn plan x)
   Kept (After at) = HasIn plan (After at)
-  Kept Mark = Unit {0}
+  Kept LoopEnd = Unit {0}
   Kept (End f) = HasIn plan (End f)
 
   abbrev AllKept : Frame → Type 0
@@ -81,68 +81,68 @@ module _ (plan : Plan) where
   init_front (Some at) i rest h k = h (Todo (Plain at)) refl
 
   mutual
-    opened_kept : (s : Stm) (rest next : Frame) → ((x : Item) → Has s x → HasIn plan x) → AllKept rest → AllKept next → AllKept (opened s rest next)
-    opened_kept (Plain at) rest next h k n = (h, k)
-    opened_kept (Break at) rest next h k n = (h, k)
-    opened_kept (Continue at) rest next h k n = (h, k)
-    opened_kept (Return at) rest next h k n = (h, k)
-    opened_kept (Open at j d) rest next h k n = (h, k)
-    opened_kept (Close at j d) rest next h k n = (h, k)
-    opened_kept (Call at j callee) rest next h k n = (h, k)
-    opened_kept (Group ss) rest next h k n = opened_all_kept ss rest next h k n
-    opened_kept (Label at mark j l s) rest next h k n = (h, k)
-    opened_kept (If at s t) rest next h k n = (h, k)
-    opened_kept (While at s) rest next h k n = ((h (Test at true false s) (inl refl), unstepped (After at), λ x q. h x (inr q)), (tt, k))
-    opened_kept (Do at s) rest next h k n =
-        let test : AllKept (Test at true false s ∷ (Mark ∷ rest)) = ((h (Test at true false s) (inl refl), unstepped (After at), λ x q. h x (inr q)), (tt, k)) in
-        opened_kept s (Test at true false s ∷ (Mark ∷ rest)) (Test at true false s ∷ (Mark ∷ rest)) (λ x q. h x (inr q)) test test
-    opened_kept (For at init decided stepped s) rest next h k n =
-        init_kept init (Test at decided stepped s ∷ (Mark ∷ rest)) (λ x q. h x (inr (inl q)))
+    expanded_kept : (s : Stm) (rest next : Frame) → ((x : Item) → Has s x → HasIn plan x) → AllKept rest → AllKept next → AllKept (expanded s rest next)
+    expanded_kept (Plain at) rest next h k n = (h, k)
+    expanded_kept (Break at) rest next h k n = (h, k)
+    expanded_kept (Continue at) rest next h k n = (h, k)
+    expanded_kept (Return at) rest next h k n = (h, k)
+    expanded_kept (Open at j d) rest next h k n = (h, k)
+    expanded_kept (Close at j d) rest next h k n = (h, k)
+    expanded_kept (Call at j callee) rest next h k n = (h, k)
+    expanded_kept (Group ss) rest next h k n = expanded_all_kept ss rest next h k n
+    expanded_kept (Label at mark j l s) rest next h k n = (h, k)
+    expanded_kept (If at s t) rest next h k n = (h, k)
+    expanded_kept (While at s) rest next h k n = ((h (Test at true false s) (inl refl), unstepped (After at), λ x q. h x (inr q)), (tt, k))
+    expanded_kept (Do at s) rest next h k n =
+        let test : AllKept (Test at true false s ∷ (LoopEnd ∷ rest)) = ((h (Test at true false s) (inl refl), unstepped (After at), λ x q. h x (inr q)), (tt, k)) in
+        expanded_kept s (Test at true false s ∷ (LoopEnd ∷ rest)) (Test at true false s ∷ (LoopEnd ∷ rest)) (λ x q. h x (inr q)) test test
+    expanded_kept (For at init decided stepped s) rest next h k n =
+        init_kept init (Test at decided stepped s ∷ (LoopEnd ∷ rest)) (λ x q. h x (inr (inl q)))
         ((h (Test at decided stepped s) (inl (inl refl)), (λ q. h (After at) (inl (inr refl))), λ x q. h x (inr (inr q))), (tt, k))
 
-    opened_all_kept : (ss : Stms) (rest next : Frame) → ((x : Item) → HasAll ss x → HasIn plan x) → AllKept rest → AllKept next → AllKept (opened_all ss rest next)
-    opened_all_kept end rest next h k n = n
-    opened_all_kept (then s ss) rest next h k n =
-        opened_kept s (items_of ss rest) (opened_all ss rest next) (λ x q. h x (inl q)) (items_kept ss rest (λ x q. h x (inr q)) k)
-        (opened_all_kept ss rest next (λ x q. h x (inr q)) k n)
+    expanded_all_kept : (ss : Stms) (rest next : Frame) → ((x : Item) → HasAll ss x → HasIn plan x) → AllKept rest → AllKept next → AllKept (expanded_all ss rest next)
+    expanded_all_kept end rest next h k n = n
+    expanded_all_kept (then s ss) rest next h k n =
+        expanded_kept s (items_of ss rest) (expanded_all ss rest next) (λ x q. h x (inl q)) (items_kept ss rest (λ x q. h x (inr q)) k)
+        (expanded_all_kept ss rest next (λ x q. h x (inr q)) k n)
 
   mutual
-    opened_front : (s : Stm) (rest next : Frame) → ((x : Item) → Has s x → HasIn plan x) → Front next → Front (opened s rest next)
-    opened_front (Plain at) rest next h n = h (Todo (Plain at)) refl
-    opened_front (Break at) rest next h n = h (Todo (Break at)) refl
-    opened_front (Continue at) rest next h n = h (Todo (Continue at)) refl
-    opened_front (Return at) rest next h n = h (Todo (Return at)) refl
-    opened_front (Open at j d) rest next h n = h (Todo (Open at j d)) refl
-    opened_front (Close at j d) rest next h n = h (Todo (Close at j d)) refl
-    opened_front (Call at j callee) rest next h n = h (Todo (Call at j callee)) refl
-    opened_front (Group ss) rest next h n = opened_all_front ss rest next h n
-    opened_front (Label at mark j l s) rest next h n = h (Todo (Label at mark j l s)) (inl refl)
-    opened_front (If at s t) rest next h n = h (Todo (If at s t)) (inl refl)
-    opened_front (While at s) rest next h n = h (Test at true false s) (inl refl)
-    opened_front (Do at s) rest next h n = opened_front s (Test at true false s ∷ (Mark ∷ rest)) (Test at true false s ∷ (Mark ∷ rest)) (λ x q. h x (inr q)) (h (Test at true false s) (inl refl))
-    opened_front (For at init decided stepped s) rest next h n =
-        init_front init (Test at decided stepped s) (Mark ∷ rest) (λ x q. h x (inr (inl q))) (h (Test at decided stepped s) (inl (inl refl)))
+    expanded_front : (s : Stm) (rest next : Frame) → ((x : Item) → Has s x → HasIn plan x) → Front next → Front (expanded s rest next)
+    expanded_front (Plain at) rest next h n = h (Todo (Plain at)) refl
+    expanded_front (Break at) rest next h n = h (Todo (Break at)) refl
+    expanded_front (Continue at) rest next h n = h (Todo (Continue at)) refl
+    expanded_front (Return at) rest next h n = h (Todo (Return at)) refl
+    expanded_front (Open at j d) rest next h n = h (Todo (Open at j d)) refl
+    expanded_front (Close at j d) rest next h n = h (Todo (Close at j d)) refl
+    expanded_front (Call at j callee) rest next h n = h (Todo (Call at j callee)) refl
+    expanded_front (Group ss) rest next h n = expanded_all_front ss rest next h n
+    expanded_front (Label at mark j l s) rest next h n = h (Todo (Label at mark j l s)) (inl refl)
+    expanded_front (If at s t) rest next h n = h (Todo (If at s t)) (inl refl)
+    expanded_front (While at s) rest next h n = h (Test at true false s) (inl refl)
+    expanded_front (Do at s) rest next h n = expanded_front s (Test at true false s ∷ (LoopEnd ∷ rest)) (Test at true false s ∷ (LoopEnd ∷ rest)) (λ x q. h x (inr q)) (h (Test at true false s) (inl refl))
+    expanded_front (For at init decided stepped s) rest next h n =
+        init_front init (Test at decided stepped s) (LoopEnd ∷ rest) (λ x q. h x (inr (inl q))) (h (Test at decided stepped s) (inl (inl refl)))
 
-    opened_all_front : (ss : Stms) (rest next : Frame) → ((x : Item) → HasAll ss x → HasIn plan x) → Front next → Front (opened_all ss rest next)
-    opened_all_front end rest next h n = n
-    opened_all_front (then s ss) rest next h n = opened_front s (items_of ss rest) (opened_all ss rest next) (λ x q. h x (inl q)) (opened_all_front ss rest next (λ x q. h x (inr q)) n)
+    expanded_all_front : (ss : Stms) (rest next : Frame) → ((x : Item) → HasAll ss x → HasIn plan x) → Front next → Front (expanded_all ss rest next)
+    expanded_all_front end rest next h n = n
+    expanded_all_front (then s ss) rest next h n = expanded_front s (items_of ss rest) (expanded_all ss rest next) (λ x q. h x (inl q)) (expanded_all_front ss rest next (λ x q. h x (inr q)) n)
 
   settle_kept : (frame : Frame) → AllKept frame → AllKept (settle frame)
   settle_kept [] k = tt
   settle_kept (Entry f j ∷ rest) k = k
-  settle_kept (Todo s ∷ rest) k = opened_kept s rest (settle rest) k.0 k.1 (settle_kept rest k.1)
+  settle_kept (Todo s ∷ rest) k = expanded_kept s rest (settle rest) k.0 k.1 (settle_kept rest k.1)
   settle_kept (Test at decided stepped s ∷ rest) k = k
   settle_kept (After at ∷ rest) k = k
-  settle_kept (Mark ∷ rest) k = settle_kept rest k.1
+  settle_kept (LoopEnd ∷ rest) k = settle_kept rest k.1
   settle_kept (End f ∷ rest) k = k
 
   settle_front : (frame : Frame) → AllKept frame → Front (settle frame)
   settle_front [] k = tt
   settle_front (Entry f j ∷ rest) k = k.0
-  settle_front (Todo s ∷ rest) k = opened_front s rest (settle rest) k.0 (settle_front rest k.1)
+  settle_front (Todo s ∷ rest) k = expanded_front s rest (settle rest) k.0 (settle_front rest k.1)
   settle_front (Test at decided stepped s ∷ rest) k = k.0.0
   settle_front (After at ∷ rest) k = k.0
-  settle_front (Mark ∷ rest) k = settle_front rest k.1
+  settle_front (LoopEnd ∷ rest) k = settle_front rest k.1
   settle_front (End f ∷ rest) k = k.0
 
   -- ---- steps
@@ -169,7 +169,7 @@ module _ (plan : Plan) where
   raw_kept _ _ _ _ (goes_out at u s rest) h k = k
   raw_kept _ _ _ _ (goes_on at u s rest) h k = (h.2, after_kept u at (Test at false u s ∷ rest) h.1 (h, k))
   raw_kept _ _ _ _ (step at rest) h k = k
-  raw_kept _ _ _ _ (break_out at before rest none) h k = (behind before (Mark ∷ rest) k).1
+  raw_kept _ _ _ _ (break_out at before rest none) h k = (behind before (LoopEnd ∷ rest) k).1
   raw_kept _ _ _ _ (continue_at at before rest none turn) h k = behind before rest k
   raw_kept _ _ _ _ (return_at at rest ends es) h k = ends_kept rest ends es k
   raw_kept _ _ _ _ (label at mark j l s rest) h k = ((λ x q. h x (inr q)), k)

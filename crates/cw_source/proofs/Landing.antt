@@ -6,7 +6,7 @@ use Rattle.cw_syntax.specs.Trees.{Statement, Stated, Form, Block, Declares, Eval
 use Rattle.cw_syntax.specs.Trees.{just, Statements, nil, cons, Definition, File}
 use Rattle.cw_syntax.specs.Plans.{Scene, Action, Computes, Opens, Closes, Invokes, action_of, acting, steps_of, steps_of_form, steps_of_arm, steps_of_all, seams, seams_all}
 use Rattle.cw_syntax.specs.Plans.{numbered, numbered_all, Routine, routines_from, scene_of, plan_of}
-use Rattle.cw_scope.specs.Walks.{Placed, placed, placed_within, placed_arm, placed_all, body_of, every_statement}
+use Rattle.cw_scope.specs.Walks.{Nested, nested, nested_within, nested_arm, nested_all, body_of, every_statement}
 use Rattle.cw_scope.specs.Rules.{at_if, is_jump, loose_jump}
 use Rattle.cw_resolve.specs.Soonest.{sooner, soonest}
 use Rattle.cw_syntax.specs.Runnable.{Lands, LandsAll}
@@ -14,7 +14,7 @@ use Rattle.cw_source.specs.Read.{ReadsAs}
 use Rattle.cw_source.proofs.Kept.{jumps_kept}
 
 -- none of these is a jump outside of loops
-abbrev Clear : List Placed → Type 0
+abbrev Clear : List Nested → Type 0
 Clear [] = Unit {0}
 Clear (p ∷ ps) = (loose_jump p.looped p.statement ≡ None) × Clear ps
 
@@ -23,13 +23,13 @@ neither None b e = (refl, e)
 neither (Some a) None e = absurd (cc)
 neither (Some a) (Some b) e = absurd (cc)
 
-clear_of : (ps : List Placed) → soonest (map (λ p. loose_jump p.looped p.statement) ps) ≡ None → Clear ps
+clear_of : (ps : List Nested) → soonest (map (λ p. loose_jump p.looped p.statement) ps) ≡ None → Clear ps
 clear_of [] e = tt
 clear_of (p ∷ ps) e =
     let both = neither (loose_jump p.looped p.statement) (soonest (map (λ q. loose_jump q.looped q.statement) ps)) e in
     (both.0, clear_of ps both.1)
 
-split : (ps qs : List Placed) → Clear (ps ++ qs) → Clear ps × Clear qs
+split : (ps qs : List Nested) → Clear (ps ++ qs) → Clear ps × Clear qs
 split [] qs h = (tt, h)
 split (p ∷ ps) qs h = let both = split ps qs h.1 in ((h.0, both.0), both.1)
 
@@ -45,17 +45,17 @@ acting_lands looped (Invokes callee) at j = tt
 
 module _ (s : Scene) where
   mutual
-    lands : (looped : Bool) (st : Statement) (j : ℕ) → Clear (placed looped st) → Lands looped (numbered (steps_of s st) j)
+    lands : (looped : Bool) (st : Statement) (j : ℕ) → Clear (nested looped st) → Lands looped (numbered (steps_of s st) j)
     lands looped (Stated form from to) j h = form_lands looped form from j h.0 h.1
 
-    form_lands : (looped : Bool) (form : Form) (at j : ℕ) → at_if (is_jump form && not looped) at ≡ None → Clear (placed_within looped form) → Lands looped (numbered (steps_of_form s at form) j)
+    form_lands : (looped : Bool) (form : Form) (at j : ℕ) → at_if (is_jump form && not looped) at ≡ None → Clear (nested_within looped form) → Lands looped (numbered (steps_of_form s at form) j)
     form_lands looped (Block ss) at j e h = all_land looped ss j h
     form_lands looped (Declares d) at j e h = tt
     form_lands looped (Evaluates t) at j e h = acting_lands looped (action_of s t) at j
     form_lands looped Empties at j e h = tt
     form_lands looped (Labels name mark body) at j e h = lands looped body (j + 1) h
     form_lands looped (Chooses test arm other) at j e h =
-        let both = split (placed looped arm) (placed_arm looped other) h in
+        let both = split (nested looped arm) (nested_arm looped other) h in
         (lands looped arm j both.0, arm_lands looped other (j + seams (steps_of s arm)) both.1)
     form_lands looped (Whiles test body) at j e h = lands true body j h
     form_lands looped (Does body test) at j e h = lands true body j h
@@ -64,14 +64,14 @@ module _ (s : Scene) where
     form_lands looped Continues at j e h = in_loop looped at e
     form_lands looped (Returns value) at j e h = tt
 
-    arm_lands : (looped : Bool) (arm : Perhaps) (j : ℕ) → Clear (placed_arm looped arm) → Lands looped (numbered (steps_of_arm s arm) j)
+    arm_lands : (looped : Bool) (arm : Perhaps) (j : ℕ) → Clear (nested_arm looped arm) → Lands looped (numbered (steps_of_arm s arm) j)
     arm_lands looped nothing j h = tt
     arm_lands looped (just arm) j h = lands looped arm j h
 
-    all_land : (looped : Bool) (ss : Statements) (j : ℕ) → Clear (placed_all looped ss) → LandsAll looped (numbered_all (steps_of_all s ss) j)
+    all_land : (looped : Bool) (ss : Statements) (j : ℕ) → Clear (nested_all looped ss) → LandsAll looped (numbered_all (steps_of_all s ss) j)
     all_land looped nil j h = tt
     all_land looped (cons st ss) j h =
-        let both = split (placed looped st) (placed_all looped ss) h in
+        let both = split (nested looped st) (nested_all looped ss) h in
         (lands looped st j both.0, all_land looped ss (j + seams (steps_of s st)) both.1)
 
   routines_land : (fs : List Definition) (j f : ℕ) (r : Routine) → Clear (flat_map body_of fs) → slice_get (routines_from s j fs) f ≡ Some r → LandsAll false r.body

@@ -2,10 +2,10 @@
 use Rattle.std.proofs.Common.{◌≡◌, ℕ, ◌<◌, ◌≤◌, List, [], ◌∷◌, ◌++◌, length, ap, subst, arith, length-append}
 use Rattle.cw_lex.specs.declared.tokens.Token.{Token}
 use Rattle.cw_lex.specs.Listed.{AreInOrder}
-use Rattle.cw_grammar.specs.declared.words.Lexeme.{Lexeme}
-use Rattle.cw_grammar.specs.declared.words.Word.{Word}
+use Rattle.cw_grammar.specs.declared.terminals.Lexeme.{Lexeme}
+use Rattle.cw_grammar.specs.declared.terminals.Terminal.{Terminal}
 use Rattle.cw_grammar.specs.Declarations.{Expressions, IsDeclaration}
-use Rattle.cw_grammar.specs.Lexemes.{words, from_of, to_of}
+use Rattle.cw_grammar.specs.Lexemes.{terminals, from_of, to_of}
 use Rattle.cw_grammar.specs.Spelling.{lexemes_of}
 use Rattle.cw_syntax.specs.Trees.{Declaration}
 
@@ -42,10 +42,10 @@ ends from to (t ∷ (u ∷ ts)) some h =
     let p = ends t.to to (u ∷ ts) (omega arith) h.2 in
     (h.0, (let a = h.1 in let b = p.0 in let c = p.1 in omega arith), p.2)
 
--- there are tokens where there is a word, and where there is a declaration
-pub some_words : (ts : List Lexeme) (w : Word) (ws : List Word) → words ts ≡ w ∷ ws → 0 < length ts
-some_words [] w ws e = absurd (cc)
-some_words (t ∷ ts) w ws e = omega arith
+-- there are tokens where there is a terminal, and where there is a declaration
+pub some_terminals : (ts : List Lexeme) (w : Terminal) (ws : List Terminal) → terminals ts ≡ w ∷ ws → 0 < length ts
+some_terminals [] w ws e = absurd (cc)
+some_terminals (t ∷ ts) w ws e = omega arith
 
 pub some_declaration : (E : Expressions) (ts : List Lexeme) (d : Declaration) → IsDeclaration E ts d → 0 < length ts
 some_declaration E ts d (a, b, specs, whole, hs, e1, e2, e3, some, (inner, s, closed, semi, hitems), from, to) =

@@ -2,7 +2,7 @@
 use Rattle.std.proofs.Common.{◌≡◌, ◌≢◌, ◌⊎◌, ℕ, zero, suc, ◌+◌, ◌<◌, ◌≤◌, List, [], ◌∷◌, ◌++◌, length, Some, is_some, slice_get, refl, sym, ap, subst, ◌∙◌, inl, inr, arith, length-append}
 use Rattle.std.proofs.lemmas.Option.{same_Some}
 use Rattle.cw_lex.proofs.Ordered.{tokens_in_order}
-use Rattle.cw_grammar.specs.declared.words.Lexeme.{Lexeme}
+use Rattle.cw_grammar.specs.declared.terminals.Lexeme.{Lexeme}
 use Rattle.cw_grammar.specs.Lexemes.{from_of, AreAll, statements}
 use Rattle.cw_grammar.specs.Expressions.{IsExpression, nesting_limit}
 use Rattle.cw_grammar.specs.Declarations.{Expressions}
@@ -14,11 +14,11 @@ use Rattle.cw_syntax.specs.Trees.{Statement, Stated, Form, Block, Declares, Eval
 use Rattle.cw_syntax.specs.Trees.{just, Definition, File}
 use Rattle.cw_syntax.specs.Plans.{Scene, Plain, Break, Continue, Return, Open, Close, Call, Action, Computes, Opens, Closes, Invokes, action_of, acting, place_if}
 use Rattle.cw_syntax.specs.Plans.{steps_of, steps_of_form, steps_of_all, seams, seams_all, numbered, numbered_all, Routine, routines_from, scene_of, Plan, plan_of}
-use Rattle.cw_syntax.specs.Frames.{Item, Entry, Todo, Test, After, Mark, End}
+use Rattle.cw_syntax.specs.Frames.{Item, Entry, Todo, Test, After, LoopEnd, End}
 use Rattle.cw_source.specs.Items.{AtEntry, AtTest, AtStep, AtEnd, item_kind, item_place, IsPassed}
 use Rattle.cw_source.specs.Read.{ReadsAs}
 use Rattle.cw_source.proofs.Held.{HasInit, Has, HasAll, HasIn, passed_in}
-use Rattle.cw_source.proofs.Lying.{Lie, lie_of, lie_le, split, first_within, lie_at, some_words, some_declaration}
+use Rattle.cw_source.proofs.Lying.{Lie, lie_of, lie_le, split, first_within, lie_at, some_terminals, some_declaration}
 
 -- neither an entry nor an end
 abbrev IsInner : Item → Type 0
@@ -121,7 +121,7 @@ module _ (s : Scene) (E : Expressions) (P : Place → List Lexeme → Statement 
   form_named place ts (Evaluates e) j from to (inner, c, whole, closes, is) lie =
       let some : 0 < length ts = omega (arith, ap length whole, length-append inner (c ∷ [])) in
       acting_named (action_of s e) (from_of ts) j from to (first_within from to ts some lie)
-  form_named place ts Empties j from to is lie = plain_named ts (Todo (Plain (from_of ts))) from to tt refl (some_words ts _ _ is) lie
+  form_named place ts Empties j from to is lie = plain_named ts (Todo (Plain (from_of ts))) from to tt refl (some_terminals ts _ _ is) lie
   form_named place ts (Labels name mark body) j from to (n, k, x, whole, n_is, k_is, name_is, mark_is, is) lie =
       let p = lie_at from to ts (n ∷ k ∷ x) whole lie in
       let at : from_of ts ≡ n.from = ap from_of whole in
@@ -177,8 +177,8 @@ module _ (s : Scene) (E : Expressions) (P : Place → List Lexeme → Statement 
       let parts = lies_both o.to q.0 to _ _ (lie_le o.to q.0 x q.1) (lie_le q.0 to (y ++ (z ++ v)) q.2) (init_named x init o.to q.0 init_is q.1) inner in
       let turns = lies_two from o.to (Test (from_of ts) (is_some test) (is_some step) (numbered (steps_of s body) j)) (After (from_of ts)) (tt, up, lt) (tt, up, lt) test_or_step in
       lies_both from o.to to _ _ (omega (arith, up, lt)) (lie_le o.to to (x ++ (y ++ (z ++ v))) p.2.2) turns parts
-  form_named place ts Breaks j from to is lie = plain_named ts (Todo (Break (from_of ts))) from to tt refl (some_words ts _ _ is) lie
-  form_named place ts Continues j from to is lie = plain_named ts (Todo (Continue (from_of ts))) from to tt refl (some_words ts _ _ is) lie
+  form_named place ts Breaks j from to is lie = plain_named ts (Todo (Break (from_of ts))) from to tt refl (some_terminals ts _ _ is) lie
+  form_named place ts Continues j from to is lie = plain_named ts (Todo (Continue (from_of ts))) from to tt refl (some_terminals ts _ _ is) lie
   form_named place ts (Returns value) j from to (r, b, whole, r_is, is) lie =
       let some : 0 < length ts = omega (arith, ap length whole) in
       plain_named ts (Todo (Return (from_of ts))) from to tt refl some lie
@@ -233,7 +233,7 @@ no_entry (Entry f j) n e = absurd n
 no_entry (Todo s) n e = absurd (cc)
 no_entry (Test at d u s) n e = absurd (cc)
 no_entry (After at) n e = absurd (cc)
-no_entry Mark n e = absurd n
+no_entry LoopEnd n e = absurd n
 no_entry (End f) n e = absurd n
 
 no_end : (x : Item) → IsInner x → item_kind x ≢ AtEnd
@@ -241,7 +241,7 @@ no_end (Entry f j) n e = absurd n
 no_end (Todo s) n e = absurd (cc)
 no_end (Test at d u s) n e = absurd (cc)
 no_end (After at) n e = absurd (cc)
-no_end Mark n e = absurd n
+no_end LoopEnd n e = absurd n
 no_end (End f) n e = absurd n
 
 module _ (plan : Plan) (most : ℕ) (lies : Lies 0 most (HasBodies plan.routines)) where

@@ -2,7 +2,7 @@
 -- Public source: ISO/IEC 9899:2011, 6.8 (statements), 6.8.5 (loops), 6.9.1 (functions).
 use Rattle.std.specs.Prelude.{ℕ, List, [], ◌∷◌, ◌++◌}
 use Rattle.cw_syntax.specs.Plans.{Stm, Plain, Break, Continue, Return, Open, Close, Call, Group, Label, If, While, Do, For, Plan}
-use Rattle.cw_syntax.specs.Frames.{Item, Entry, Todo, Test, After, Mark, End, Path}
+use Rattle.cw_syntax.specs.Frames.{Item, Entry, Todo, Test, After, LoopEnd, End, Path}
 
 pub data ItemKind : Type 0 where
   AtEntry : ItemKind
@@ -17,7 +17,7 @@ item_kind (Entry f j) = AtEntry
 item_kind (Todo s) = AtStatement
 item_kind (Test at decided stepped s) = AtTest
 item_kind (After at) = AtStep
-item_kind Mark = AtLoopEnd
+item_kind LoopEnd = AtLoopEnd
 item_kind (End f) = AtEnd
 
 -- where a statement begins; a block isn't passed, and has no place of its own
@@ -42,7 +42,7 @@ item_place (Entry f j) = f
 item_place (Todo s) = place_of s
 item_place (Test at decided stepped s) = at
 item_place (After at) = at
-item_place Mark = 0
+item_place LoopEnd = 0
 item_place (End f) = f
 
 -- some path of the program passes the item

@@ -15,12 +15,12 @@ use cw_scope::ScopeFault;
 pub fn put_place_line<S: Sink>(
     source: &[u8],
     at: u32,
-    words: &str,
+    terminals: &str,
     line: &mut Writer<S>,
     out: &mut S,
 )
     requires follows { Follows S.taken S.faults S.refused line.old out.old }
-    ensures text { line.new.text ≡ line.old.text ++ at_place source.now at words.now }
+    ensures text { line.new.text ≡ line.old.text ++ at_place source.now at terminals.now }
     ensures begun { line.new.begun ≡ line.old.begun }
     ensures follows { Follows S.taken S.faults S.refused line.new out.new }
 {
@@ -29,7 +29,7 @@ pub fn put_place_line<S: Sink>(
     line.put(b":", out);
     line.put_number(column_of(source, at) as u64, out);
     line.put(b": ", out);
-    line.put(words.as_bytes(), out);
+    line.put(terminals.as_bytes(), out);
 }
 
 /// Appends the line of a source that has no tokens.

@@ -6,8 +6,8 @@ use Rattle.cw_syntax.specs.declared.program.Name.{Name}
 use Rattle.cw_syntax.specs.declared.program.Op.TheVariants as op
 use Rattle.cw_syntax.specs.Names.{slice, text}
 use Rattle.cw_syntax.specs.Trees.{Tree, Node, Trees, none, more}
-use Rattle.cw_grammar.specs.declared.words.Word.TheVariants as w
-use Rattle.cw_grammar.specs.declared.words.Lexeme.{Lexeme}
+use Rattle.cw_grammar.specs.declared.terminals.Terminal.TheVariants as w
+use Rattle.cw_grammar.specs.declared.terminals.Lexeme.{Lexeme}
 use Rattle.cw_grammar.specs.declared.rules.Rule.{Rule}
 use Rattle.cw_grammar.specs.declared.rules.Rule.TheVariants.{Expression, Level, Unary, Postfix}
 use Rattle.cw_grammar.specs.Lexemes.{name_of, from_of, to_of, trees}
@@ -49,19 +49,19 @@ module _ (source : List ℕ) (D : Derives) (rec : (rule : Rule) (ts : List Lexem
     between : (ts inner : List Lexeme) (o c : Lexeme) → ts ≡ o ∷ inner ++ c ∷ [] → EachNamed source ts → EachNamed source inner
     between ts inner o c whole h = (each_two source inner (c ∷ []) (each_at source ts (o ∷ inner ++ c ∷ []) whole h).1).0
 
-    named : (ts : List Lexeme) (e : Tree) (n : Lexeme) → EachNamed source ts → ts ≡ n ∷ [] → n.word ≡ w.Name
+    named : (ts : List Lexeme) (e : Tree) (n : Lexeme) → EachNamed source ts → ts ≡ n ∷ [] → n.terminal ≡ w.Name
         → e ≡ Node op.Name none (from_of ts) (to_of ts) → Named source e
-    named ts e n h whole word is =
+    named ts e n h whole terminal is =
         let k = each_at source ts (n ∷ []) whole h in
         let one : Node op.Name none (from_of ts) (to_of ts) ≡ Node op.Name none n.from n.to = ap (λ l. Node op.Name none (from_of l) (to_of l)) whole in
-        of_tree e (Node op.Name none n.from n.to) (is ∙ one) (k.0 word)
+        of_tree e (Node op.Name none n.from n.to) (is ∙ one) (k.0 terminal)
 
     primary : (ts : List Lexeme) (e : Tree) → EachNamed source ts → IsPrimary D ts e → Named source e
-    primary ts e h (inl (n, whole, word, is)) = named ts e n h whole word is
-    primary ts e h (inr (inl (n, b, arguments, whole, word, args, is))) =
+    primary ts e h (inl (n, whole, terminal, is)) = named ts e n h whole terminal is
+    primary ts e h (inr (inl (n, b, arguments, whole, terminal, args, is))) =
         of_tree e (Node (op.Call (name_of n)) (trees arguments) (from_of ts) (to_of ts)) is tt
-    primary ts e h (inr (inr (inl (n, value, whole, word, is)))) = of_tree e (Node (op.Number value) none (from_of ts) (to_of ts)) is tt
-    primary ts e h (inr (inr (inr (inl (n, value, whole, word, is))))) = of_tree e (Node (op.Char value) none (from_of ts) (to_of ts)) is tt
+    primary ts e h (inr (inr (inl (n, value, whole, terminal, is)))) = of_tree e (Node (op.Number value) none (from_of ts) (to_of ts)) is tt
+    primary ts e h (inr (inr (inr (inl (n, value, whole, terminal, is))))) = of_tree e (Node (op.Char value) none (from_of ts) (to_of ts)) is tt
     primary ts e h (inr (inr (inr (inr (inl (t, rest, whole, strings, is)))))) = of_tree e (Node op.Text none (from_of ts) (to_of ts)) is tt
     primary ts e h (inr (inr (inr (inr (inr (o, inner, c, whole, opens, closes, d)))))) = rec Expression inner e (between ts inner o c whole h) d
 
@@ -75,8 +75,8 @@ module _ (source : List ℕ) (D : Derives) (rec : (rule : Rule) (ts : List Lexem
     unary ts e h (inl (t, b, number, x, whole, sign, operand, is)) = of_tree e (Node (op.Prefix number) (more x none) (from_of ts) (to_of ts)) is tt
     unary ts e h (inr (inl (t, b, number, x, whole, step, operand, is))) =
         of_tree e (Node (op.Prefix number) (more x none) (from_of ts) (to_of ts)) is tt
-    unary ts e h (inr (inr (inl (t, b, x, whole, word, operand, is)))) = of_tree e (Node op.SizeOf (more x none) (from_of ts) (to_of ts)) is tt
-    unary ts e h (inr (inr (inr (inl (t, b, kind, whole, word, type, is))))) = of_tree e (Node (op.SizeOfType kind) none (from_of ts) (to_of ts)) is tt
+    unary ts e h (inr (inr (inl (t, b, x, whole, terminal, operand, is)))) = of_tree e (Node op.SizeOf (more x none) (from_of ts) (to_of ts)) is tt
+    unary ts e h (inr (inr (inr (inl (t, b, kind, whole, terminal, type, is))))) = of_tree e (Node (op.SizeOfType kind) none (from_of ts) (to_of ts)) is tt
     unary ts e h (inr (inr (inr (inr p)))) = postfix ts e h p
 
     operand : (ts : List Lexeme) (e : Tree) → EachNamed source ts → IsOperand D ts e → Named source e

@@ -11,66 +11,66 @@ use Rattle.cw_syntax.specs.Names.{slice}
 use Rattle.cw_lex.specs.declared.tokens.TokenKind.{TokenKind}
 use Rattle.cw_lex.specs.declared.tokens.TokenKind.TheVariants as kind
 use Rattle.cw_lex.specs.declared.tokens.Token.{Token}
-use Rattle.cw_lex.specs.declared.piece.Front.TheVariants as piece
+use Rattle.cw_lex.specs.declared.front.Front.TheVariants as front
 use Rattle.cw_lex.specs.Bytes.{is_letter, is_white}
 use Rattle.cw_lex.specs.Bytes.{is_name_byte as is_word_byte}
 use Rattle.cw_lex.specs.Characters.{character_len, text_len}
-use Rattle.cw_lex.specs.Pieces.{word, piece_at}
+use Rattle.cw_lex.specs.Fronts.{identifier, front_at}
 use Rattle.cw_lex.specs.Tokens.{AreTokens}
 use Rattle.cw_lex.proofs.Each.{IsTokenOf, each_token}
 use Rattle.cw_lex.proofs.Alone.{chosen}
-use Rattle.cw_lex.proofs.Tokened.{word_length}
+use Rattle.cw_lex.proofs.Tokened.{identifier_length}
 use Rattle.cw_lex.proofs.Valued.{by_kind, number_kind, quoted_kind, empty_text}
-use Rattle.cw_grammar.specs.declared.words.Word.{Word}
-use Rattle.cw_grammar.specs.declared.words.Word.TheVariants as w
-use Rattle.cw_grammar.specs.declared.words.Lexeme.{Lexeme}
-use Rattle.cw_grammar.specs.Spelling.{Spellings, keywords, long_punctuators, short_punctuators, spelled, punctuator, word_of, lexemes_of}
+use Rattle.cw_grammar.specs.declared.terminals.Terminal.{Terminal}
+use Rattle.cw_grammar.specs.declared.terminals.Terminal.TheVariants as w
+use Rattle.cw_grammar.specs.declared.terminals.Lexeme.{Lexeme}
+use Rattle.cw_grammar.specs.Spelling.{Spellings, keywords, long_punctuators, short_punctuators, spelled, punctuator, terminal_of, lexemes_of}
 use Rattle.cw_lex.proofs.Each.{slice_long}
 
--- the word of names
-abbrev is_name_word : Word → Bool
-is_name_word w.Name = true
-is_name_word _ = false
+-- the terminal of names
+abbrev is_name_terminal : Terminal → Bool
+is_name_terminal w.Name = true
+is_name_terminal _ = false
 
 abbrev none_named : Spellings → Bool
 none_named [] = true
-none_named (s ∷ ss) = cond (is_name_word s.1) false (none_named ss)
+none_named (s ∷ ss) = cond (is_name_terminal s.1) false (none_named ss)
 
-abbrev word_in : Option Word → Bool
-word_in None = false
-word_in (Some word) = is_name_word word
+abbrev terminal_in : Option Terminal → Bool
+terminal_in None = false
+terminal_in (Some identifier) = is_name_terminal identifier
 
-spelled_other : (ss : Spellings) → none_named ss ≡ true → (text : List ℕ) → word_in (spelled ss text) ≡ false
+spelled_other : (ss : Spellings) → none_named ss ≡ true → (text : List ℕ) → terminal_in (spelled ss text) ≡ false
 spelled_other [] h text = refl
-spelled_other (s ∷ ss) h text = by (is_name_word s.1) refl h (bytes_eq text s.0) (spelled_other ss)
+spelled_other (s ∷ ss) h text = by (is_name_terminal s.1) refl h (bytes_eq text s.0) (spelled_other ss)
   where
-    by : (named : Bool) → is_name_word s.1 ≡ named → cond named false (none_named ss) ≡ true → (same : Bool)
-        → (none_named ss ≡ true → (rest : List ℕ) → word_in (spelled ss rest) ≡ false) → word_in (cond same (Some s.1) (spelled ss text)) ≡ false
+    by : (named : Bool) → is_name_terminal s.1 ≡ named → cond named false (none_named ss) ≡ true → (same : Bool)
+        → (none_named ss ≡ true → (rest : List ℕ) → terminal_in (spelled ss rest) ≡ false) → terminal_in (cond same (Some s.1) (spelled ss text)) ≡ false
     by true n e same rest = cc
     by false n e true rest = n
     by false n e false rest = rest e text
 
-or_other : (o : Option Word) → word_in o ≡ false → is_name_word (unwrap_or o w.OtherKeyword) ≡ false
+or_other : (o : Option Terminal) → terminal_in o ≡ false → is_name_terminal (unwrap_or o w.OtherKeyword) ≡ false
 or_other None h = refl
-or_other (Some word) h = h
+or_other (Some identifier) h = h
 
-two_other : (o p : Option Word) → word_in o ≡ false → word_in p ≡ false → word_in (elim o [ Some word ↦ Some word | None ↦ p ]) ≡ false
+two_other : (o p : Option Terminal) → terminal_in o ≡ false → terminal_in p ≡ false → terminal_in (elim o [ Some identifier ↦ Some identifier | None ↦ p ]) ≡ false
 two_other None p h k = k
-two_other (Some word) p h k = h
+two_other (Some identifier) p h k = h
 
--- only a name has the word of names
-word_named : (k : TokenKind) (text : List ℕ) → word_of k text ≡ w.Name → k ≡ kind.Name
-unfolding word_of
-word_named kind.Name text e = refl
-word_named kind.Keyword text e = let z : true ≡ false = sym (ap is_name_word e) ∙ or_other (spelled keywords text)
+-- only a name has the terminal of names
+terminal_named : (k : TokenKind) (text : List ℕ) → terminal_of k text ≡ w.Name → k ≡ kind.Name
+unfolding terminal_of
+terminal_named kind.Name text e = refl
+terminal_named kind.Keyword text e = let z : true ≡ false = sym (ap is_name_terminal e) ∙ or_other (spelled keywords text)
     (spelled_other keywords refl text) in absurd (cc)
-word_named kind.Number text e = absurd (cc)
-word_named kind.Character text e = absurd (cc)
-word_named kind.Text text e = absurd (cc)
-word_named kind.Punctuation text e =
+terminal_named kind.Number text e = absurd (cc)
+terminal_named kind.Character text e = absurd (cc)
+terminal_named kind.Text text e = absurd (cc)
+terminal_named kind.Punctuation text e =
     let long = spelled_other long_punctuators refl text in
     let short = spelled_other short_punctuators refl text in
-    let z : true ≡ false = sym (ap is_name_word e) ∙ or_other (punctuator text)
+    let z : true ≡ false = sym (ap is_name_terminal e) ∙ or_other (punctuator text)
     (two_other (spelled long_punctuators text) (spelled short_punctuators text) long short) in
     absurd (cc)
 
@@ -101,14 +101,14 @@ all_run (b ∷ bs) h = by (is_word_byte b) refl (λ le. all_run bs le) h
     by true e rest le = rw (byte_passes b e) (rest (omega (arith, le)))
     by false e rest le = absurd (omega (arith, le))
 
-run_long : (b : ℕ) (bs : List ℕ) → is_letter b ≡ true → piece_at true (b ∷ bs) ≡ piece.Token kind.Name (suc (length bs)) → length (take_while is_word_byte (b ∷ bs)) ≡ suc (length bs)
-unfolding piece_at
+run_long : (b : ℕ) (bs : List ℕ) → is_letter b ≡ true → front_at true (b ∷ bs) ≡ front.Token kind.Name (suc (length bs)) → length (take_while is_word_byte (b ∷ bs)) ≡ suc (length bs)
+unfolding front_at
 run_long b bs l e =
-    let v = piece.Token kind.Name (suc (length bs)) in
+    let v = front.Token kind.Name (suc (length bs)) in
     chosen (is_white b) _ _ v _ (λ t h. absurd cc) (λ t1 h1.
-    chosen (is_letter b) _ _ v _ (λ t h. word_length (take_while is_word_byte (b ∷ bs)) kind.Name (suc (length bs)) h) (λ t h. absurd (both_ways (is_letter b) t l)) h1) e
+    chosen (is_letter b) _ _ v _ (λ t h. identifier_length (take_while is_word_byte (b ∷ bs)) kind.Name (suc (length bs)) h) (λ t h. absurd (both_ways (is_letter b) t l)) h1) e
 
-letter_named : (b : ℕ) (bs : List ℕ) → is_letter b ≡ true → piece_at true (b ∷ bs) ≡ piece.Token kind.Name (suc (length bs)) → is_name (b ∷ bs) ≡ true
+letter_named : (b : ℕ) (bs : List ℕ) → is_letter b ≡ true → front_at true (b ∷ bs) ≡ front.Token kind.Name (suc (length bs)) → is_name (b ∷ bs) ≡ true
 letter_named b bs l e =
     let long = run_long b bs l e in
     let whole = all_run (b ∷ bs) (omega (arith, long, length-prefix_len is_word_byte (b ∷ bs))) in
@@ -119,7 +119,7 @@ letter_named b bs l e =
     both true a false f g = absurd (cc)
     both false a n f g = absurd (cc)
 
-name_named : (text : List ℕ) → piece_at true text ≡ piece.Token kind.Name (length text) → IsTrue (is_name text)
+name_named : (text : List ℕ) → front_at true text ≡ front.Token kind.Name (length text) → IsTrue (is_name text)
 name_named [] e = absurd (empty_text kind.Name e)
 name_named (b ∷ bs) e =
     let n = suc (length bs) in
@@ -133,17 +133,17 @@ name_named (b ∷ bs) e =
 -- each of these that is a name is a C name
 abbrev pub EachNamed : List ℕ → List Lexeme → Type 0
 EachNamed source [] = Unit {0}
-EachNamed source (t ∷ ts) = (t.word ≡ w.Name → IsTrue (is_name (slice source t.from t.to))) × EachNamed source ts
+EachNamed source (t ∷ ts) = (t.terminal ≡ w.Name → IsTrue (is_name (slice source t.from t.to))) × EachNamed source ts
 
 token_named : (source : List ℕ) (t : Token) → IsTokenOf source t → t.kind ≡ kind.Name → IsTrue (is_name (slice source t.from t.to))
 token_named source t h is =
-    let alone = subst (λ (n : ℕ). piece_at true (slice source t.from t.to) ≡ piece.Token t.kind n) (sym (slice_long source t h)) h.alone in
-    name_named (slice source t.from t.to) (subst (λ k. piece_at true (slice source t.from t.to) ≡ piece.Token k
+    let alone = subst (λ (n : ℕ). front_at true (slice source t.from t.to) ≡ front.Token t.kind n) (sym (slice_long source t h)) h.alone in
+    name_named (slice source t.from t.to) (subst (λ k. front_at true (slice source t.from t.to) ≡ front.Token k
     (length (slice source t.from t.to))) is alone)
 
 each_named : (source : List ℕ) (ts : List Token) → AllByRecursion (IsTokenOf source) ts → EachNamed source (lexemes_of source ts)
 each_named source [] h = tt
-each_named source (t ∷ ts) h = ((λ e. token_named source t h.0 (word_named t.kind (slice source t.from t.to) e)), each_named source ts h.1)
+each_named source (t ∷ ts) h = ((λ e. token_named source t h.0 (terminal_named t.kind (slice source t.from t.to) e)), each_named source ts h.1)
 
 pub tokens_named : (source : List ℕ) (ts : List Token) → AreTokens source ts → EachNamed source (lexemes_of source ts)
 tokens_named source ts h = each_named source ts (each_token source ts h)

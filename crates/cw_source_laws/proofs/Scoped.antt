@@ -15,7 +15,7 @@ use Rattle.cw_syntax.specs.Trees.{Perhaps, nothing, just, Statements, nil, cons,
 use Rattle.cw_syntax.specs.Plans.{Action, Computes, Scene, action_of, call_action, assigned_action, closed_by, closes_if, descriptor_of, opens_if, scene_of, function_names}
 use Rattle.cw_scope.specs.declared.faults.ScopeFault.{ScopeFault}
 use Rattle.cw_scope.specs.declared.faults.ScopeFault.TheVariants.{MainCalled}
-use Rattle.cw_scope.specs.Walks.{nodes, Placed, placed, placed_within, placed_arm, placed_all, body_of, every_statement, Whole, inner, declaration_trees, wholes_in, wholes_of, every_whole, every_node}
+use Rattle.cw_scope.specs.Walks.{nodes, Nested, nested, nested_within, nested_arm, nested_all, body_of, every_statement, Whole, inner, declaration_trees, wholes_in, wholes_of, every_whole, every_node}
 use Rattle.cw_scope.specs.Names.{uses, every_name, every_label}
 use Rattle.cw_scope.specs.Rules.{at_if, is_main, main_call}
 use Rattle.cw_resolve.specs.Soonest.{soonest}
@@ -79,30 +79,30 @@ module _ (source : List ℕ) where
   split_wholes [] vs h = (tt, h)
   split_wholes (w ∷ ws) vs h = let both = split_wholes ws vs h.1 in ((h.0, both.0), both.1)
 
-  abbrev AllPlaced : List Placed → Type 0
+  abbrev AllPlaced : List Nested → Type 0
   AllPlaced [] = Unit {0}
   AllPlaced (p ∷ ps) = Wholes (wholes_of p.statement) × AllPlaced ps
 
-  placed_leave : (ps : List Placed) → Wholes (flat_map (λ p. wholes_of p.statement) ps) → AllPlaced ps
+  placed_leave : (ps : List Nested) → Wholes (flat_map (λ p. wholes_of p.statement) ps) → AllPlaced ps
   placed_leave [] h = tt
   placed_leave (p ∷ ps) h = let both = split_wholes (wholes_of p.statement) (flat_map (λ q. wholes_of q.statement) ps) h in (both.0, placed_leave ps both.1)
 
-  split_placed : (ps qs : List Placed) → AllPlaced (ps ++ qs) → AllPlaced ps × AllPlaced qs
+  split_placed : (ps qs : List Nested) → AllPlaced (ps ++ qs) → AllPlaced ps × AllPlaced qs
   split_placed [] qs h = (tt, h)
   split_placed (p ∷ ps) qs h = let both = split_placed ps qs h.1 in ((h.0, both.0), both.1)
 
   mutual
-    stands : (looped : Bool) (s : Statement) → AllPlaced (placed looped s) → EachStands LeavesAll s
+    stands : (looped : Bool) (s : Statement) → AllPlaced (nested looped s) → EachStands LeavesAll s
     stands looped (Stated form from to) h = stands_in looped form h.0 h.1
 
-    stands_in : (looped : Bool) (form : Form) → Wholes (wholes_in form) → AllPlaced (placed_within looped form) → EachStandsIn LeavesAll form
+    stands_in : (looped : Bool) (form : Form) → Wholes (wholes_in form) → AllPlaced (nested_within looped form) → EachStandsIn LeavesAll form
     stands_in looped (Block ss) w h = stand_all looped ss h
     stands_in looped (Declares d) w h = tt
     stands_in looped (Evaluates e) w h = w.0
     stands_in looped Empties w h = tt
     stands_in looped (Labels name mark s) w h = stands looped s h
     stands_in looped (Chooses test s other) w h =
-        let both = split_placed (placed looped s) (placed_arm looped other) h in
+        let both = split_placed (nested looped s) (nested_arm looped other) h in
         (stands looped s both.0, stands_arm looped other both.1)
     stands_in looped (Whiles test s) w h = stands true s h
     stands_in looped (Does s test) w h = stands true s h
@@ -111,14 +111,14 @@ module _ (source : List ℕ) where
     stands_in looped Continues w h = tt
     stands_in looped (Returns value) w h = tt
 
-    stands_arm : (looped : Bool) (arm : Perhaps) → AllPlaced (placed_arm looped arm) → EachStandsArm LeavesAll arm
+    stands_arm : (looped : Bool) (arm : Perhaps) → AllPlaced (nested_arm looped arm) → EachStandsArm LeavesAll arm
     stands_arm looped nothing h = tt
     stands_arm looped (just s) h = stands looped s h
 
-    stand_all : (looped : Bool) (ss : Statements) → AllPlaced (placed_all looped ss) → EachStandsAll LeavesAll ss
+    stand_all : (looped : Bool) (ss : Statements) → AllPlaced (nested_all looped ss) → EachStandsAll LeavesAll ss
     stand_all looped nil h = tt
     stand_all looped (cons s ss) h =
-        let both = split_placed (placed looped s) (placed_all looped ss) h in
+        let both = split_placed (nested looped s) (nested_all looped ss) h in
         (stands looped s both.0, stand_all looped ss both.1)
 
   stand_from : (fs : List Definition) → AllPlaced (flat_map body_of fs) → EachStandsFrom LeavesAll fs
@@ -130,8 +130,8 @@ module _ (source : List ℕ) where
   pub statements_leave : (file : File) → scope_fault source file ≡ None → EachStandsFrom LeavesAll file.functions
   statements_leave file kept =
       let all = wholes_leave (every_whole file) (leave_of (every_node file) (main_kept source file kept)) in
-      let placed = split_wholes (map inner (flat_map declaration_trees file.globals)) (flat_map (λ p. wholes_of p.statement) (every_statement file)) all in
-      stand_from file.functions (placed_leave (every_statement file) placed.1)
+      let nested = split_wholes (map inner (flat_map declaration_trees file.globals)) (flat_map (λ p. wholes_of p.statement) (every_statement file)) all in
+      stand_from file.functions (placed_leave (every_statement file) nested.1)
 
   -- a name that has a number among these names, and the number of the name that it is
   numbered_at : (t : List ℕ) (names : List (List ℕ)) (n : ℕ) → number_in names t ≡ Some n → (position_or_len (bytes_eq t) names ≡ n) × (n < length names)

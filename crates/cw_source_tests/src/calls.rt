@@ -5,7 +5,7 @@ ghost use Rattle.std.specs.Prelude.{◌≤◌, length};
 use crate::trees::{Part, written};
 use cw_expressions::expressions::{fact_one_expression, read_expression};
 use cw_grammar::spelling::lexemes;
-use cw_grammar::words::Lexeme;
+use cw_grammar::terminals::Lexeme;
 use cw_lex::{Token, TokenKind, laws_of_sources, laws_of_texts, laws_of_tokens, lex};
 use cw_parse::laws::laws_of_programs;
 use cw_parse::parse;
@@ -22,8 +22,8 @@ use std::process::Abort;
 pub enum Call {
     /// `lex`: the kinds and places of the tokens.
     Tokens,
-    /// `lexemes`: the first word.
-    FirstWord,
+    /// `lexemes`: the first terminal.
+    FirstTerminal,
     /// `read_expression`: the tree of the expression at the front, and how many tokens are left.
     Expression,
     /// `read_expression`: that there is one.
@@ -74,8 +74,8 @@ fn tokens_told(alloc: Global, source: &[u8]) -> Result<String, AllocError>
     }
 }
 
-/// The words of a text; none where it is not made of tokens, or memory is wanting.
-pub fn words_of(alloc: Global, source: &[u8]) -> Vec<Lexeme> {
+/// The terminals of a text; none where it is not made of tokens, or memory is wanting.
+pub fn terminals_of(alloc: Global, source: &[u8]) -> Vec<Lexeme> {
     if source.len() > 262144 {
         return Vec::new(alloc);
     }
@@ -83,13 +83,13 @@ pub fn words_of(alloc: Global, source: &[u8]) -> Vec<Lexeme> {
         return Vec::new(alloc);
     };
     match lexemes(alloc, source, &tokens) {
-        Ok(words) => words,
+        Ok(terminals) => terminals,
         Err(_) => Vec::new(alloc),
     }
 }
 
-fn expression_told(alloc: Global, words: &[Lexeme], whole: bool) -> Result<String, AllocError> {
-    match read_expression(alloc, words) {
+fn expression_told(alloc: Global, terminals: &[Lexeme], whole: bool) -> Result<String, AllocError> {
+    match read_expression(alloc, terminals) {
         Ok((tree, rest)) => {
             if whole {
                 written(alloc, &[Part::Expression(&tree), Part::Left(rest.len())])
@@ -101,19 +101,23 @@ fn expression_told(alloc: Global, words: &[Lexeme], whole: bool) -> Result<Strin
     }
 }
 
-/// What is told of words.
-pub fn words_told(alloc: Global, call: Call, words: &[Lexeme]) -> Result<String, AllocError> {
+/// What is told of terminals.
+pub fn terminals_told(
+    alloc: Global,
+    call: Call,
+    terminals: &[Lexeme],
+) -> Result<String, AllocError> {
     match call {
-        Call::Expression => expression_told(alloc, words, true),
-        Call::HasExpression => expression_told(alloc, words, false),
-        Call::Fault => match recognise(alloc, words) {
+        Call::Expression => expression_told(alloc, terminals, true),
+        Call::HasExpression => expression_told(alloc, terminals, false),
+        Call::Fault => match recognise(alloc, terminals) {
             Ok(None) => String::from_str(alloc, "none"),
             Ok(Some(place)) => format!(in alloc; "at {place}"),
             Err(_) => Err(AllocError),
         },
-        _ => match words {
+        _ => match terminals {
             [] => String::from_str(alloc, "none"),
-            [first, ..] => format!(in alloc; "{:?}", first.word),
+            [first, ..] => format!(in alloc; "{:?}", first.terminal),
         },
     }
 }
@@ -179,7 +183,7 @@ fn told(alloc: Global, call: Call, source: &[u8]) -> Result<String, AllocError> 
         Call::HasProgram => program_told(alloc, source, false),
         Call::Source => source_told(alloc, source, false),
         Call::Descriptors => source_told(alloc, source, true),
-        _ => words_told(alloc, call, &words_of(alloc, source)),
+        _ => terminals_told(alloc, call, &terminals_of(alloc, source)),
     }
 }
 

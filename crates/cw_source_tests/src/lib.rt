@@ -14,8 +14,8 @@ mod recogniser;
 #[cfg(test)]
 mod scope;
 #[cfg(test)]
+mod terminals;
+#[cfg(test)]
 mod tokens;
 #[cfg(test)]
 mod trees;
-#[cfg(test)]
-mod words;

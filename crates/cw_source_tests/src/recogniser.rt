@@ -1,6 +1,6 @@
 //! What no clause says: that a call succeeds, and that 100,000 open constructs are no trouble.
 
-use crate::calls::{Call, all_joined_tell, all_tell, words_of, words_told};
+use crate::calls::{Call, all_joined_tell, all_tell, terminals_of, terminals_told};
 use std::alloc::Global;
 use std::process::Abort;
 
@@ -40,7 +40,7 @@ fn texts_have_these_faults(rt: HostRuntime) {
     );
 }
 
-/// Asserts that no fault is in the words of the middle text so many times, behind those of the front and before those of the back.
+/// Asserts that no fault is in the terminals of the middle text so many times, behind those of the front and before those of the back.
 fn none_within(
     rt: &impl Abort,
     alloc: Global,
@@ -49,14 +49,14 @@ fn none_within(
     count: usize,
     back: &[u8],
 ) {
-    let mut words = words_of(alloc, front);
-    let repeated = words_of(alloc, middle);
+    let mut terminals = terminals_of(alloc, front);
+    let repeated = terminals_of(alloc, middle);
     for _ in 0..count {
-        words.extend_from_slice(&repeated).expect(rt, "words");
+        terminals.extend_from_slice(&repeated).expect(rt, "words");
     }
-    let behind = words_of(alloc, back);
-    words.extend_from_slice(&behind).expect(rt, "words");
-    let told = words_told(alloc, Call::Fault, &words).expect(rt, "a fault");
+    let behind = terminals_of(alloc, back);
+    terminals.extend_from_slice(&behind).expect(rt, "words");
+    let told = terminals_told(alloc, Call::Fault, &terminals).expect(rt, "a fault");
     assert_eq!(rt; told.as_str(), "none");
 }
 

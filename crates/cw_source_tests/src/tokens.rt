@@ -1,4 +1,4 @@
-//! Sources with their tokens and faults, written out by hand. The values of numbers and characters stand in `words`.
+//! Sources with their tokens and faults, written out by hand. The values of numbers and characters stand in `terminals`.
 
 use crate::calls::{Call, all_tell, tells};
 use cw_lex::LexFault;

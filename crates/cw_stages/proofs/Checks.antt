@@ -12,7 +12,7 @@ use Rattle.cw_table_text.specs.declared.row.Row.TheVariants.{Live, Try, At, Open
 use Rattle.cw_table_text.specs.Rows.{from_closed, from_tries, memories, rows_of}
 use Rattle.cw_table_text.specs.Grammar.{Spells}
 use Rattle.cw_wcheck.specs.declared.fault.BadRow.{BadRow}
-use Rattle.cw_wcheck.specs.Checking.{table_of, HasFewRows, told as told_of}
+use Rattle.cw_wcheck.specs.Checking.{table_of, HasFewRows, numbered as told_of}
 use Rattle.cw_woven.specs.declared.fault.WovenFault.{WovenFault}
 use Rattle.cw_woven.specs.declared.fault.WovenFault.TheVariants as fault
 use Rattle.cw_woven.specs.Held.{IsUnopened}

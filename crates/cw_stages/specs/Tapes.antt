@@ -7,7 +7,7 @@ use Rattle.cw_text.specs.Tapes.{IsFault, IsTape}
 use Rattle.cw_commands.specs.declared.outcome.Cause.TheVariants.{Grammar}
 use Rattle.cw_commands.specs.Outcomes.{Due, Refused}
 
--- the refusal by the first line of a tape that has another word: a tape has no other fault
+-- the refusal by the first line of a tape that has another entry: a tape has no other fault
 abbrev pub tape_refusal : (line : ℕ) → Due
 tape_refusal line = Refused Grammar (codes "tape: line " ++ decimal line)
 

@@ -25,7 +25,7 @@ pub enum Stop {
     Strategy(TextFault),
     /// The woven text isn't one.
     Woven(WovenFault),
-    /// The line of the tape that has another word, counted from 1.
+    /// The line of the tape that has another entry, counted from 1.
     Tape(u32),
     /// The line of the audit that isn't of its form, counted from 1.
     Audit(u32),

@@ -6,7 +6,7 @@ ghost use Rattle.cw_rights.specs.Valid.{IsValid};
 ghost use Rattle.cw_resolve.specs.Scenes.{names_of};
 ghost use Rattle.cw_points.specs.Graphs.{IsGraph};
 ghost use Rattle.cw_wcheck.specs.Checking.{HasFewRows};
-ghost use Rattle.cw_woven.specs.Held.{IsOpened};
+ghost use Rattle.cw_woven.specs.Held.{IsUnwoven};
 ghost use Rattle.cw_woven.specs.Reading.{ReadsWoven};
 ghost use Rattle.cw_commands.specs.declared.outcome.Reply.TheVariants.{No};
 ghost use Rattle.cw_commands.specs.Outcomes.{Told};
@@ -22,15 +22,15 @@ use cw_io::{Sink, Writer};
 use cw_points::Graph;
 use cw_rights::Policy;
 use cw_wcheck::BadRow;
-use cw_woven::{Accepted, Opened, accept_woven, open_woven};
+use cw_woven::{Accepted, Unwoven, accept_woven, open_woven};
 use std::alloc::Global;
 
 /// The parts of a woven text of at most 33,554,432 bytes; or the first of them at fault, for which no source is looked at.
-pub fn open<'t>(alloc: Global, policy: &Policy, text: &'t [u8]) -> Result<Opened<'t>, Stop>
+pub fn open<'t>(alloc: Global, policy: &Policy, text: &'t [u8]) -> Result<Unwoven<'t>, Stop>
     requires valid { IsValid (policy_of policy.now) }
     requires short { length text.now ≤ 33554432 }
     ensures text { IfOk result (λ parts. parts.text.now ≡ text.now) }
-    ensures opened { IfOk result (λ parts. IsOpened (policy_of policy.now) parts) }
+    ensures unwoven { IfOk result (λ parts. IsUnwoven (policy_of policy.now) parts) }
     ensures stop { IfErr result (IsStop (policy_of policy.now) [] (IsWovenRefusal (policy_of policy.now) text.now)) }
 {
     match open_woven(alloc, text, policy) {
@@ -43,20 +43,20 @@ pub fn open<'t>(alloc: Global, policy: &Policy, text: &'t [u8]) -> Result<Opened
 pub fn accept<'r>(
     alloc: Global,
     policy: &'r Policy,
-    opened: &'r Opened,
+    unwoven: &'r Unwoven,
 ) -> Result<(Reading<'r>, Graph), Stop>
     requires valid { IsValid (policy_of policy.now) }
-    requires opened { IsOpened (policy_of policy.now) opened.now }
+    requires unwoven { IsUnwoven (policy_of policy.now) unwoven.now }
     ensures policy { IfOk result (λ both. both.0.policy.now ≡ policy.now) }
-    ensures source { IfOk result (λ both. source_of both.0 ≡ opened.now.source.items) }
+    ensures source { IfOk result (λ both. source_of both.0 ≡ unwoven.now.source.items) }
     ensures is { IfOk result (λ both. IsReading both.0) }
-    ensures read { IfOk result (λ both. ReadsWoven (policy_of policy.now) opened.now.text.now opened.now.source.items (file_in both.0) opened.now.table) }
+    ensures read { IfOk result (λ both. ReadsWoven (policy_of policy.now) unwoven.now.text.now unwoven.now.source.items (file_in both.0) unwoven.now.table) }
     ensures graph { IfOk result (λ both. IsGraph (names_of (whole_of both.0)) (source_of both.0) (file_in both.0) both.1) }
     ensures points { IfOk result (λ both. length both.1.nodes.items ≤ 8192) }
-    ensures few { IfOk result (λ _. HasFewRows opened.now.table) }
-    ensures stop { IfErr result (IsStop (policy_of policy.now) opened.now.source.items (IsWovenRefusal (policy_of policy.now) opened.now.text.now)) }
+    ensures few { IfOk result (λ _. HasFewRows unwoven.now.table) }
+    ensures stop { IfErr result (IsStop (policy_of policy.now) unwoven.now.source.items (IsWovenRefusal (policy_of policy.now) unwoven.now.text.now)) }
 {
-    match accept_woven(alloc, opened, policy) {
+    match accept_woven(alloc, unwoven, policy) {
         Ok(accepted) => {
             let Accepted { checked, graph } = accepted;
             Ok((Reading { policy, checked }, graph))

@@ -11,7 +11,7 @@ use cw_certs::Move;
 use cw_text::{TextFault, read_tape};
 use std::alloc::Global;
 
-/// The moves of a tape, a play's or a run's; or its first line that has another word.
+/// The moves of a tape, a play's or a run's; or its first line that has another entry.
 pub fn moves_of(alloc: Global, text: &[u8], play: bool) -> Result<Vec<Move>, Stop>
     requires { length text.now ≤ 33554432 }
     ensures moves { IfOk result (λ moves. IsTape play text.now moves.items) }

@@ -16,8 +16,8 @@ item_at i = declared_of i.now
 abbrev pub named_at : List ℕ → List ℕ → Declared → Bool
 named_at bytes name i = bytes_eq name (text bytes i.name)
 
-abbrev pub told_size : Declared → Bool
-told_size i = is_some (size_in i.array) || i.braces
+abbrev pub stated_size : Declared → Bool
+stated_size i = is_some (size_in i.array) || i.braces
 
 -- a name begins unset where some declaration of it has an initialiser, and else with 0
 abbrev pub begins_with : List ℕ → List Declared → List ℕ → Cell

@@ -5,7 +5,7 @@ ghost use Rattle.std.specs.List.{flat_map, list_any};
 ghost use Rattle.cw_syntax.specs.Trees.{declaration_of, declared_of, file_of, trees_of};
 ghost use Rattle.cw_value.specs.Machines.{globals};
 ghost use Rattle.cw_value.specs.Starts.{has_list};
-ghost use Rattle.cw_starts.specs.Held.{AreListed, begins_with, item_at, named_at, told_size};
+ghost use Rattle.cw_starts.specs.Held.{AreListed, begins_with, item_at, named_at, stated_size};
 
 use crate::texts::Texts;
 use cw_syntax::names::text;
@@ -118,14 +118,14 @@ pub(crate) fn cell_by(_source: &[u8], _items: &[&Item], listed: &Texts, name: &[
 
 /// Whether a declaration is one of this name and tells how many elements its array has.
 fn tells(source: &[u8], name: &[u8], item: &Item) -> bool
-    ensures { result ≡ (named_at source.now name.now (declared_of item.now) && told_size (declared_of item.now)) }
+    ensures { result ≡ (named_at source.now name.now (declared_of item.now) && stated_size (declared_of item.now)) }
 {
     is_named(source, name, item) && has_size(item)
 }
 
 /// Whether a declaration tells how many elements its array has.
 fn has_size(item: &Item) -> bool
-    ensures { result ≡ told_size (declared_of item.now) }
+    ensures { result ≡ stated_size (declared_of item.now) }
 {
     match &item.array {
         None => item.braces,
@@ -134,8 +134,8 @@ fn has_size(item: &Item) -> bool
 }
 
 /// Whether one of these declarations has told how many elements the array has.
-pub(crate) fn is_told(source: &[u8], earlier: &[&Item], name: &[u8]) -> bool
-    ensures { result ≡ list_any (λ e. named_at source.now name.now e && told_size e) (map item_at earlier.now) }
+pub(crate) fn is_stated(source: &[u8], earlier: &[&Item], name: &[u8]) -> bool
+    ensures { result ≡ list_any (λ e. named_at source.now name.now e && stated_size e) (map item_at earlier.now) }
 {
     for item in earlier {
         if tells(source, name, item) {

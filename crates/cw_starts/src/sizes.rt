@@ -4,7 +4,7 @@ ghost use Rattle.std.specs.Prelude.{◌≡◌, map, IfOk};
 ghost use Rattle.cw_syntax.specs.Trees.{array_of, declared_of, trees_of};
 ghost use Rattle.cw_value.specs.Declarations.{size_in, sized};
 ghost use Rattle.cw_value.specs.Machines.{globals, shared_names};
-ghost use Rattle.cw_value.specs.Starts.{blank, first_told, known_size, no_memory, no_store, number_of, start_store, told};
+ghost use Rattle.cw_value.specs.Starts.{blank, first_stated, known_size, no_memory, no_store, number_of, start_store, stated};
 ghost use Rattle.cw_eval.specs.Shown.{store_of};
 ghost use Rattle.cw_starts.specs.Held.{begins_with, item_at};
 ghost use Rattle.cw_starts.specs.Sources.{array_with, source_in};
@@ -77,8 +77,8 @@ fn known_size(source: &Source, item: &Item) -> Result<Option<usize>, NoMemory>
 }
 
 /// The size that a declaration of this name tells.
-fn told(source: &Source, name: &[u8], item: &Item) -> Result<Option<usize>, NoMemory>
-    ensures { IfOk result (λ n. n ≡ told (source_in source.now) name.now (declared_of item.now)) }
+fn stated(source: &Source, name: &[u8], item: &Item) -> Result<Option<usize>, NoMemory>
+    ensures { IfOk result (λ n. n ≡ stated (source_in source.now) name.now (declared_of item.now)) }
 {
     if is_named(source.bytes, name, item) {
         known_size(source, item)
@@ -88,11 +88,11 @@ fn told(source: &Source, name: &[u8], item: &Item) -> Result<Option<usize>, NoMe
 }
 
 /// The first size that a declaration of this name tells.
-fn first_told(source: &Source, name: &[u8], items: &[&Item]) -> Result<Option<usize>, NoMemory>
-    ensures { IfOk result (λ n. n ≡ first_told (source_in source.now) name.now (map item_at items.now)) }
+fn first_stated(source: &Source, name: &[u8], items: &[&Item]) -> Result<Option<usize>, NoMemory>
+    ensures { IfOk result (λ n. n ≡ first_stated (source_in source.now) name.now (map item_at items.now)) }
 {
     for item in items {
-        if let Some(n) = told(source, name, item)? {
+        if let Some(n) = stated(source, name, item)? {
             return Ok(Some(n));
         }
     }
@@ -103,7 +103,7 @@ fn first_told(source: &Source, name: &[u8], items: &[&Item]) -> Result<Option<us
 fn start_array(source: &Source, name: &[u8], items: &[&Item]) -> Result<Cells, NoMemory>
     ensures { IfOk result (λ cells. cells ≡ array_with (source_in source.now) (map item_at items.now) name.now) }
 {
-    let size = first_told(source, name, items)?;
+    let size = first_stated(source, name, items)?;
     Ok(Cells::new(
         source.alloc,
         size.unwrap_or(0),

@@ -5,16 +5,16 @@ ghost use Rattle.cw_syntax.specs.Names.{text};
 ghost use Rattle.cw_syntax.specs.Trees.{declared_of, trees_of};
 ghost use Rattle.cw_value.specs.Machines.{globals, scope_in};
 ghost use Rattle.cw_value.specs.Starts.{array_turn, plain_turn, turn_at, turns};
-ghost use Rattle.cw_slots.specs.Shown.{place_in, scope_of};
+ghost use Rattle.cw_slots.specs.Shown.{location_in, scope_of};
 ghost use Rattle.cw_eval.specs.Shown.{Shows, as_done, memory_of};
 ghost use Rattle.cw_starts.specs.Held.{item_at};
 ghost use Rattle.cw_starts.specs.Sources.{source_in};
 ghost use Rattle.cw_starts.specs.Turning.{Turns, bare_turn, one_turn};
 
-use crate::outer::{is_told, start_cell};
+use crate::outer::{is_stated, start_cell};
 use crate::sizes::Source;
 use cw_eval::{Halt, Memory, make_array, new_array, new_plain, sized};
-use cw_slots::{Place, Scope};
+use cw_slots::{Location, Scope};
 use cw_syntax::program::{Expr, Item};
 
 /// What the turns of a file's declarations go by: the source, its scope, all that is declared.
@@ -26,15 +26,20 @@ pub struct Turning<'a, 's> {
 }
 
 /// A name that is no array takes its turn only where it has an initialiser.
-fn plain_turn(turning: &Turning, place: Place, init: &[Expr], m: &mut Memory) -> Result<(), Halt>
+fn plain_turn(
+    turning: &Turning,
+    location: Location,
+    init: &[Expr],
+    m: &mut Memory,
+) -> Result<(), Halt>
     requires turns { Turns turning.now }
-    ensures { Shows as_done result (memory_of m.new) (plain_turn (source_in turning.now.source) (place_in place) (trees_of init.now) (memory_of m.old)) }
+    ensures { Shows as_done result (memory_of m.new) (plain_turn (source_in turning.now.source) (location_in location) (trees_of init.now) (memory_of m.old)) }
 {
     match init {
         [] => Ok(()),
         [first, ..] => {
             let _ = first;
-            new_plain(&turning.scope, place, init, m)
+            new_plain(&turning.scope, location, init, m)
         }
     }
 }
@@ -43,18 +48,18 @@ fn plain_turn(turning: &Turning, place: Place, init: &[Expr], m: &mut Memory) ->
 fn bare_turn(
     turning: &Turning,
     earlier: &[&Item],
-    place: Place,
+    location: Location,
     name: &[u8],
     item: &Item,
     m: &mut Memory,
 ) -> Result<(), Halt>
     requires turns { Turns turning.now }
-    ensures { Shows as_done result (memory_of m.new) (bare_turn (source_in turning.now.source) (map item_at earlier.now) (place_in place) name.now (declared_of item.now) (memory_of m.old)) }
+    ensures { Shows as_done result (memory_of m.new) (bare_turn (source_in turning.now.source) (map item_at earlier.now) (location_in location) name.now (declared_of item.now) (memory_of m.old)) }
 {
     let n = sized(&turning.scope, &item.array, item.braces, &item.init, m)?;
-    if !is_told(turning.source.bytes, earlier, name) {
+    if !is_stated(turning.source.bytes, earlier, name) {
         let cell = start_cell(turning.source.bytes, turning.items, name);
-        make_array(place, n, cell, m);
+        make_array(location, n, cell, m);
     }
     Ok(())
 }
@@ -63,20 +68,20 @@ fn bare_turn(
 fn array_turn(
     turning: &Turning,
     earlier: &[&Item],
-    place: Place,
+    location: Location,
     name: &[u8],
     item: &Item,
     init: &[Expr],
     m: &mut Memory,
 ) -> Result<(), Halt>
     requires turns { Turns turning.now }
-    ensures { Shows as_done result (memory_of m.new) (array_turn (source_in turning.now.source) (map item_at earlier.now) (place_in place) name.now (declared_of item.now) (trees_of init.now) (memory_of m.old)) }
+    ensures { Shows as_done result (memory_of m.new) (array_turn (source_in turning.now.source) (map item_at earlier.now) (location_in location) name.now (declared_of item.now) (trees_of init.now) (memory_of m.old)) }
 {
     match init {
-        [] => bare_turn(turning, earlier, place, name, item, m),
+        [] => bare_turn(turning, earlier, location, name, item, m),
         [first, ..] => {
             let _ = first;
-            new_array(&turning.scope, place, item, m)
+            new_array(&turning.scope, location, item, m)
         }
     }
 }
@@ -87,18 +92,20 @@ fn turn_at(
     earlier: &[&Item],
     name: &[u8],
     item: &Item,
-    place: Place,
+    location: Location,
     m: &mut Memory,
 ) -> Result<(), Halt>
     requires turns { Turns turning.now }
-    ensures { Shows as_done result (memory_of m.new) (turn_at (source_in turning.now.source) (map item_at earlier.now) name.now (declared_of item.now) (place_in place) (memory_of m.old)) }
+    ensures { Shows as_done result (memory_of m.new) (turn_at (source_in turning.now.source) (map item_at earlier.now) name.now (declared_of item.now) (location_in location) (memory_of m.old)) }
 {
-    match place {
-        Place::Shared(_) => plain_turn(turning, place, &item.init, m),
-        Place::SharedArray(_) => array_turn(turning, earlier, place, name, item, &item.init, m),
-        Place::Own(_) => Ok(()),
-        Place::OwnArray(_) => Ok(()),
-        Place::Nowhere => Ok(()),
+    match location {
+        Location::Shared(_) => plain_turn(turning, location, &item.init, m),
+        Location::SharedArray(_) => array_turn(
+            turning, earlier, location, name, item, &item.init, m,
+        ),
+        Location::Own(_) => Ok(()),
+        Location::OwnArray(_) => Ok(()),
+        Location::Nowhere => Ok(()),
     }
 }
 
@@ -108,7 +115,14 @@ fn turn(turning: &Turning, earlier: &[&Item], item: &Item, m: &mut Memory) -> Re
     ensures { Shows as_done result (memory_of m.new) (one_turn (source_in turning.now.source) (map item_at earlier.now) (declared_of item.now) (memory_of m.old)) }
 {
     let name = turning.scope.text(item.name.from, item.name.to);
-    turn_at(turning, earlier, name, item, turning.scope.place(name), m)
+    turn_at(
+        turning,
+        earlier,
+        name,
+        item,
+        turning.scope.location(name),
+        m,
+    )
 }
 
 /// The turns of all declarations at file scope, in the order of the text.

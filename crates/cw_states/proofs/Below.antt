@@ -10,16 +10,16 @@ use Rattle.cw_rights.specs.Policies.{start_caps}
 use Rattle.cw_rights.specs.declared.capabilities.Caps.{Caps}
 use Rattle.cw_states.specs.declared.uses.Uses.{Uses}
 use Rattle.cw_states.specs.Rights.{caps_cmp}
-use Rattle.cw_states.specs.States.{Lists, AreLists, count, pair, set_place, caps_place, states_of}
+use Rattle.cw_states.specs.States.{Lists, AreLists, count, pair, set_index, caps_index, states_of}
 use Rattle.cw_states.specs.Below.{StayBelow}
 use Rattle.cw_states.proofs.Meaning.{start_below}
 use Rattle.cw_lemmas.proofs.Numbers.{mul_positive as right_positive}
 
--- a place, or 0 where there is none, is below the length of a list that isn't empty
+-- an index, or 0 where there is none, is below the length of a list that isn't empty
 module _ {A : Type 0} (test : A → Bool) (xs : List A) (some : 0 < length xs) (d : A) where
-  place_below : (o : Option ℕ) → position test xs ≡ o → unwrap_or o 0 < length xs
-  place_below None e = some
-  place_below (Some i) e = (position-Some test xs i d e).0
+  index_below : (o : Option ℕ) → position test xs ≡ o → unwrap_or o 0 < length xs
+  index_below None e = some
+  index_below (Some i) e = (position-Some test xs i d e).0
 
 left_positive : (m n q : ℕ) → q < m * n → 0 < m
 left_positive zero n q l = let z : 0 * n ≡ 0 = zero-mul n in absurd (omega (arith, l, z))
@@ -39,13 +39,13 @@ module _ (v : Lists) where
     pub column_below : q % length v.rights < length v.rights
     column_below = mod_below q (length v.rights) rights_there
 
-    caps_below : (c : Caps) → caps_place v c < length v.rights
+    caps_below : (c : Caps) → caps_index v c < length v.rights
     caps_below c =
-        place_below (λ x. eq_by_cmp caps_cmp x c) v.rights rights_there (start_caps v.policy) (position (λ x. eq_by_cmp caps_cmp x c) v.rights) refl
+        index_below (λ x. eq_by_cmp caps_cmp x c) v.rights rights_there (start_caps v.policy) (position (λ x. eq_by_cmp caps_cmp x c) v.rights) refl
 
-    set_below : (set : ℕ) → set_place v set < length v.sets
+    set_below : (set : ℕ) → set_index v set < length v.sets
     set_below set =
-        place_below (λ x. nat_eq x set) v.sets (left_positive (length v.sets) (length v.rights) q l) 0 (position (λ x. nat_eq x set) v.sets) refl
+        index_below (λ x. nat_eq x set) v.sets (left_positive (length v.sets) (length v.rights) q l) 0 (position (λ x. nat_eq x set) v.sets) refl
 
 pub stay_below : (uses : Uses) (v : Lists) → AreLists uses v → StayBelow (states_of v)
 stay_below uses v are = record {

@@ -7,7 +7,7 @@ pub mod Listed
 pub mod Meaning
 pub mod Narrow
 pub mod Ordered
-pub mod Places
+pub mod Indices
 pub mod Rowed
 pub mod Tabled
-pub mod Told
+pub mod Meant

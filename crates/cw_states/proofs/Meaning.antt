@@ -26,11 +26,11 @@ use Rattle.cw_game.specs.Reached.{Reached}
 use Rattle.cw_game.proofs.Reached.{are_reached}
 use Rattle.cw_states.specs.declared.uses.Uses.{Uses}
 use Rattle.cw_states.specs.Rights.{IsRightsState, at_start, by_enter, by_limit, by_open, by_close}
-use Rattle.cw_states.specs.States.{Lists, AreLists, Means, count, pair, set_at, caps_at, set_place, caps_place, with_caps, set_after, label_count, letters_of, states_of}
+use Rattle.cw_states.specs.States.{Lists, AreLists, Means, count, pair, set_at, caps_at, set_index, caps_index, with_caps, set_after, label_count, letters_of, states_of}
 use Rattle.cw_states.specs.Spots.{Have}
 use Rattle.cw_states.proofs.Letters.{letter_below}
 use Rattle.cw_states.proofs.Narrow.{limit_of}
-use Rattle.cw_states.proofs.Places.{caps_found, number_found}
+use Rattle.cw_states.proofs.Indices.{caps_found, number_found}
 
 pub yes_is : (a : Allowed) → is_yes a ≡ true → a ≡ Yes
 yes_is Yes e = refl
@@ -63,18 +63,18 @@ module _ (uses : Uses) (v : Lists) (are : AreLists uses v) where
 
   -- ---- what a state that means something is made of
 
-  column_below : (c : Caps) → Is c → caps_place v c < length v.rights
+  column_below : (c : Caps) → Is c → caps_index v c < length v.rights
   column_below c is = (caps_found v.rights c ((are.rights.1 c).1 is)).0
 
   in_sets : (w : Word) (set : ℕ) → KeepsRules rules letters w → IsSetOf rules w set → Contains v.sets set
   in_sets w set k s = (are.sets.1 set).1 ((states_of_words rules letters set).1 (w, k, s))
 
   module _ (q : ℕ) (w : Word) (c : Caps) (m : Means uses v q w c) where
-    row_is : q / length v.rights ≡ set_place v m.set
-    row_is = ap (λ p. p / length v.rights) m.is ∙ div-mul-add (set_place v m.set) (length v.rights) (caps_place v c) (column_below c m.held)
+    row_is : q / length v.rights ≡ set_index v m.set
+    row_is = ap (λ p. p / length v.rights) m.is ∙ div-mul-add (set_index v m.set) (length v.rights) (caps_index v c) (column_below c m.held)
 
-    column_is : q % length v.rights ≡ caps_place v c
-    column_is = ap (λ p. p % length v.rights) m.is ∙ mod-mul-add (set_place v m.set) (length v.rights) (caps_place v c) (column_below c m.held)
+    column_is : q % length v.rights ≡ caps_index v c
+    column_is = ap (λ p. p % length v.rights) m.is ∙ mod-mul-add (set_index v m.set) (length v.rights) (caps_index v c) (column_below c m.held)
 
     pub caps_is : caps_at v q ≡ c
     caps_is =
@@ -85,13 +85,13 @@ module _ (uses : Uses) (v : Lists) (are : AreLists uses v) where
 
     pub below : q < count v
     below = subst (λ p. p < count v) (sym m.is)
-        (subst (λ n. pair v (set_place v m.set) (caps_place v c) < n) (mul_comm (length v.rights) (length v.sets))
-        (mul-add-lt (set_place v m.set) (length v.rights) (caps_place v c) (length v.sets)
+        (subst (λ n. pair v (set_index v m.set) (caps_index v c) < n) (mul_comm (length v.rights) (length v.sets))
+        (mul-add-lt (set_index v m.set) (length v.rights) (caps_index v c) (length v.sets)
         (number_found v.sets m.set (in_sets w m.set m.keeps m.is_set)).0 (column_below c m.held)))
 
     -- the same word with other capabilities
     moved : (d x : Caps) → x ≡ d → Is d → Means uses v (with_caps v q x) w d
-    moved d x e is = record { keeps = m.keeps; set = m.set; is_set = m.is_set; held = is; is = ap₂ (λ i y. pair v i (caps_place v y)) row_is e }
+    moved d x e is = record { keeps = m.keeps; set = m.set; is_set = m.is_set; held = is; is = ap₂ (λ i y. pair v i (caps_index v y)) row_is e }
 
     abbrev letter : ℕ → Letter
     letter label = letter_of label c
@@ -105,14 +105,14 @@ module _ (uses : Uses) (v : Lists) (are : AreLists uses v) where
         (verdict_is rules (w ++ letter label ∷ []) (next_of rules m.set (letter label)) (next_set rules w m.set (letter label) m.is_set))
 
     lettered : (label : ℕ) → label < label_count v.policy uses → (IsBad v.policy (w ++ letter label ∷ []) → ⊥)
-        → Means uses v (pair v (set_place v (set_after v q label)) (q % length v.rights)) (w ++ letter label ∷ []) c
+        → Means uses v (pair v (set_index v (set_after v q label)) (q % length v.rights)) (w ++ letter label ∷ []) c
     lettered label l good = record {
       keeps = longer rules letters w (letter label) m.keeps
           (letter_below v.rights c label (label_count v.policy uses) l ((are.rights.1 c).1 m.held)) (λ rule b. good (rule, b));
       set = next_of rules m.set (letter label);
       is_set = next_set rules w m.set (letter label) m.is_set;
       held = m.held;
-      is = ap₂ (λ s j. pair v (set_place v s) j) (after_is label) column_is;
+      is = ap₂ (λ s j. pair v (set_index v s) j) (after_is label) column_is;
     }
 
   -- ---- the calls

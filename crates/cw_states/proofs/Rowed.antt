@@ -13,7 +13,7 @@ use Rattle.cw_game.specs.Games.{letter_of}
 use Rattle.cw_states.specs.declared.masks.Masks.{Masks}
 use Rattle.cw_states.specs.Masks.{IsMasks, ahead_of, row, rows}
 use Rattle.cw_states.specs.States.{Lists, caps_at, set_at}
-use Rattle.cw_states.specs.Tables.{tabled, place_of, entry, entries}
+use Rattle.cw_states.specs.Tables.{tabled, index_of, entry, entries}
 
 module _ {A : Type 0} where
   tabled_same : (f g : ℕ → A) (n : ℕ) → ((i : ℕ) → i < n → f i ≡ g i) → tabled f n ≡ tabled g n
@@ -49,7 +49,7 @@ module _ (v : Lists) (naming : ℕ) (tests : List ℕ) (at : ℕ → ℕ) where
   n = length tests
 
   Rowed : List ℕ → ℕ → Type 0
-  Rowed aheads k = (i j : ℕ) → i < length aheads → j < n → place_of v (bit_and (bit_and (get_or aheads i 0) naming) (get_or tests j 0)) ≡ at ((k + i) * n + j)
+  Rowed aheads k = (i j : ℕ) → i < length aheads → j < n → index_of v (bit_and (bit_and (get_or aheads i 0) naming) (get_or tests j 0)) ≡ at ((k + i) * n + j)
 
   rows_tabled : (aheads : List ℕ) (k : ℕ) → Rowed aheads k → rows v naming aheads tests ≡ tabled (λ q. at (k * n + q)) (length aheads * n)
   unfolding Rowed
@@ -57,7 +57,7 @@ module _ (v : Lists) (naming : ℕ) (tests : List ℕ) (at : ℕ → ℕ) where
   rows_tabled (a ∷ rest) k h =
       let start : (i : ℕ) → k + 0 ≡ k = λ i. omega arith in
       let here : row v (bit_and a naming) tests ≡ tabled (λ j. at (k * n + j)) n =
-      map_tabled tests (λ t. place_of v (bit_and (bit_and a naming) t)) (λ j. at (k * n + j)) 0 (λ j l. h 0 j (omega arith) l ∙ ap (λ z. at (z * n + j)) (start j)) in
+      map_tabled tests (λ t. index_of v (bit_and (bit_and a naming) t)) (λ j. at (k * n + j)) 0 (λ j l. h 0 j (omega arith) l ∙ ap (λ z. at (z * n + j)) (start j)) in
       let next : (i : ℕ) → k + suc i ≡ (k + 1) + i = λ i. omega arith in
       let later = rows_tabled rest (k + 1) (λ i j l m. h (suc i) j (omega (arith, l)) m ∙ ap (λ z. at (z * n + j)) (next i)) in
       let moved = tabled_same (λ q. at ((k + 1) * n + q)) (λ q. at (k * n + (n + q))) (length rest * n) (λ q l. ap at (sym (row_more k n q))) in
@@ -74,7 +74,7 @@ module _ (v : Lists) (label : ℕ) (masks : Masks) (are : IsMasks v masks) where
   width = length v.rights
 
   one_entry : (i j : ℕ) → i < length v.sets → j < width
-      → place_of v (bit_and (bit_and (get_or masks.aheads.items i 0) (named v.policy.rules label)) (get_or masks.tested.items j 0)) ≡ entry v label (i * width + j)
+      → index_of v (bit_and (bit_and (get_or masks.aheads.items i 0) (named v.policy.rules label)) (get_or masks.tested.items j 0)) ≡ entry v label (i * width + j)
   one_entry i j l m =
       let rules = v.policy.rules in
       let start = start_caps v.policy in
@@ -84,7 +84,7 @@ module _ (v : Lists) (label : ℕ) (masks : Masks) (are : IsMasks v masks) where
       let tests : get_or masks.tested.items j 0 ≡ tested rules caps = ap (λ (x : List ℕ). get_or x j 0) are.tested ∙ get_or-map (tested rules) v.rights j start 0 m in
       let set_is : set ≡ set_at v (i * width + j) = ap (λ r. get_or v.sets r 0) (sym (div-mul-add i width j m)) in
       let caps_is : caps ≡ caps_at v (i * width + j) = ap (λ r. get_or v.rights r start) (sym (mod-mul-add i width j m)) in
-      ap (place_of v) (ap₂ (λ a t. bit_and (bit_and a (named rules label)) t) ahead tests ∙ next_met rules set label caps
+      ap (index_of v) (ap₂ (λ a t. bit_and (bit_and a (named rules label)) t) ahead tests ∙ next_met rules set label caps
       ∙ ap₂ (λ s c. next_of rules s (letter_of label c)) set_is caps_is)
 
   pub entries_are : rows v (named v.policy.rules label) masks.aheads.items masks.tested.items ≡ entries v label

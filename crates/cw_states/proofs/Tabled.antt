@@ -12,7 +12,7 @@ use Rattle.cw_states.specs.declared.tables.Tables.{Tables}
 use Rattle.cw_states.specs.States.{Lists, Held, lists_of, count}
 use Rattle.std.proofs.lemmas.Bool.Decides.{nat_tests}
 use Rattle.std.proofs.lemmas.List.{get_or_append_left, get_or-map, length-map}
-use Rattle.cw_states.specs.Tables.{tabled, all_items, place_after, places_after, entry, entries, AreTables}
+use Rattle.cw_states.specs.Tables.{tabled, all_items, index_after, indices_after, entry, entries, AreTables}
 
 module _ {A : Type 0} (f : ℕ → A) where
   pub tabled_length : (n : ℕ) → length (tabled f n) ≡ n
@@ -37,7 +37,7 @@ module _ {A : Type 0} (f : ℕ → A) where
           let within : i < length (tabled f n) = let h = tabled_length n in omega arith in
           get_or_append_left (tabled f n) (f n ∷ []) d i within ∙ rec below
 
--- the column is there, the place is in it, and this stands there
+-- the column is there, the index is in it, and this stands there
 abbrev pub Looked : List (List ℕ) → ℕ → ℕ → ℕ → Type 0
 Looked all i j x = (i < length all) × (j < length (get_or all i [])) × (get_or (get_or all i []) j 0 ≡ x)
 
@@ -58,18 +58,18 @@ seen_in f n xs j e l =
     (omega (arith, size, l), ap (λ ys. get_or ys j 0) e ∙ tabled_at f n j 0 l)
 
 module _ (v : Lists) where
-  pub looked : (act : ℕ → Act) (all : List (List ℕ)) (m i j : ℕ) → all ≡ tabled (λ d. places_after v (act d)) m → i < m → j < length v.rights
-      → Looked all i j (place_after v (act i) j)
-  looked act all m i j e l within = looked_tabled (λ d. place_after v (act d)) (length v.rights) all m i j e l within
+  pub looked : (act : ℕ → Act) (all : List (List ℕ)) (m i j : ℕ) → all ≡ tabled (λ d. indices_after v (act d)) m → i < m → j < length v.rights
+      → Looked all i j (index_after v (act i) j)
+  looked act all m i j e l within = looked_tabled (λ d. index_after v (act d)) (length v.rights) all m i j e l within
 
   pub looked_limit : (all : List (List ℕ)) (limit : ALimit) (i j : ℕ)
-      → all ≡ map (λ (limit : ALimit). places_after v (Granted (Limit limit))) v.policy.limits
-      → slice_get v.policy.limits i ≡ Some limit → j < length v.rights → Looked all i j (place_after v (Granted (Limit limit)) j)
+      → all ≡ map (λ (limit : ALimit). indices_after v (Granted (Limit limit))) v.policy.limits
+      → slice_get v.policy.limits i ≡ Some limit → j < length v.rights → Looked all i j (index_after v (Granted (Limit limit)) j)
   looked_limit all limit i j e at within =
-      let f : ALimit → List ℕ = λ limit. places_after v (Granted (Limit limit)) in
+      let f : ALimit → List ℕ = λ limit. indices_after v (Granted (Limit limit)) in
       let l = slice_get_within v.policy.limits i limit at in
       let size : length all ≡ length v.policy.limits = ap length e ∙ length-map v.policy.limits f in
-      looked_in all i j (length v.rights) (place_after v (Granted (Limit limit))) (omega (arith, size, l))
+      looked_in all i j (length v.rights) (index_after v (Granted (Limit limit))) (omega (arith, size, l))
       (ap (λ (y : List (List ℕ)). get_or y i []) e ∙ get_or-map f v.policy.limits i limit [] l
       ∙ ap f (get_or_from_slice_get v.policy.limits i limit limit at)) within
 
@@ -81,17 +81,17 @@ module _ (inside now : Held) (same : inside ≡ now) (t : Tables) (tables : AreT
   are : AreTables (lists_of now) t
   are = subst (λ (h : Held). AreTables (lists_of h) t) same tables
 
-  pub entered_seen : (places : List ℕ) (j : ℕ) → places ≡ t.entered.items → j < length now.rights → (j < length places)
-      × (get_or places j 0 ≡ place_after (lists_of now) (Granted Enter) j)
-  entered_seen places j e l = seen_in (place_after (lists_of now) (Granted Enter)) (length now.rights) places j (e ∙ are.entered) l
+  pub entered_seen : (indices : List ℕ) (j : ℕ) → indices ≡ t.entered.items → j < length now.rights → (j < length indices)
+      × (get_or indices j 0 ≡ index_after (lists_of now) (Granted Enter) j)
+  entered_seen indices j e l = seen_in (index_after (lists_of now) (Granted Enter)) (length now.rights) indices j (e ∙ are.entered) l
 
-  pub split_seen : (places : List ℕ) (j : ℕ) → places ≡ t.split.items → j < length now.rights → (j < length places)
-      × (get_or places j 0 ≡ place_after (lists_of now) (Granted Split) j)
-  split_seen places j e l = seen_in (place_after (lists_of now) (Granted Split)) (length now.rights) places j (e ∙ are.split) l
+  pub split_seen : (indices : List ℕ) (j : ℕ) → indices ≡ t.split.items → j < length now.rights → (j < length indices)
+      × (get_or indices j 0 ≡ index_after (lists_of now) (Granted Split) j)
+  split_seen indices j e l = seen_in (index_after (lists_of now) (Granted Split)) (length now.rights) indices j (e ∙ are.split) l
 
   pub limited_seen : (columns : List (Vec ℕ Global)) (limit : ALimit) (i j : ℕ) → columns ≡ t.limited.items
       → slice_get (lists_of now).policy.limits i ≡ Some limit → j < length now.rights
-      → Looked (all_items columns) i j (place_after (lists_of now) (Granted (Limit limit)) j)
+      → Looked (all_items columns) i j (index_after (lists_of now) (Granted (Limit limit)) j)
   limited_seen columns limit i j e at l = looked_limit (lists_of now) (all_items columns) limit i j (ap all_items e ∙ are.limited) at l
 
   below : (d : ℕ) → d < length now.policy.descriptors.items → d < length (lists_of now).policy.descriptors
@@ -99,14 +99,14 @@ module _ (inside now : Held) (same : inside ≡ now) (t : Tables) (tables : AreT
 
   pub opened_seen : (columns : List (Vec ℕ Global)) (d j : ℕ) → columns ≡ t.opened.items → d < length now.policy.descriptors.items
       → j < length now.rights
-      → Looked (all_items columns) d j (place_after (lists_of now) (Opened d) j)
+      → Looked (all_items columns) d j (index_after (lists_of now) (Opened d) j)
   opened_seen columns d j e l within =
       looked (lists_of now) (λ d. Opened d) (all_items columns) (length (lists_of now).policy.descriptors) d j (ap all_items e
       ∙ are.opened) (below d l) within
 
   pub closed_seen : (columns : List (Vec ℕ Global)) (d j : ℕ) → columns ≡ t.closed.items → d < length now.policy.descriptors.items
       → j < length now.rights
-      → Looked (all_items columns) d j (place_after (lists_of now) (Closed d) j)
+      → Looked (all_items columns) d j (index_after (lists_of now) (Closed d) j)
   closed_seen columns d j e l within =
       looked (lists_of now) (λ d. Closed d) (all_items columns) (length (lists_of now).policy.descriptors) d j (ap all_items e
       ∙ are.closed) (below d l) within

@@ -8,4 +8,4 @@ pub mod Rights
 pub mod Spots
 pub mod States
 pub mod Tables
-pub mod Told
+pub mod Meant

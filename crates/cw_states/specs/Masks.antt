@@ -8,7 +8,7 @@ use Rattle.cw_dfa.specs.Sets.{has}
 use Rattle.cw_dfa.specs.Tables.{goes, tested}
 use Rattle.cw_states.specs.declared.masks.Masks.{Masks}
 use Rattle.cw_states.specs.States.{Lists}
-use Rattle.cw_states.specs.Tables.{place_of}
+use Rattle.cw_states.specs.Tables.{index_of}
 
 abbrev pub HaveSame : List ℕ → List ℕ → Type 0
 HaveSame xs ys = (x : ℕ) → (Contains xs x → Contains ys x) × (Contains ys x → Contains xs x)
@@ -26,9 +26,9 @@ pub record IsMasks (v : Lists) (masks : Masks) : Type 0 where
   pub aheads : masks.aheads.items ≡ map (ahead_of v.policy.rules) v.sets
   pub tested : masks.tested.items ≡ map (tested v.policy.rules) v.rights
 
--- the places of the policy states after the letters of a label, by policy state and then by rights state
+-- the indices of the policy states after the letters of a label, by policy state and then by rights state
 abbrev pub row : Lists → ℕ → List ℕ → List ℕ
-row v ahead tests = map (λ t. place_of v (bit_and ahead t)) tests
+row v ahead tests = map (λ t. index_of v (bit_and ahead t)) tests
 
 abbrev pub rows : Lists → ℕ → List ℕ → List ℕ → List ℕ
 rows v naming [] tests = []

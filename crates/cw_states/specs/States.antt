@@ -66,16 +66,16 @@ set_at v q = slice_index v.sets (q / length v.rights)
 abbrev pub caps_at : Lists → ℕ → Caps
 caps_at v q = slice_index_or v.rights (q % length v.rights) (start_caps v.policy)
 
--- the place of a policy state and of a rights state, 0 for what is none
-abbrev pub set_place : Lists → ℕ → ℕ
-set_place v set = unwrap_or (position (λ x. nat_eq x set) v.sets) 0
+-- the index of a policy state and of a rights state, 0 for what is none
+abbrev pub set_index : Lists → ℕ → ℕ
+set_index v set = unwrap_or (position (λ x. nat_eq x set) v.sets) 0
 
-abbrev pub caps_place : Lists → Caps → ℕ
-caps_place v caps = unwrap_or (position (λ x. eq_by_cmp caps_cmp x caps) v.rights) 0
+abbrev pub caps_index : Lists → Caps → ℕ
+caps_index v caps = unwrap_or (position (λ x. eq_by_cmp caps_cmp x caps) v.rights) 0
 
 -- the state with other capabilities
 abbrev pub with_caps : Lists → ℕ → Caps → ℕ
-with_caps v q caps = pair v (q / length v.rights) (caps_place v caps)
+with_caps v q caps = pair v (q / length v.rights) (caps_index v caps)
 
 -- the set of positions after a label's letter
 abbrev pub set_after : Lists → ℕ → ℕ → ℕ
@@ -88,11 +88,11 @@ violated_in v q label = verdict v.policy.rules 0 1 (set_after v q label)
 abbrev pub states_of : Lists → States
 states_of v = record {
   count = count v;
-  start = pair v (set_place v 1) (caps_place v (start_caps v.policy));
+  start = pair v (set_index v 1) (caps_index v (start_caps v.policy));
   granted = λ q a. with_caps v q (applied (caps_at v q) a);
   opened = λ q d. with_caps v q (with_opened (caps_at v q) d (slice_get v.policy.descriptors d));
   closed = λ q d. with_caps v q (closed (caps_at v q) d);
-  lettered = λ q label. pair v (set_place v (set_after v q label)) (q % length v.rights);
+  lettered = λ q label. pair v (set_index v (set_after v q label)) (q % length v.rights);
   bad = λ q label. is_some (violated_in v q label);
   may_grant = λ q a. may_grant (caps_at v q) a;
   with_rights = λ x q. pair v (x / length v.rights) (q % length v.rights);
@@ -105,7 +105,7 @@ pub record Means (uses : Uses) (v : Lists) (q : ℕ) (w : Word) (c : Caps) : Typ
   pub set : ℕ
   pub is_set : IsSetOf v.policy.rules w set
   pub held : IsRightsState v.policy uses c
-  pub is : q ≡ pair v (set_place v set) (caps_place v c)
+  pub is : q ≡ pair v (set_index v set) (caps_index v c)
 
 -- what is within the limits: rights states, policy states, and their pairs
 pub record AreFew (v : Lists) : Type 0 where

@@ -3,7 +3,7 @@
 ghost use Rattle.cw_states.specs.Below.{StatesStayBelow};
 ghost use Rattle.cw_states.specs.Broken.{ViolationsAreBad, ViolationsAreVerdicts};
 ghost use Rattle.cw_states.specs.Spots.{StatesAreThePolicys, StatesAreThePolicysAsReached};
-ghost use Rattle.cw_states.specs.Told.{BoardsAreLinkedAsTold, ReachedIsTold, StatesTell};
+ghost use Rattle.cw_states.specs.Meant.{BoardsAreLinkedByMeaning, ReachedIsMeant, StatesTell};
 
 /// The states are the policy's, for all positions whose opens, closes and labels the source has: where a state means
 /// what `Means` says, and so also where it means what it is reached by.
@@ -17,8 +17,8 @@ pub fn states_are_the_policys()
 /// all to which the states' own functions lead, and boards are linked to pairs by it.
 pub fn states_tell_of_words()
     ensures states { StatesTell }
-    ensures reached { ReachedIsTold }
-    ensures linked { BoardsAreLinkedAsTold }
+    ensures reached { ReachedIsMeant }
+    ensures linked { BoardsAreLinkedByMeaning }
 {}
 
 /// From states below the count each call leads to states below the count.

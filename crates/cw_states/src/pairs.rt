@@ -50,16 +50,16 @@ impl<'p> Model for Pairs<'p> {
     ghost invariant = { λ s. IsKept (held s.policy.now s.rights.items s.sets.items) s.rules };
 }
 
-// A set of positions with its place.
+// A set of positions with its index.
 #[derive(Clone, Copy, Drop)]
-struct Placed {
+struct Indexed {
     set: u64,
-    place: u8,
+    index: u8,
 }
 
 // Where a set of positions stands.
 fn find_set(sets: &[u64], set: u64) -> Option<usize>
-    ensures place { result ≡ position (λ x. nat_eq x set) sets.now }
+    ensures index { result ≡ position (λ x. nat_eq x set) sets.now }
     ensures within { IfSome result (λ i. i < length sets.now) }
 {
     sets.iter().position(|x| *x == set)
@@ -67,7 +67,7 @@ fn find_set(sets: &[u64], set: u64) -> Option<usize>
 
 // Where capabilities stand.
 fn find_ranked(rights: &[Ranked], sought: Ranked) -> Option<usize>
-    ensures place { result ≡ position (λ x. eq_by_cmp caps_cmp x.caps sought.caps) rights.now }
+    ensures index { result ≡ position (λ x. eq_by_cmp caps_cmp x.caps sought.caps) rights.now }
     ensures within { IfSome result (λ i. i < length rights.now) }
 {
     rights.iter().position(|x| *x == sought)
@@ -76,7 +76,7 @@ fn find_ranked(rights: &[Ranked], sought: Ranked) -> Option<usize>
 /// The number of capabilities among the rights states.
 #[tactic(auto, using(crate::proofs::Listed::position_caps))]
 fn find_caps(rights: &[Ranked], caps: Caps) -> Option<usize>
-    ensures place { result ≡ position (λ x. eq_by_cmp caps_cmp x caps) (all_caps rights.now) }
+    ensures index { result ≡ position (λ x. eq_by_cmp caps_cmp x caps) (all_caps rights.now) }
     ensures within { IfSome result (λ i. i < length rights.now) }
 {
     find_ranked(rights, Ranked { caps })
@@ -87,9 +87,9 @@ impl<'p> Pairs<'p> {
     ghost use Rattle.cw_rights.specs.Policies.{policy_of, primitives, start_caps};
     ghost use Rattle.cw_rights.specs.Valid.{IsValid};
     ghost use Rattle.cw_model.specs.Boards.{may_grant};
-    ghost use Rattle.cw_states.specs.States.{lists_of, AreLists, AreFew, IsCause, count, pair, caps_at, caps_place, set_after, set_place, states_of, violated_in};
+    ghost use Rattle.cw_states.specs.States.{lists_of, AreLists, AreFew, IsCause, count, pair, caps_at, caps_index, set_after, set_index, states_of, violated_in};
     ghost use Rattle.cw_states.specs.Masks.{IsMasks, row, rows};
-    ghost use Rattle.cw_states.specs.Tables.{IsActBelow, place_after, places_after, place_of, entries};
+    ghost use Rattle.cw_states.specs.Tables.{IsActBelow, index_after, indices_after, index_of, entries};
     ghost use Rattle.cw_states.specs.Growing.{IsNarrow};
 
     /// The states of a policy for what a source has.
@@ -136,7 +136,7 @@ impl<'p> Pairs<'p> {
         (self.sets.len() * self.rights.len()) as u16
     }
 
-    /// The place of a state's rights state.
+    /// The index of a state's rights state.
     pub(crate) fn column(&self, state: StateId) -> usize
         requires state { state.0 < count (lists_of self.now) }
         ensures is { result ≡ state.0 % length self.now.rights }
@@ -145,7 +145,7 @@ impl<'p> Pairs<'p> {
         state.0 as usize % self.rights.len()
     }
 
-    // The place of a state's policy state.
+    // The index of a state's policy state.
     fn row(&self, state: StateId) -> u8
         requires state { state.0 < count (lists_of self.now) }
         ensures is { result ≡ state.0 / length self.now.rights }
@@ -154,14 +154,14 @@ impl<'p> Pairs<'p> {
         (state.0 as usize / self.rights.len()) as u8
     }
 
-    // The state of the policy state and the rights state at these places.
+    // The state of the policy state and the rights state at these indices.
     fn at(&self, row: u8, column: u8) -> StateId
         ensures { result.0 ≡ pair (lists_of self.now) row column }
     {
         StateId(row as u16 * self.rights.len() as u16 + column as u16)
     }
 
-    /// The state with the rights state at a place.
+    /// The state with the rights state at an index.
     pub(crate) fn moved(&self, state: StateId, column: u8) -> StateId
         requires state { state.0 < count (lists_of self.now) }
         ensures { result.0 ≡ pair (lists_of self.now) (state.0 / length self.now.rights) column }
@@ -169,7 +169,7 @@ impl<'p> Pairs<'p> {
         self.at(self.row(state), column)
     }
 
-    /// The state with the policy state at a place.
+    /// The state with the policy state at an index.
     pub(crate) fn turned(&self, state: StateId, row: u8) -> StateId
         requires state { state.0 < count (lists_of self.now) }
         ensures { result.0 ≡ pair (lists_of self.now) row (state.0 % length self.now.rights) }
@@ -193,7 +193,7 @@ impl<'p> Pairs<'p> {
         self.caps_in(self.column(state))
     }
 
-    // The rights state at a place.
+    // The rights state at an index.
     fn caps_in(&self, column: usize) -> &Caps
         requires column { column < length self.now.rights }
         ensures { result.now ≡ slice_index_or self.now.rights column (start_caps (policy_of self.now.policy)) }
@@ -201,23 +201,23 @@ impl<'p> Pairs<'p> {
         &self.rights[column].caps
     }
 
-    // The place of a set of positions, 0 for one that is no policy state.
-    fn set_place(&self, set: u64) -> u8
-        ensures { result ≡ set_place (lists_of self.now) set }
+    // The index of a set of positions, 0 for one that is no policy state.
+    fn set_index(&self, set: u64) -> u8
+        ensures { result ≡ set_index (lists_of self.now) set }
     {
         match find_set(&self.sets, set) {
             None => 0,
-            Some(place) => place as u8,
+            Some(index) => index as u8,
         }
     }
 
-    // The place of capabilities, 0 for such as are no rights state.
-    fn caps_place(&self, caps: Caps) -> u8
-        ensures { result ≡ caps_place (lists_of self.now) caps }
+    // The index of capabilities, 0 for such as are no rights state.
+    fn caps_index(&self, caps: Caps) -> u8
+        ensures { result ≡ caps_index (lists_of self.now) caps }
     {
         match find_caps(&self.rights, caps) {
             None => 0,
-            Some(place) => place as u8,
+            Some(index) => index as u8,
         }
     }
 
@@ -229,14 +229,14 @@ impl<'p> Pairs<'p> {
         let _ = &self.policy;
     }
 
-    // The place of the rights state that an act makes of the one at a place.
-    fn place_after(&self, act: Act, column: usize) -> u8
+    // The index of the rights state that an act makes of the one at an index.
+    fn index_after(&self, act: Act, column: usize) -> u8
         requires act { IsActBelow 8 act }
         requires column { column < length self.now.rights }
-        ensures { result ≡ place_after (lists_of self.now) act column }
+        ensures { result ≡ index_after (lists_of self.now) act column }
     {
         let caps = *self.caps_in(column);
-        self.caps_place(after_act(self.policy, act, caps))
+        self.caps_index(after_act(self.policy, act, caps))
     }
 
     /// How many rights states there are.
@@ -246,24 +246,24 @@ impl<'p> Pairs<'p> {
         self.rights.len()
     }
 
-    /// For each rights state the place of the one that an act makes of it.
-    pub(crate) fn places_after(&self, alloc: Global, act: Act) -> Result<Vec<u8>, AllocError>
+    /// For each rights state the index of the one that an act makes of it.
+    pub(crate) fn indices_after(&self, alloc: Global, act: Act) -> Result<Vec<u8>, AllocError>
         requires act { IsActBelow 8 act }
-        ensures { IfOk result (λ v. v.items ≡ places_after (lists_of self.now) act) }
+        ensures { IfOk result (λ v. v.items ≡ indices_after (lists_of self.now) act) }
     {
-        let mut places = Vec::new(alloc);
+        let mut indices = Vec::new(alloc);
         for column in 0..self.columns() {
-            places.push(self.place_after(act, column))?;
+            indices.push(self.index_after(act, column))?;
         }
-        Ok(places)
+        Ok(indices)
     }
 
     /// The state of the empty word and the start's capabilities.
     pub(crate) fn start(&self) -> StateId
         ensures { result.0 ≡ (states_of (lists_of self.now)).start }
     {
-        let row = self.set_place(start(&self.rules));
-        self.at(row, self.caps_place(start_caps(self.policy)))
+        let row = self.set_index(start(&self.rules));
+        self.at(row, self.caps_index(start_caps(self.policy)))
     }
 
     /// Whether a primitive of the policy may be granted: a limit only where it is allowed.
@@ -296,43 +296,43 @@ impl<'p> Pairs<'p> {
         step(&self.rules, self.sets[self.row(state) as usize], &letter)
     }
 
-    // The place of a policy state, 255 for a set that breaks a rule.
-    fn place_of(&self, set: u64) -> u8
-        ensures { result ≡ place_of (lists_of self.now) set }
+    // The index of a policy state, 255 for a set that breaks a rule.
+    fn index_of(&self, set: u64) -> u8
+        ensures { result ≡ index_of (lists_of self.now) set }
     {
         match violated(&self.rules, set) {
             Some(_) => 255,
-            None => self.set_place(set),
+            None => self.set_index(set),
         }
     }
 
-    // The place of a set: as before, where it is the set before.
-    fn place_after_another(&self, before: Placed, set: u64) -> Placed
-        requires { before.place ≡ place_of (lists_of self.now) before.set }
+    // The index of a set: as before, where it is the set before.
+    fn index_after_another(&self, before: Indexed, set: u64) -> Indexed
+        requires { before.index ≡ index_of (lists_of self.now) before.set }
         ensures set { result.set ≡ set }
-        ensures place { result.place ≡ place_of (lists_of self.now) set }
+        ensures index { result.index ≡ index_of (lists_of self.now) set }
     {
         if set == before.set {
             before
         } else {
-            Placed {
+            Indexed {
                 set,
-                place: self.place_of(set),
+                index: self.index_of(set),
             }
         }
     }
 
-    // The places after the letters that name what follows a set, by rights state.
-    fn put_row(&self, ahead: u64, tested: &[u64], places: &mut Vec<u8>) -> Result<(), AllocError>
-        ensures { OnOk result (places.new.items ≡ places.old.items ++ row (lists_of self.now) ahead tested.now) }
+    // The indices after the letters that name what follows a set, by rights state.
+    fn put_row(&self, ahead: u64, tested: &[u64], indices: &mut Vec<u8>) -> Result<(), AllocError>
+        ensures { OnOk result (indices.new.items ≡ indices.old.items ++ row (lists_of self.now) ahead tested.now) }
     {
-        let mut last = Placed {
+        let mut last = Indexed {
             set: ahead,
-            place: self.place_of(ahead),
+            index: self.index_of(ahead),
         };
         for mask in tested {
-            last = self.place_after_another(last, ahead & *mask);
-            places.push(last.place)?;
+            last = self.index_after_another(last, ahead & *mask);
+            indices.push(last.index)?;
         }
         Ok(())
     }
@@ -343,15 +343,15 @@ impl<'p> Pairs<'p> {
         named: u64,
         aheads: &[u64],
         tested: &[u64],
-        places: &mut Vec<u8>,
+        indices: &mut Vec<u8>,
     ) -> Result<(), AllocError>
-        ensures { OnOk result (places.new.items ≡ places.old.items ++ rows (lists_of self.now) named aheads.now tested.now) }
+        ensures { OnOk result (indices.new.items ≡ indices.old.items ++ rows (lists_of self.now) named aheads.now tested.now) }
     {
         match aheads {
             [] => Ok(()),
             [first, rest @ ..] => {
-                self.put_row(*first & named, tested, places)?;
-                self.put_rows(named, rest, tested, places)?;
+                self.put_row(*first & named, tested, indices)?;
+                self.put_rows(named, rest, tested, indices)?;
                 Ok(())
             }
         }
@@ -367,7 +367,7 @@ impl<'p> Pairs<'p> {
         })
     }
 
-    /// For each state the place of the policy state after a label's letter, 255 where it breaks a rule.
+    /// For each state the index of the policy state after a label's letter, 255 where it breaks a rule.
     pub(crate) fn entries(
         &self,
         alloc: Global,
@@ -377,18 +377,18 @@ impl<'p> Pairs<'p> {
         requires { IsMasks (lists_of self.now) masks.now }
         ensures { IfOk result (λ v. v.items ≡ entries (lists_of self.now) label) }
     {
-        let mut places = Vec::new(alloc);
+        let mut indices = Vec::new(alloc);
         let named = self.rules.named(label);
-        self.put_rows(named, &masks.aheads, &masks.tested, &mut places)?;
-        Ok(places)
+        self.put_rows(named, &masks.aheads, &masks.tested, &mut indices)?;
+        Ok(indices)
     }
 
-    /// The place of a limit among the policy's.
-    pub(crate) fn limit_place(&self, limit: Limit) -> usize
+    /// The index of a limit among the policy's.
+    pub(crate) fn limit_index(&self, limit: Limit) -> usize
         requires { Contains (policy_of self.now.policy).limits limit }
         ensures { slice_get (policy_of self.now.policy).limits result ≡ Some limit }
     {
-        limit_place(&self.policy.limits, limit)
+        limit_index(&self.policy.limits, limit)
     }
 
     /// The state after the return of a split call: the word of the state at the callee's end, with the capabilities of
@@ -417,13 +417,13 @@ fn find_limit(limits: &[Limit], limit: Limit) -> Option<usize>
     limits.iter().position(|x| x.descriptor == limit.descriptor && x.keep.0 == limit.keep.0)
 }
 
-// The place of a limit among some.
-fn limit_place(limits: &[Limit], limit: Limit) -> usize
+// The index of a limit among some.
+fn limit_index(limits: &[Limit], limit: Limit) -> usize
     requires { Contains limits.now limit }
     ensures { slice_get limits.now result ≡ Some limit }
 {
     match find_limit(limits, limit) {
-        Some(place) => place,
+        Some(index) => index,
         None => unreachable!(),
     }
 }

@@ -39,7 +39,7 @@ impl<'p> States<'p> {
     ghost use Rattle.cw_states.specs.States.{lists_of, AreLists, AreFew, IsCause, count, caps_at, states_of, violated_in};
     ghost use Rattle.cw_states.specs.declared.acts.Act.TheVariants as act;
     ghost use Rattle.cw_rights.specs.declared.capabilities.Primitive.TheVariants.{Enter, Limit as ALimit, Split};
-    ghost use Rattle.cw_states.specs.Tables.{place_after, entry};
+    ghost use Rattle.cw_states.specs.Tables.{index_after, entry};
 
     /// The states of a policy for what a source has.
     ///
@@ -62,7 +62,7 @@ impl<'p> States<'p> {
         Ok(States { pairs, tables })
     }
 
-    // The place of a state's rights state.
+    // The index of a state's rights state.
     fn column(&self, state: StateId) -> usize
         requires state { state.0 < count (lists_of self.now) }
         ensures is { result ≡ state.0 % length self.now.rights }
@@ -71,64 +71,64 @@ impl<'p> States<'p> {
         self.pairs.column(state)
     }
 
-    // The place of the rights state after a granted primitive.
-    fn granted_place(&self, prim: Primitive, column: usize) -> u8
+    // The index of the rights state after a granted primitive.
+    fn granted_index(&self, prim: Primitive, column: usize) -> u8
         requires primitive { Contains (primitives (policy_of self.now.policy) true) prim }
         requires column { column < length self.now.rights }
-        ensures { result ≡ place_after (lists_of self.now) (act.Granted prim) column }
+        ensures { result ≡ index_after (lists_of self.now) (act.Granted prim) column }
     {
         match prim {
-            Primitive::Enter => self.entered_place(column),
-            Primitive::Split => self.split_place(column),
-            Primitive::Limit(limit) => self.limited_place(limit, column),
+            Primitive::Enter => self.entered_index(column),
+            Primitive::Split => self.split_index(column),
+            Primitive::Limit(limit) => self.limited_index(limit, column),
         }
     }
 
     /// The number of the rights state after cap_enter.
-    fn entered_place(&self, column: usize) -> u8
+    fn entered_index(&self, column: usize) -> u8
         requires column { column < length self.now.rights }
-        ensures { result ≡ place_after (lists_of self.now) (act.Granted Enter) column }
+        ensures { result ≡ index_after (lists_of self.now) (act.Granted Enter) column }
     {
         read(&self.tables.entered, column)
     }
 
     /// The number of the rights state after a split, which changes none.
-    fn split_place(&self, column: usize) -> u8
+    fn split_index(&self, column: usize) -> u8
         requires column { column < length self.now.rights }
-        ensures { result ≡ place_after (lists_of self.now) (act.Granted Split) column }
+        ensures { result ≡ index_after (lists_of self.now) (act.Granted Split) column }
     {
         read(&self.tables.split, column)
     }
 
     /// The number of the rights state after a limit of the policy.
-    fn limited_place(&self, limit: Limit, column: usize) -> u8
+    fn limited_index(&self, limit: Limit, column: usize) -> u8
         requires limit { Contains (policy_of self.now.policy).limits limit }
         requires column { column < length self.now.rights }
-        ensures { result ≡ place_after (lists_of self.now) (act.Granted (ALimit limit)) column }
+        ensures { result ≡ index_after (lists_of self.now) (act.Granted (ALimit limit)) column }
     {
-        let place = self.pairs.limit_place(limit);
-        look(&self.tables.limited, place, column)
+        let index = self.pairs.limit_index(limit);
+        look(&self.tables.limited, index, column)
     }
 
-    // The place of the rights state after an open of a descriptor.
-    fn opened_place(&self, descriptor: u8, column: usize) -> u8
+    // The index of the rights state after an open of a descriptor.
+    fn opened_index(&self, descriptor: u8, column: usize) -> u8
         requires descriptor { descriptor < length self.now.policy.descriptors.items }
         requires column { column < length self.now.rights }
-        ensures { result ≡ place_after (lists_of self.now) (act.Opened descriptor) column }
+        ensures { result ≡ index_after (lists_of self.now) (act.Opened descriptor) column }
     {
         look(&self.tables.opened, descriptor as usize, column)
     }
 
-    // The place of the rights state after a close of a descriptor.
-    fn closed_place(&self, descriptor: u8, column: usize) -> u8
+    // The index of the rights state after a close of a descriptor.
+    fn closed_index(&self, descriptor: u8, column: usize) -> u8
         requires descriptor { descriptor < length self.now.policy.descriptors.items }
         requires column { column < length self.now.rights }
-        ensures { result ≡ place_after (lists_of self.now) (act.Closed descriptor) column }
+        ensures { result ≡ index_after (lists_of self.now) (act.Closed descriptor) column }
     {
         look(&self.tables.closed, descriptor as usize, column)
     }
 
-    // The place of the policy state after the letter of a label, 255 where it breaks a rule.
+    // The index of the policy state after the letter of a label, 255 where it breaks a rule.
     fn entry(&self, state: StateId, label: u16) -> u8
         requires state { state.0 < count (lists_of self.now) }
         requires label { label ≤ length self.now.policy.labels.items }
@@ -174,8 +174,8 @@ impl<'p> States<'p> {
         requires primitive { Contains (primitives (policy_of self.now.policy) true) prim }
         ensures { result.0 ≡ (states_of (lists_of self.now)).granted state.0 prim }
     {
-        let place = self.granted_place(prim, self.column(state));
-        self.pairs.moved(state, place)
+        let index = self.granted_index(prim, self.column(state));
+        self.pairs.moved(state, index)
     }
 
     /// The state after an open of a descriptor of the policy that gave it.
@@ -184,8 +184,8 @@ impl<'p> States<'p> {
         requires descriptor { descriptor < length self.now.policy.descriptors.items }
         ensures { result.0 ≡ (states_of (lists_of self.now)).opened state.0 descriptor }
     {
-        let place = self.opened_place(descriptor, self.column(state));
-        self.pairs.moved(state, place)
+        let index = self.opened_index(descriptor, self.column(state));
+        self.pairs.moved(state, index)
     }
 
     /// The state after a close of a descriptor of the policy, or an open of it that failed.
@@ -194,8 +194,8 @@ impl<'p> States<'p> {
         requires descriptor { descriptor < length self.now.policy.descriptors.items }
         ensures { result.0 ≡ (states_of (lists_of self.now)).closed state.0 descriptor }
     {
-        let place = self.closed_place(descriptor, self.column(state));
-        self.pairs.moved(state, place)
+        let index = self.closed_index(descriptor, self.column(state));
+        self.pairs.moved(state, index)
     }
 
     /// Whether the letter of a label breaks a rule. The labels of the policy have their numbers, any other has the

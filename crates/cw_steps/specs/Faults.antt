@@ -5,10 +5,10 @@ use Rattle.cw_text_lines.specs.Lines.{IsFirstOther}
 use Rattle.cw_steps.specs.declared.step.Step.{Step}
 use Rattle.cw_steps.specs.declared.fault.StepsFault.{StepsFault}
 use Rattle.cw_steps.specs.declared.fault.StepsFault.TheVariants.{Line, NoMemory}
-use Rattle.cw_steps.specs.Steps.{step_words, FitsStep, Spells}
+use Rattle.cw_steps.specs.Steps.{step_fields, FitsStep, Spells}
 
 abbrev pub IsFault : (text : List ℕ) → (number : ℕ) → Type 0
-IsFault text number = IsFirstOther (All FitsStep) step_words text number
+IsFault text number = IsFirstOther (All FitsStep) step_fields text number
 
 -- why a reader has no steps to give: a line, or want of memory
 abbrev pub IsCause : (text : List ℕ) → StepsFault → Type 0

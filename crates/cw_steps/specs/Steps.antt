@@ -9,9 +9,9 @@ use Rattle.cw_text_lines.specs.Lines.{whole_lines}
 use Rattle.cw_steps.specs.declared.step.Step.{Step}
 
 -- `fork`, or the name of a move
-abbrev pub act_word : (fork : Bool) → Move → List ℕ
-act_word true by = codes "fork"
-act_word false by = move_name by
+abbrev pub act_field : (fork : Bool) → Move → List ℕ
+act_field true by = codes "fork"
+act_field false by = move_name by
 
 -- A fork has the move On; any other step has one of the environment's seven.
 abbrev pub FitsAct : (fork : Bool) → Move → Type 0
@@ -19,8 +19,8 @@ FitsAct true by = by ≡ On
 FitsAct false by = IsEnvironments by
 
 -- `PROCESS MOVE`
-abbrev pub step_words : Step → List (List ℕ)
-step_words s = decimal s.process ∷ act_word s.fork s.by ∷ []
+abbrev pub step_fields : Step → List (List ℕ)
+step_fields s = decimal s.process ∷ act_field s.fork s.by ∷ []
 
 -- a step that can be spelled: its process has 32 bits, and its move is On at a fork, else one of the environment's
 pub record FitsStep (s : Step) : Type 0 where
@@ -29,7 +29,7 @@ pub record FitsStep (s : Step) : Type 0 where
 
 -- a line for each step
 abbrev pub steps_text : List Step → List ℕ
-steps_text steps = whole_lines step_words steps
+steps_text steps = whole_lines step_fields steps
 
 -- the text is that of these steps
 pub record Spells (text : List ℕ) (steps : List Step) : Type 0 where

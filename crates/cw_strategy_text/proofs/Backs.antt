@@ -1,26 +1,26 @@
--- Backs and their words.
+-- Backs and their fields.
 use Rattle.std.proofs.Common.{◌≡◌, ◌≢◌, ℕ, ◌+◌, ◌^◌, ◌<◌, ◌≤◌, List, [], ◌∷◌, ◌++◌, length, map, refl, sym, ap, ◌∙◌, arith, append_assoc, append-nil}
 use Rattle.std.specs.Prelude.{None, Some}
 use Rattle.std.specs.Fmt.{decimal}
 use Rattle.std.proofs.lemmas.Fmt.{decimal_injective}
 use Rattle.std.proofs.lemmas.List.{map-append}
 use Rattle.std.proofs.lemmas.List.Elements.{All-nil, All-cons}
-use Rattle.cw_text.specs.Lines.{IsFree, joined, words_of, Reads}
-use Rattle.cw_text.proofs.Cuts.{words-joined, joined-words}
+use Rattle.cw_text.specs.Lines.{IsFree, joined, fields_by, Reads}
+use Rattle.cw_text.proofs.Cuts.{fields-joined, joined-fields}
 use Rattle.cw_text.proofs.Free.{decimal_free}
-use Rattle.cw_strategy_text.specs.StrategyText.{back_word, AreBacks}
+use Rattle.cw_strategy_text.specs.StrategyText.{back_field, AreBacks}
 use Rattle.cw_core.specs.declared.ids.StateId.{StateId}
-use Rattle.cw_strategy_text.specs.Words.{backs_of, FitsBack}
+use Rattle.cw_strategy_text.specs.Fields.{backs_of, FitsBack}
 
-pub words_of_back : (word : List ℕ) (back : ℕ × ℕ) → FitsBack back → back_word back ≡ word → words_of 61 word ≡ decimal back.0 ∷ decimal back.1 ∷ []
-words_of_back word back fits e =
-    rw (sym e) (words-joined 61 (decimal back.0) (decimal back.1 ∷ [])
+pub fields_of_back : (field : List ℕ) (back : ℕ × ℕ) → FitsBack back → back_field back ≡ field → fields_by 61 field ≡ decimal back.0 ∷ decimal back.1 ∷ []
+fields_of_back field back fits e =
+    rw (sym e) (fields-joined 61 (decimal back.0) (decimal back.1 ∷ [])
     (All-cons (IsFree 61) (decimal back.0) (decimal back.1 ∷ []) (decimal_free 61 back.0 refl (omega (arith, fits.0)))
     (All-cons (IsFree 61) (decimal back.1) [] (decimal_free 61 back.1 refl (omega (arith, fits.1))) (All-nil (IsFree 61)))))
 
-pub one_back : (a b : ℕ × ℕ) → FitsBack a → FitsBack b → back_word a ≡ back_word b → a ≡ b
+pub one_back : (a b : ℕ × ℕ) → FitsBack a → FitsBack b → back_field a ≡ back_field b → a ≡ b
 one_back a b fits also e =
-    let same : decimal a.0 ∷ decimal a.1 ∷ [] ≡ decimal b.0 ∷ decimal b.1 ∷ [] = sym (words_of_back (back_word b) a fits e) ∙ words_of_back (back_word b) b also refl in
+    let same : decimal a.0 ∷ decimal a.1 ∷ [] ≡ decimal b.0 ∷ decimal b.1 ∷ [] = sym (fields_of_back (back_field b) a fits e) ∙ fields_of_back (back_field b) b also refl in
     let state : a.0 ≡ b.0 = decimal_injective a.0 b.0 (omega (arith, fits.0)) (omega (arith, also.0)) (ap first same) in
     let row : a.1 ≡ b.1 = decimal_injective a.1 b.1 (omega (arith, fits.1)) (omega (arith, also.1)) (ap second same) in
     rw (state, row) refl
@@ -36,60 +36,60 @@ one_back a b fits also e =
 
 -- ---- one back read
 
-pub no_state : (word : List ℕ) → ((n : ℕ) (rest : List (List ℕ)) → n < 2 ^ 16 → words_of 61 word ≢ decimal n ∷ rest) → Reads FitsBack back_word word None
-no_state word none = record { some = tt; none = λ back fits e. none back.0 (decimal back.1 ∷ []) fits.0 (words_of_back word back fits e) }
+pub no_state : (field : List ℕ) → ((n : ℕ) (rest : List (List ℕ)) → n < 2 ^ 16 → fields_by 61 field ≢ decimal n ∷ rest) → Reads FitsBack back_field field None
+no_state field none = record { some = tt; none = λ back fits e. none back.0 (decimal back.1 ∷ []) fits.0 (fields_of_back field back fits e) }
 
-pub no_row : (word : List ℕ) (exit : ℕ) (left : List (List ℕ)) → words_of 61 word ≡ decimal exit ∷ left → ((n : ℕ) (rest : List (List ℕ)) → n < 2 ^ 32 → left ≢ decimal n ∷ rest)
-    → Reads FitsBack back_word word None
-no_row word exit left is none = record { some = tt; none = λ back fits e. none back.1 [] fits.1 (ap others (sym is ∙ words_of_back word back fits e)) }
+pub no_row : (field : List ℕ) (exit : ℕ) (left : List (List ℕ)) → fields_by 61 field ≡ decimal exit ∷ left → ((n : ℕ) (rest : List (List ℕ)) → n < 2 ^ 32 → left ≢ decimal n ∷ rest)
+    → Reads FitsBack back_field field None
+no_row field exit left is none = record { some = tt; none = λ back fits e. none back.1 [] fits.1 (ap others (sym is ∙ fields_of_back field back fits e)) }
   where
     others : List (List ℕ) → List (List ℕ)
     others [] = []
     others (x ∷ xs) = xs
 
-pub no_end : (word : List ℕ) (exit row : ℕ) (left more : List (List ℕ)) → words_of 61 word ≡ decimal exit ∷ left → left ≡ decimal row ∷ more → more ≢ [] → Reads FitsBack back_word word None
-no_end word exit row left more is also some = record { some = tt; none = λ back fits e. some (ap others (sym also ∙ ap others (sym is ∙ words_of_back word back fits e))) }
+pub no_end : (field : List ℕ) (exit row : ℕ) (left more : List (List ℕ)) → fields_by 61 field ≡ decimal exit ∷ left → left ≡ decimal row ∷ more → more ≢ [] → Reads FitsBack back_field field None
+no_end field exit row left more is also some = record { some = tt; none = λ back fits e. some (ap others (sym also ∙ ap others (sym is ∙ fields_of_back field back fits e))) }
   where
     others : List (List ℕ) → List (List ℕ)
     others [] = []
     others (x ∷ xs) = xs
 
-pub a_back : (word : List ℕ) (exit row : ℕ) (left more : List (List ℕ)) → exit < 2 ^ 16 → row < 2 ^ 32 → words_of 61 word ≡ decimal exit ∷ left → left ≡ decimal row ∷ more → more ≡ []
-    → Reads FitsBack back_word word (Some (exit, row))
-a_back word exit row left more small also is then done =
-    let parts : words_of 61 word ≡ decimal exit ∷ decimal row ∷ [] = is ∙ ap (λ (ws : List (List ℕ)). decimal exit ∷ ws) (then ∙ ap (λ (ws : List (List ℕ)). decimal row ∷ ws) done) in
+pub a_back : (field : List ℕ) (exit row : ℕ) (left more : List (List ℕ)) → exit < 2 ^ 16 → row < 2 ^ 32 → fields_by 61 field ≡ decimal exit ∷ left → left ≡ decimal row ∷ more → more ≡ []
+    → Reads FitsBack back_field field (Some (exit, row))
+a_back field exit row left more small also is then done =
+    let parts : fields_by 61 field ≡ decimal exit ∷ decimal row ∷ [] = is ∙ ap (λ (ws : List (List ℕ)). decimal exit ∷ ws) (then ∙ ap (λ (ws : List (List ℕ)). decimal row ∷ ws) done) in
     record {
-      some = ((small, also), sym (sym (joined-words 61 word) ∙ ap (joined 61) parts));
+      some = ((small, also), sym (sym (joined-fields 61 field) ∙ ap (joined 61) parts));
       none = tt;
     }
 
 -- ---- backs, one after the other
 
--- any backs from 0 on whose words are these: so many are read, and these are left
+-- any backs from 0 on whose fields are these: so many are read, and these are left
 pub record Left (whole left : List (List ℕ)) (read : List (ℕ × ℕ)) (low : ℕ) (backs : List (ℕ × ℕ)) : Type 0 where
   pub more : List (ℕ × ℕ)
   pub both : backs ≡ read ++ more
   pub fits : AreBacks low more
-  pub spelled : left ≡ map back_word more
+  pub spelled : left ≡ map back_field more
 
 -- what the loop keeps: what is read are backs, up to a number, and with each list of backs that may follow they are backs; and `Left`
 pub record Keeps (whole left : List (List ℕ)) (read : List (ℕ × ℕ)) (low : ℕ) : Type 0 where
   pub bound : low ≤ 65536
-  pub spelled : whole ≡ map back_word read ++ left
+  pub spelled : whole ≡ map back_field read ++ left
   pub fits : (more : List (ℕ × ℕ)) → AreBacks low more → AreBacks 0 (read ++ more)
-  pub only : (backs : List (ℕ × ℕ)) → AreBacks 0 backs → map back_word backs ≡ whole → Left whole left read low backs
+  pub only : (backs : List (ℕ × ℕ)) → AreBacks 0 backs → map back_field backs ≡ whole → Left whole left read low backs
 
 -- all are read
-pub at_end : (whole left : List (List ℕ)) (read : List (ℕ × ℕ)) (low : ℕ) → Keeps whole left read low → left ≡ [] → Reads (AreBacks 0) (map back_word) whole (Some read)
+pub at_end : (whole left : List (List ℕ)) (read : List (ℕ × ℕ)) (low : ℕ) → Keeps whole left read low → left ≡ [] → Reads (AreBacks 0) (map back_field) whole (Some read)
 at_end whole left read low keeps done = record {
-  some = (rw (append-nil read) at (keeps.fits [] tt), sym (keeps.spelled ∙ rw (done, append-nil (map back_word read)) refl));
+  some = (rw (append-nil read) at (keeps.fits [] tt), sym (keeps.spelled ∙ rw (done, append-nil (map back_field read)) refl));
   none = tt;
 }
 
--- the back that the next word must be
-next_back : (whole left : List (List ℕ)) (read : List (ℕ × ℕ)) (low : ℕ) (word : List ℕ) (rest : List (List ℕ)) → left ≡ word ∷ rest → (backs : List (ℕ × ℕ)) → (l : Left whole left read low backs)
-    → (back : ℕ × ℕ) × (more : List (ℕ × ℕ)) × (l.more ≡ back ∷ more) × (back_word back ≡ word) × (rest ≡ map back_word more)
-next_back whole left read low word rest e backs l = split l.more refl
+-- the back that the next field must be
+next_back : (whole left : List (List ℕ)) (read : List (ℕ × ℕ)) (low : ℕ) (field : List ℕ) (rest : List (List ℕ)) → left ≡ field ∷ rest → (backs : List (ℕ × ℕ)) → (l : Left whole left read low backs)
+    → (back : ℕ × ℕ) × (more : List (ℕ × ℕ)) × (l.more ≡ back ∷ more) × (back_field back ≡ field) × (rest ≡ map back_field more)
+next_back whole left read low field rest e backs l = split l.more refl
   where
     first : List (List ℕ) → List ℕ
     first [] = []
@@ -99,33 +99,33 @@ next_back whole left read low word rest e backs l = split l.more refl
     others [] = []
     others (x ∷ xs) = xs
 
-    split : (more : List (ℕ × ℕ)) → l.more ≡ more → (back : ℕ × ℕ) × (others : List (ℕ × ℕ)) × (l.more ≡ back ∷ others) × (back_word back ≡ word) × (rest ≡ map back_word others)
-    split [] is = let bad : word ∷ rest ≡ [] = sym e ∙ l.spelled ∙ ap (map back_word) is in absurd (omega (arith, ap length bad))
+    split : (more : List (ℕ × ℕ)) → l.more ≡ more → (back : ℕ × ℕ) × (others : List (ℕ × ℕ)) × (l.more ≡ back ∷ others) × (back_field back ≡ field) × (rest ≡ map back_field others)
+    split [] is = let bad : field ∷ rest ≡ [] = sym e ∙ l.spelled ∙ ap (map back_field) is in absurd (omega (arith, ap length bad))
     split (back ∷ more) is =
-        let same : word ∷ rest ≡ back_word back ∷ map back_word more = sym e ∙ l.spelled ∙ ap (map back_word) is in
+        let same : field ∷ rest ≡ back_field back ∷ map back_field more = sym e ∙ l.spelled ∙ ap (map back_field) is in
         (back, more, is, sym (ap first same), ap others same)
 
--- the next word is no back
-pub at_none : (whole left : List (List ℕ)) (read : List (ℕ × ℕ)) (low : ℕ) (word : List ℕ) (rest : List (List ℕ)) → Keeps whole left read low → left ≡ word ∷ rest → Reads FitsBack back_word word None
-    → Reads (AreBacks 0) (map back_word) whole None
-at_none whole left read low word rest keeps e reads = record {
+-- the next field is no back
+pub at_none : (whole left : List (List ℕ)) (read : List (ℕ × ℕ)) (low : ℕ) (field : List ℕ) (rest : List (List ℕ)) → Keeps whole left read low → left ≡ field ∷ rest → Reads FitsBack back_field field None
+    → Reads (AreBacks 0) (map back_field) whole None
+at_none whole left read low field rest keeps e reads = record {
   some = tt;
   none = λ backs fits is.
       let l = keeps.only backs fits is in
-      let n = next_back whole left read low word rest e backs l in
+      let n = next_back whole left read low field rest e backs l in
       let there : AreBacks low (n.0 ∷ n.1) = rw n.2 at l.fits in
       reads.none n.0 (there.1, there.2) n.3;
 }
 
 -- the next back doesn't ascend
-pub at_low : (whole left : List (List ℕ)) (read : List (ℕ × ℕ)) (low exit row : ℕ) (word : List ℕ) (rest : List (List ℕ)) → Keeps whole left read low → left ≡ word ∷ rest
-    → Reads FitsBack back_word word (Some (exit, row))
-    → exit < low → Reads (AreBacks 0) (map back_word) whole None
-at_low whole left read low exit row word rest keeps e reads under = record {
+pub at_low : (whole left : List (List ℕ)) (read : List (ℕ × ℕ)) (low exit row : ℕ) (field : List ℕ) (rest : List (List ℕ)) → Keeps whole left read low → left ≡ field ∷ rest
+    → Reads FitsBack back_field field (Some (exit, row))
+    → exit < low → Reads (AreBacks 0) (map back_field) whole None
+at_low whole left read low exit row field rest keeps e reads under = record {
   some = tt;
   none = λ backs fits is.
       let l = keeps.only backs fits is in
-      let n = next_back whole left read low word rest e backs l in
+      let n = next_back whole left read low field rest e backs l in
       let there : AreBacks low (n.0 ∷ n.1) = rw n.2 at l.fits in
       let same : (exit, row) ≡ n.0 = one_back (exit, row) n.0 reads.some.0 (there.1, there.2) (reads.some.1 ∙ sym n.3) in
       let state : exit ≡ (n.0).0 = ap (λ (b : ℕ × ℕ). b.0) same in
@@ -133,20 +133,20 @@ at_low whole left read low exit row word rest keeps e reads under = record {
 }
 
 -- one back more
-pub at_next : (whole left : List (List ℕ)) (read : List (ℕ × ℕ)) (low exit row : ℕ) (word : List ℕ) (rest : List (List ℕ)) → Keeps whole left read low → left ≡ word ∷ rest
-    → Reads FitsBack back_word word (Some (exit, row))
+pub at_next : (whole left : List (List ℕ)) (read : List (ℕ × ℕ)) (low exit row : ℕ) (field : List ℕ) (rest : List (List ℕ)) → Keeps whole left read low → left ≡ field ∷ rest
+    → Reads FitsBack back_field field (Some (exit, row))
     → low ≤ exit → Keeps whole rest (read ++ (exit, row) ∷ []) (exit + 1)
-at_next whole left read low exit row word rest keeps e reads up = record {
+at_next whole left read low exit row field rest keeps e reads up = record {
   bound = let p = reads.some.0.0 in omega (arith, p);
   spelled =
       keeps.spelled
-      ∙ ap (λ (ws : List (List ℕ)). map back_word read ++ ws) (e ∙ ap (λ (w : List ℕ). w ∷ rest) (sym reads.some.1))
-      ∙ sym (append_assoc (map back_word read) (back_word (exit, row) ∷ []) rest)
-      ∙ ap (λ (ws : List (List ℕ)). ws ++ rest) (sym (map-append back_word read ((exit, row) ∷ [])));
+      ∙ ap (λ (ws : List (List ℕ)). map back_field read ++ ws) (e ∙ ap (λ (w : List ℕ). w ∷ rest) (sym reads.some.1))
+      ∙ sym (append_assoc (map back_field read) (back_field (exit, row) ∷ []) rest)
+      ∙ ap (λ (ws : List (List ℕ)). ws ++ rest) (sym (map-append back_field read ((exit, row) ∷ [])));
   fits = λ more fits. rw (append_assoc read ((exit, row) ∷ []) more) (keeps.fits ((exit, row) ∷ more) (up, reads.some.0.0, reads.some.0.1, fits));
   only = λ backs fits is.
       let l = keeps.only backs fits is in
-      let n = next_back whole left read low word rest e backs l in
+      let n = next_back whole left read low field rest e backs l in
       let there : AreBacks low (n.0 ∷ n.1) = rw n.2 at l.fits in
       let same : n.0 ≡ (exit, row) = sym (one_back (exit, row) n.0 reads.some.0 (there.1, there.2) (reads.some.1 ∙ sym n.3)) in
       record {

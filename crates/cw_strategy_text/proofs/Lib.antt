@@ -1,7 +1,7 @@
 pub mod Backs
 pub mod Fronts
 pub mod Hows
-pub mod LineWords
+pub mod LineFields
 pub mod OneAnswer
 pub mod OneRow
 pub mod Puts

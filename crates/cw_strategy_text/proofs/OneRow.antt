@@ -4,19 +4,19 @@ use Rattle.std.specs.Prelude.{codes}
 use Rattle.std.specs.Fmt.{decimal}
 use Rattle.std.proofs.lemmas.List.{append_cancel_left}
 use Rattle.cw_certs.specs.Strategies.{How, Bad, Out, Both, Go, Into, Row}
-use Rattle.cw_text.specs.Lines.{joined, words_of, states_line, end_line}
+use Rattle.cw_text.specs.Lines.{joined, fields_by, states_line, end_line}
 use Rattle.cw_text.proofs.Free.{one_line, joined_free}
-use Rattle.cw_text.proofs.Cuts.{words-joined}
+use Rattle.cw_text.proofs.Cuts.{fields-joined}
 use Rattle.cw_text.proofs.OneSet.{one_set_text}
 use Rattle.cw_text_lines.proofs.Separated.{space, lf, one_number}
 use Rattle.cw_text_lines.proofs.Starts.{line_end}
-use Rattle.cw_strategy_text.specs.StrategyText.{back_word, how_words, row_words, AreBacks, FitsHow, FitsRow}
-use Rattle.cw_strategy_text.specs.Words.{kind_of_how, kind_word, rest_words, row_text, FitsNamed}
+use Rattle.cw_strategy_text.specs.StrategyText.{back_field, how_fields, row_fields, AreBacks, FitsHow, FitsRow}
+use Rattle.cw_strategy_text.specs.Fields.{kind_of_how, kind_field, rest_fields, row_text, FitsNamed}
 use Rattle.cw_strategy_text.specs.Faults.{HasRow}
 use Rattle.cw_strategy_text.proofs.Backs.{one_back}
-use Rattle.cw_strategy_text.proofs.Hows.{one_kind, first_word, how_words-kind}
-use Rattle.cw_strategy_text.proofs.LineWords.{states_free, states_words, is_states_line}
-use Rattle.cw_strategy_text.proofs.RowLines.{words_of_row, line_of_row, line_of_end, row_text_free, end_free}
+use Rattle.cw_strategy_text.proofs.Hows.{one_kind, first_field, how_fields-kind}
+use Rattle.cw_strategy_text.proofs.LineFields.{states_free, states_fields, is_states_line}
+use Rattle.cw_strategy_text.proofs.RowLines.{fields_of_row, line_of_row, line_of_end, row_text_free, end_free}
 
 head : List (List ℕ) → List ℕ
 head [] = []
@@ -26,7 +26,7 @@ tail : List (List ℕ) → List (List ℕ)
 tail [] = []
 tail (x ∷ xs) = xs
 
-one_backs : (low high : ℕ) (xs ys : List (ℕ × ℕ)) → AreBacks low xs → AreBacks high ys → map back_word xs ≡ map back_word ys → xs ≡ ys
+one_backs : (low high : ℕ) (xs ys : List (ℕ × ℕ)) → AreBacks low xs → AreBacks high ys → map back_field xs ≡ map back_field ys → xs ≡ ys
 unfolding head tail
 one_backs low high [] [] fits also e = refl
 one_backs low high [] (y ∷ ys) fits also e = absurd (omega (arith, ap length e))
@@ -42,8 +42,8 @@ same_both s t u v e f = rw (e, f) refl
 same_into : (c d : ℕ) (xs ys : List (ℕ × ℕ)) → c ≡ d → xs ≡ ys → ◌≡◌ {A = How} (Into c xs) (Into d ys)
 same_into c d xs ys e f = rw (e, f) refl
 
--- of one kind, with the same other words
-one_rest : (a b : How) → FitsHow a → FitsHow b → kind_of_how a ≡ kind_of_how b → rest_words a ≡ rest_words b → a ≡ b
+-- of one kind, with the same other fields
+one_rest : (a b : How) → FitsHow a → FitsHow b → kind_of_how a ≡ kind_of_how b → rest_fields a ≡ rest_fields b → a ≡ b
 unfolding head tail
 one_rest Bad Bad fits also k e = refl
 one_rest Bad Out fits also k e = absurd (cc)
@@ -71,19 +71,19 @@ one_rest (Into c bs) (Both s t) fits also k e = absurd (cc)
 one_rest (Into c bs) (Go by row) fits also k e = absurd (cc)
 one_rest (Into c bs) (Into d ds) fits also k e = same_into c d bs ds (one_number c d fits.0 also.0 (ap head e)) (one_backs 0 0 bs ds fits.1 also.1 (ap tail e))
 
-one_how : (a b : How) → FitsHow a → FitsHow b → how_words a ≡ how_words b → a ≡ b
+one_how : (a b : How) → FitsHow a → FitsHow b → how_fields a ≡ how_fields b → a ≡ b
 one_how a b fits also e =
-    let p = first_word a (kind_word (kind_of_how b)) (rest_words b) (e ∙ how_words-kind b) in
+    let p = first_field a (kind_field (kind_of_how b)) (rest_fields b) (e ∙ how_fields-kind b) in
     one_rest a b fits also (one_kind (kind_of_how a) (kind_of_how b) p.0) p.1
 
 same_row : (a b : Row) → a.pos ≡ b.pos → a.state ≡ b.state → a.aim ≡ b.aim → a.how ≡ b.how → a ≡ b
 same_row a b e f g h = rw (e, f, g, h) refl
 
-one_words : (format number other : ℕ) (a b : Row) → number < 2 ^ 32 → other < 2 ^ 32 → FitsRow format a → FitsRow format b → row_words format number a ≡ row_words format other b
+one_fields : (format number other : ℕ) (a b : Row) → number < 2 ^ 32 → other < 2 ^ 32 → FitsRow format a → FitsRow format b → row_fields format number a ≡ row_fields format other b
     → (number ≡ other) × (a ≡ b)
 unfolding head tail
-one_words format number other a b small low fits also e =
-    let second : tail (row_words format number a) ≡ tail (row_words format other b) = ap tail e in
+one_fields format number other a b small low fits also e =
+    let second : tail (row_fields format number a) ≡ tail (row_fields format other b) = ap tail e in
     let third = ap tail second in
     let fourth = ap tail third in (
       one_number number other small low (ap head e),
@@ -101,8 +101,8 @@ one_row format text number other a b rest more h k =
     let also : FitsNamed format (other, b) = record { number = k.small; row = k.fits } in
     let p = one_line 10 (row_text format (number, a)) (row_text format (other, b)) rest more (row_text_free format (number, a) fits) (row_text_free format (other, b) also)
     (sym (line_of_row format number a rest) ∙ sym h.spelled ∙ k.spelled ∙ line_of_row format other b more) in
-    let q = one_words format number other a b h.small k.small h.fits k.fits
-    (sym (words_of_row format (number, a) (row_text format (number, a)) fits refl) ∙ ap (words_of 32) p.0 ∙ words_of_row format (other, b) (row_text format (other, b)) also refl) in
+    let q = one_fields format number other a b h.small k.small h.fits k.fits
+    (sym (fields_of_row format (number, a) (row_text format (number, a)) fits refl) ∙ ap (fields_by 32) p.0 ∙ fields_of_row format (other, b) (row_text format (other, b)) also refl) in
     (q.0, q.1, p.1)
 
 -- no row's line is the end
@@ -111,8 +111,8 @@ no_end_row format text number r rest more h e =
     let fits : FitsNamed format (number, r) = record { number = h.small; row = h.fits } in
     let p = one_line 10 (row_text format (number, r)) (codes "end") rest more (row_text_free format (number, r) fits) end_free
     (sym (line_of_row format number r rest) ∙ sym h.spelled ∙ e ∙ line_of_end more) in
-    let words : row_words format number r ≡ codes "end" ∷ [] = sym (words_of_row format (number, r) (row_text format (number, r)) fits refl) ∙ ap (words_of 32) p.0 in
-    omega (arith, ap length words)
+    let fields : row_fields format number r ≡ codes "end" ∷ [] = sym (fields_of_row format (number, r) (row_text format (number, r)) fits refl) ∙ ap (fields_by 32) p.0 in
+    omega (arith, ap length fields)
 
 pub one_end : (text rest more : List ℕ) → text ≡ end_line ++ rest → text ≡ end_line ++ more → rest ≡ more
 one_end text rest more e f = append_cancel_left end_line rest more (sym e ∙ f)
@@ -121,12 +121,12 @@ one_end text rest more e f = append_cancel_left end_line rest more (sym e ∙ f)
 pub one_states : (text rest more : List ℕ) (a b : ℕ) → a < 2 ^ 16 → b < 2 ^ 16 → text ≡ states_line a ++ rest → text ≡ states_line b ++ more → (a ≡ b) × (rest ≡ more)
 unfolding head tail
 one_states text rest more a b small also e f =
-    let p = one_line 10 (joined 32 (states_words a)) (joined 32 (states_words b)) rest more (joined_free 32 10 refl (states_words a) (states_free 10 lf a (omega (arith, small))))
-    (joined_free 32 10 refl (states_words b) (states_free 10 lf b (omega (arith, also))))
+    let p = one_line 10 (joined 32 (states_fields a)) (joined 32 (states_fields b)) rest more (joined_free 32 10 refl (states_fields a) (states_free 10 lf a (omega (arith, small))))
+    (joined_free 32 10 refl (states_fields b) (states_free 10 lf b (omega (arith, also))))
     (sym (states_text a rest) ∙ sym e ∙ f ∙ states_text b more) in
-    let words : states_words a ≡ states_words b = sym (words-joined 32 (codes "states") (decimal a ∷ []) (states_free 32 space a (omega (arith, small)))) ∙ ap (words_of 32) p.0
-    ∙ words-joined 32 (codes "states") (decimal b ∷ []) (states_free 32 space b (omega (arith, also))) in
-    (one_number a b (omega (arith, small)) (omega (arith, also)) (ap (λ ws. head (tail ws)) words), p.1)
+    let fields : states_fields a ≡ states_fields b = sym (fields-joined 32 (codes "states") (decimal a ∷ []) (states_free 32 space a (omega (arith, small)))) ∙ ap (fields_by 32) p.0
+    ∙ fields-joined 32 (codes "states") (decimal b ∷ []) (states_free 32 space b (omega (arith, also))) in
+    (one_number a b (omega (arith, small)) (omega (arith, also)) (ap (λ ws. head (tail ws)) fields), p.1)
   where
-    states_text : (n : ℕ) (t : List ℕ) → states_line n ++ t ≡ joined 32 (states_words n) ++ (10 ∷ t)
-    states_text n t = rw (is_states_line n) (line_end (joined 32 (states_words n)) t)
+    states_text : (n : ℕ) (t : List ℕ) → states_line n ++ t ≡ joined 32 (states_fields n) ++ (10 ∷ t)
+    states_text n t = rw (is_states_line n) (line_end (joined 32 (states_fields n)) t)

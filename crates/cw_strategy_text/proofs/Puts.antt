@@ -7,17 +7,17 @@ use Rattle.std.specs.Fmt.{decimal}
 use Rattle.cw_certs.specs.Strategies.{Row, Strategy, row_of}
 use Rattle.cw_certs.specs.declared.strategy.EnvRow.{EnvRow}
 use Rattle.cw_text.specs.Lines.{line, joined, set_text, states_line, end_line}
-use Rattle.cw_strategy_text.specs.StrategyText.{head_line, how_words, row_line, row_lines, strategy_text}
-use Rattle.cw_strategy_text.specs.Words.{put_line}
+use Rattle.cw_strategy_text.specs.StrategyText.{head_line, how_fields, row_line, row_lines, strategy_text}
+use Rattle.cw_strategy_text.specs.Fields.{put_line}
 
--- joined words are the first, and each of the others after the mark
-joined-after : (mark : ℕ) (word : List ℕ) (words : List (List ℕ)) → joined mark (word ∷ words) ≡ word ++ flat_map (λ (w : List ℕ). mark ∷ w) words
-joined-after mark word [] = sym (append-nil word)
-joined-after mark word (next ∷ words) = ap (λ (t : List ℕ). word ++ (mark ∷ t)) (joined-after mark next words)
+-- joined fields are the first, and each of the others after the separator
+joined-after : (separator : ℕ) (field : List ℕ) (fields : List (List ℕ)) → joined separator (field ∷ fields) ≡ field ++ flat_map (λ (w : List ℕ). separator ∷ w) fields
+joined-after separator field [] = sym (append-nil field)
+joined-after separator field (next ∷ fields) = ap (λ (t : List ℕ). field ++ (separator ∷ t)) (joined-after separator next fields)
 
 pub row_line-put : (format number : ℕ) (r : Row) → row_line format number r ≡ put_line format number r
 unfolding row_line
-row_line-put format number r = ap line (joined-after 32 (decimal number) (decimal r.pos ∷ decimal r.state ∷ set_text format r.aim ∷ how_words r.how))
+row_line-put format number r = ap line (joined-after 32 (decimal number) (decimal r.pos ∷ decimal r.state ∷ set_text format r.aim ∷ how_fields r.how))
 
 -- the lines of one row more
 pub more_lines : (format n : ℕ) (rows : List Row) (i : ℕ) (r : Row) → slice_get rows i ≡ Some r
@@ -50,15 +50,15 @@ row_read rows i x lt is = slice_get-map row_of rows i ∙ ap (option_map row_of)
 -- a row's line, put piece by piece
 line_put : (format number : ℕ) (r : Row) (old first second third whole : List ℕ) → first ≡ old ++ decimal number
     → second ≡ first ++ flat_map (λ (w : List ℕ). 32 ∷ w) (decimal r.pos ∷ decimal r.state ∷ set_text format r.aim ∷ [])
-    → third ≡ second ++ flat_map (λ (w : List ℕ). 32 ∷ w) (how_words r.how) → whole ≡ third ++ codes "\n" → whole ≡ old ++ put_line format number r
+    → third ≡ second ++ flat_map (λ (w : List ℕ). 32 ∷ w) (how_fields r.how) → whole ≡ third ++ codes "\n" → whole ≡ old ++ put_line format number r
 line_put format number r old first second third whole e f g h =
     h
     ∙ ap (λ (t : List ℕ). t ++ codes "\n")
     (g
-    ∙ ap (λ (t : List ℕ). t ++ flat_map (λ (w : List ℕ). 32 ∷ w) (how_words r.how))
+    ∙ ap (λ (t : List ℕ). t ++ flat_map (λ (w : List ℕ). 32 ∷ w) (how_fields r.how))
     (f ∙ ap (λ (t : List ℕ). t ++ flat_map (λ (w : List ℕ). 32 ∷ w) (decimal r.pos ∷ decimal r.state ∷ set_text format r.aim ∷ [])) e)
-    ∙ pieces old (decimal number) (decimal r.pos) (decimal r.state) (set_text format r.aim) (flat_map (λ (w : List ℕ). 32 ∷ w) (how_words r.how)))
-    ∙ append_assoc old (decimal number ++ flat_map (λ (w : List ℕ). 32 ∷ w) (decimal r.pos ∷ decimal r.state ∷ set_text format r.aim ∷ how_words r.how)) (codes "\n")
+    ∙ pieces old (decimal number) (decimal r.pos) (decimal r.state) (set_text format r.aim) (flat_map (λ (w : List ℕ). 32 ∷ w) (how_fields r.how)))
+    ∙ append_assoc old (decimal number ++ flat_map (λ (w : List ℕ). 32 ∷ w) (decimal r.pos ∷ decimal r.state ∷ set_text format r.aim ∷ how_fields r.how)) (codes "\n")
   where
     pieces : (old n a b d how : List ℕ) → ((old ++ n) ++ (32 ∷ (a ++ (32 ∷ (b ++ (32 ∷ (d ++ []))))))) ++ how ≡ old ++ (n ++ (32 ∷ (a ++ (32 ∷ (b ++ (32 ∷ (d ++ how)))))))
     pieces old n a b d how =
@@ -70,7 +70,7 @@ line_put format number r old first second third whole e f g h =
 
 pub row_put : (format number : ℕ) (r : Row) (old first second third whole : List ℕ) → first ≡ old ++ decimal number
     → second ≡ first ++ flat_map (λ (w : List ℕ). 32 ∷ w) (decimal r.pos ∷ decimal r.state ∷ set_text format r.aim ∷ [])
-    → third ≡ second ++ flat_map (λ (w : List ℕ). 32 ∷ w) (how_words r.how) → whole ≡ third ++ codes "\n" → whole ≡ old ++ row_line format number r
+    → third ≡ second ++ flat_map (λ (w : List ℕ). 32 ∷ w) (how_fields r.how) → whole ≡ third ++ codes "\n" → whole ≡ old ++ row_line format number r
 row_put format number r old first second third whole e f g h =
     line_put format number r old first second third whole e f g h ∙ ap (λ (t : List ℕ). old ++ t) (sym (row_line-put format number r))
 
@@ -79,9 +79,9 @@ unfolding row_lines
 nothing_put format text = sym (append-nil text)
 
 -- what stands before the rows, put piece by piece
-head_regrouped : (t0 head format nl word states : List ℕ) → ((((t0 ++ head) ++ format) ++ (nl ++ (word ++ 32 ∷ []))) ++ states) ++ nl
-    ≡ t0 ++ (((head ++ format) ++ nl) ++ ((word ++ (32 ∷ states)) ++ nl))
-head_regrouped t0 head format nl word states = simp append_assoc
+head_regrouped : (t0 head format nl field states : List ℕ) → ((((t0 ++ head) ++ format) ++ (nl ++ (field ++ 32 ∷ []))) ++ states) ++ nl
+    ≡ t0 ++ (((head ++ format) ++ nl) ++ ((field ++ (32 ∷ states)) ++ nl))
+head_regrouped t0 head format nl field states = simp append_assoc
 
 pub head_put : (format states : ℕ) (t0 t1 t2 t3 t4 t5 : List ℕ) → t1 ≡ t0 ++ codes "capweave strategy " → t2 ≡ t1 ++ decimal format → t3 ≡ t2 ++ codes "\nstates "
     → t4 ≡ t3 ++ decimal states → t5 ≡ t4 ++ codes "\n" → t5 ≡ t0 ++ (head_line format ++ states_line states)

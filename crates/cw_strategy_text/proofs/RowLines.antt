@@ -1,58 +1,58 @@
--- The words of a row's line.
+-- The fields of a row's line.
 use Rattle.std.proofs.Common.{◌≡◌, ◌≢◌, ℕ, ◌+◌, ◌^◌, ◌<◌, Bool, true, eqb, List, [], ◌∷◌, ◌++◌, length, length-append, refl, sym, ap, ◌∙◌, arith, append-nil, append_assoc}
 use Rattle.std.specs.Prelude.{None, Some, codes}
 use Rattle.std.specs.Fmt.{decimal}
 use Rattle.std.proofs.lemmas.Bool.{eqb-true}
 use Rattle.cw_certs.specs.Strategies.{How, Row}
-use Rattle.cw_text.specs.Lines.{IsFree, line, joined, words_of, set_text, IsSetIn, Reads, end_line}
-use Rattle.cw_text.proofs.Cuts.{words-joined, joined-words}
+use Rattle.cw_text.specs.Lines.{IsFree, line, joined, fields_by, set_text, IsSetIn, Reads, end_line}
+use Rattle.cw_text.proofs.Cuts.{fields-joined, joined-fields}
 use Rattle.cw_text.proofs.Free.{one_line, joined_free}
 use Rattle.cw_text_lines.proofs.Separated.{space, lf, name_free}
-use Rattle.cw_strategy_text.specs.StrategyText.{how_words, row_words, row_line, FitsHow}
-use Rattle.cw_strategy_text.specs.Words.{row_text, FitsNamed}
+use Rattle.cw_strategy_text.specs.StrategyText.{how_fields, row_fields, row_line, FitsHow}
+use Rattle.cw_strategy_text.specs.Fields.{row_text, FitsNamed}
 use Rattle.cw_strategy_text.specs.Faults.{HasRow}
 use Rattle.cw_strategy_text.specs.Steps.{HasNone}
-use Rattle.cw_strategy_text.proofs.LineWords.{row_free, from_none}
+use Rattle.cw_strategy_text.proofs.LineFields.{row_free, from_none}
 
-pub words_of_row : (format : ℕ) (named : ℕ × Row) (text : List ℕ) → FitsNamed format named → row_text format named ≡ text → words_of 32 text ≡ row_words format named.0 named.1
+pub fields_of_row : (format : ℕ) (named : ℕ × Row) (text : List ℕ) → FitsNamed format named → row_text format named ≡ text → fields_by 32 text ≡ row_fields format named.0 named.1
 unfolding row_text
-words_of_row format named text fits e =
-    rw (sym e) (words-joined 32 (decimal named.0) (decimal named.1.pos ∷ decimal named.1.state ∷ set_text format named.1.aim ∷ how_words named.1.how)
+fields_of_row format named text fits e =
+    rw (sym e) (fields-joined 32 (decimal named.0) (decimal named.1.pos ∷ decimal named.1.state ∷ set_text format named.1.aim ∷ how_fields named.1.how)
     (row_free 32 space format named.0 named.1 fits.number fits.row))
 
-pub no_place : (format : ℕ) (text : List ℕ)
+pub no_row_head : (format : ℕ) (text : List ℕ)
     → ((number pos state aim : ℕ) (rest : List (List ℕ)) → number < 2 ^ 32 → pos < 2 ^ 32 → state < 2 ^ 16 → IsSetIn format aim
-    → words_of 32 text ≢ decimal number ∷ decimal pos ∷ decimal state ∷ set_text format aim ∷ rest)
+    → fields_by 32 text ≢ decimal number ∷ decimal pos ∷ decimal state ∷ set_text format aim ∷ rest)
     → Reads (FitsNamed format) (row_text format) text None
-no_place format text none = record {
+no_row_head format text none = record {
   some = tt;
-  none = λ named fits e. none named.0 named.1.pos named.1.state named.1.aim (how_words named.1.how) fits.number fits.row.pos fits.row.state fits.row.aim (words_of_row format named text fits e);
+  none = λ named fits e. none named.0 named.1.pos named.1.state named.1.aim (how_fields named.1.how) fits.number fits.row.pos fits.row.state fits.row.aim (fields_of_row format named text fits e);
 }
 
-past_place : List (List ℕ) → List (List ℕ)
-past_place [] = []
-past_place (a ∷ []) = []
-past_place (a ∷ b ∷ []) = []
-past_place (a ∷ b ∷ d ∷ []) = []
-past_place (a ∷ b ∷ d ∷ e ∷ rest) = rest
+past_head : List (List ℕ) → List (List ℕ)
+past_head [] = []
+past_head (a ∷ []) = []
+past_head (a ∷ b ∷ []) = []
+past_head (a ∷ b ∷ d ∷ []) = []
+past_head (a ∷ b ∷ d ∷ e ∷ rest) = rest
 
 pub no_how : (format : ℕ) (text : List ℕ) (number pos state aim : ℕ) (left : List (List ℕ))
-    → words_of 32 text ≡ decimal number ∷ decimal pos ∷ decimal state ∷ set_text format aim ∷ left → Reads FitsHow how_words left None
+    → fields_by 32 text ≡ decimal number ∷ decimal pos ∷ decimal state ∷ set_text format aim ∷ left → Reads FitsHow how_fields left None
     → Reads (FitsNamed format) (row_text format) text None
-unfolding past_place
+unfolding past_head
 no_how format text number pos state aim left is reads = record {
   some = tt;
-  none = λ named fits e. reads.none named.1.how fits.row.how (ap past_place (sym (words_of_row format named text fits e) ∙ is));
+  none = λ named fits e. reads.none named.1.how fits.row.how (ap past_head (sym (fields_of_row format named text fits e) ∙ is));
 }
 
 pub a_row : (format : ℕ) (text : List ℕ) (number pos state aim : ℕ) (left : List (List ℕ)) (how : How) → number < 2 ^ 32 → pos < 2 ^ 32 → state < 2 ^ 16 → IsSetIn format aim
-    → words_of 32 text ≡ decimal number ∷ decimal pos ∷ decimal state ∷ set_text format aim ∷ left → Reads FitsHow how_words left (Some how)
+    → fields_by 32 text ≡ decimal number ∷ decimal pos ∷ decimal state ∷ set_text format aim ∷ left → Reads FitsHow how_fields left (Some how)
     → Reads (FitsNamed format) (row_text format) text (Some (number, record { pos = pos; state = state; aim = aim; how = how }))
 unfolding row_text
 a_row format text number pos state aim left how small place low set is reads = record {
   some = (
     record { number = small; row = record { pos = place; state = low; aim = set; how = reads.some.0 } },
-    ap (λ (ws : List (List ℕ)). joined 32 (decimal number ∷ decimal pos ∷ decimal state ∷ set_text format aim ∷ ws)) reads.some.1 ∙ sym (ap (joined 32) is) ∙ joined-words 32 text,
+    ap (λ (ws : List (List ℕ)). joined 32 (decimal number ∷ decimal pos ∷ decimal state ∷ set_text format aim ∷ ws)) reads.some.1 ∙ sym (ap (joined 32) is) ∙ joined-fields 32 text,
   );
   none = tt;
 }
@@ -72,14 +72,14 @@ line_of_end more = refl
 
 pub row_text_free : (format : ℕ) (named : ℕ × Row) → FitsNamed format named → IsFree 10 (row_text format named)
 unfolding row_text
-row_text_free format named fits = joined_free 32 10 refl (row_words format named.0 named.1) (row_free 10 lf format named.0 named.1 fits.number fits.row)
+row_text_free format named fits = joined_free 32 10 refl (row_fields format named.0 named.1) (row_free 10 lf format named.0 named.1 fits.number fits.row)
 
 -- a text without LF begins neither with the end nor with a row
 pub none_at_all : (format : ℕ) (text : List ℕ) → IsFree 10 text → HasNone format text
 unfolding row_line end_line
 none_at_all format text free = record {
   over = λ more e. from_none text more (codes "end" ∷ []) free e;
-  row = λ number r more h. from_none text more (row_words format number r) free h.spelled;
+  row = λ number r more h. from_none text more (row_fields format number r) free h.spelled;
 }
 
 pub end_stands : (text l rest : List ℕ) → text ≡ l ++ (10 ∷ rest) → l ≡ codes "end" → text ≡ end_line ++ rest

@@ -1,4 +1,4 @@
--- Each text is that of a strategy or has a fault: what decides it, number by number, word by word and line by line.
+-- Each text is that of a strategy or has a fault: what decides it, number by number, field by field and line by line.
 use Rattle.std.proofs.Common.{◌≡◌, ◌≢◌, ℕ, zero, suc, ◌+◌, ◌^◌, ◌<◌, ◌≤◌, ◌⊎◌, Bool, true, false, cond, eqb, List, [], ◌∷◌, ◌++◌, length, map, refl, sym, ap, ◌∙◌, subst, arith, append-nil, inl, inr}
 use Rattle.std.specs.Prelude.{Result, Ok, Err, Option, None, Some, codes, bytes_eq}
 use Rattle.std.specs.Fmt.{decimal}
@@ -11,20 +11,20 @@ use Rattle.cw_certs.specs.declared.moves.Move.{Move}
 use Rattle.cw_certs.specs.Strategies.{How, Bad, Out, Both, Go, Into, Row, Strategy}
 use Rattle.cw_text.specs.declared.fault.TextFault.{TextFault}
 use Rattle.cw_text.specs.declared.fault.TextFault.TheVariants.{Line, Order, Limit}
-use Rattle.cw_text.specs.Lines.{IsFree, words_of, set_text, IsSetIn, Reads, states_line, end_line}
+use Rattle.cw_text.specs.Lines.{IsFree, fields_by, set_text, IsSetIn, Reads, states_line, end_line}
 use Rattle.cw_text.specs.Moves.{move_name, IsEnvironments}
 use Rattle.cw_text.proofs.Names.{move_of, told}
 use Rattle.cw_text_lines.proofs.Starts.{first_line}
 use Rattle.cw_strategy_text.specs.declared.kind.RowKind.{RowKind}
 use Rattle.cw_strategy_text.specs.declared.kind.RowKind.TheVariants as kind
-use Rattle.cw_strategy_text.specs.StrategyText.{head_line, back_word, how_words, rows_in, row_count, AreBacks, FitsHow, Fits}
-use Rattle.cw_strategy_text.specs.Words.{kind_of_how, kind_word, rest_words, FitsKind, FitsBack, IsOf, FitsNamed, row_text}
+use Rattle.cw_strategy_text.specs.StrategyText.{head_line, back_field, how_fields, rows_in, row_count, AreBacks, FitsHow, Fits}
+use Rattle.cw_strategy_text.specs.Fields.{kind_of_how, kind_field, rest_fields, FitsKind, FitsBack, IsOf, FitsNamed, row_text}
 use Rattle.cw_strategy_text.specs.Faults.{Begins, HasRow, IsAnswer, no_head, no_states, no_row, no_end, no_order, no_room}
 use Rattle.cw_strategy_text.specs.Steps.{HasNone, HasMore, HasAnother, HasTooMany}
 use Rattle.cw_strategy_text.proofs.Backs as backs
 use Rattle.cw_strategy_text.proofs.Fronts.{front_first, front_next, front_end}
-use Rattle.cw_strategy_text.proofs.Hows.{no_words, no_kind, of_kind}
-use Rattle.cw_strategy_text.proofs.RowLines.{no_place, no_how, a_row, none_at_all, none_here, end_stands, row_here, row_shortens}
+use Rattle.cw_strategy_text.proofs.Hows.{no_fields, no_kind, of_kind}
+use Rattle.cw_strategy_text.proofs.RowLines.{no_row_head, no_how, a_row, none_at_all, none_here, end_stands, row_here, row_shortens}
 use Rattle.cw_text.proofs.SomeAnswer.{environments_or_not}
 
 -- ---- what can be decided
@@ -51,21 +51,21 @@ nothing_left : {A : Type 0} (xs : List A) → (xs ≡ []) ⊎ (xs ≢ [])
 nothing_left [] = inl refl
 nothing_left (x ∷ xs) = inr (λ e. omega (arith, ap length e))
 
--- ---- words
+-- ---- fields
 
 abbrev Readable : {A W : Type 0} → (A → Type 0) → (A → W) → W → Type 0
-Readable {A} {W} Fits text_of word = (r : Option A) × Reads Fits text_of word r
+Readable {A} {W} Fits text_of field = (r : Option A) × Reads Fits text_of field r
 
-number_readable : (bound : ℕ) (word : List ℕ) → Readable (λ n. n < bound) decimal word
-number_readable bound word =
-    elim (search_below (λ n. decimal n ≡ word) (λ n. same_text (decimal n) word) bound) [
+number_readable : (bound : ℕ) (field : List ℕ) → Readable (λ n. n < bound) decimal field
+number_readable bound field =
+    elim (search_below (λ n. decimal n ≡ field) (λ n. same_text (decimal n) field) bound) [
       | inl f ↦ (Some f.0, record { some = (f.1, f.2); none = tt })
       | inr none ↦ (None, record { some = tt; none = none })
     ]
 
-set_readable : (size : ℕ) (text_of : ℕ → List ℕ) (word : List ℕ) → Readable (IsBelow size) text_of word
-set_readable size text_of word =
-    elim (search_below (λ n. text_of n ≡ word) (λ n. same_text (text_of n) word) (2 ^ size)) [
+set_readable : (size : ℕ) (text_of : ℕ → List ℕ) (field : List ℕ) → Readable (IsBelow size) text_of field
+set_readable size text_of field =
+    elim (search_below (λ n. text_of n ≡ field) (λ n. same_text (text_of n) field) (2 ^ size)) [
       | inl f ↦ (Some f.0, record { some = (IsBelow_from_lt size f.0 f.1, f.2); none = tt })
       | inr none ↦ (None, record { some = tt; none = λ set below e. none set (IsBelow-lt size set below) e })
     ]
@@ -78,31 +78,31 @@ tail : List (List ℕ) → List (List ℕ)
 tail [] = []
 tail (x ∷ xs) = xs
 
--- the first of some words
+-- the first of some fields
 abbrev Taken : {A : Type 0} → (A → Type 0) → (A → List ℕ) → List (List ℕ) → Type 0
-Taken {A} Fits text_of words = ((a : A) × (left : List (List ℕ)) × Fits a × (words ≡ text_of a ∷ left)) ⊎ ((a : A) (rest : List (List ℕ)) → Fits a → words ≢ text_of a ∷ rest)
+Taken {A} Fits text_of fields = ((a : A) × (left : List (List ℕ)) × Fits a × (fields ≡ text_of a ∷ left)) ⊎ ((a : A) (rest : List (List ℕ)) → Fits a → fields ≢ text_of a ∷ rest)
 
-take_value : {A : Type 0} (Fits : A → Type 0) (text_of : A → List ℕ) → ((word : List ℕ) → Readable Fits text_of word) → (words : List (List ℕ)) → Taken Fits text_of words
+take_value : {A : Type 0} (Fits : A → Type 0) (text_of : A → List ℕ) → ((field : List ℕ) → Readable Fits text_of field) → (fields : List (List ℕ)) → Taken Fits text_of fields
 unfolding head
 take_value Fits text_of readable [] = inr (λ a rest fits e. omega (arith, ap length e))
-take_value {A} Fits text_of readable (w ∷ words) = by_read (readable w).0 (readable w).1
+take_value {A} Fits text_of readable (w ∷ fields) = by_read (readable w).0 (readable w).1
   where
-    by_read : (r : Option A) → Reads Fits text_of w r → Taken Fits text_of (w ∷ words)
+    by_read : (r : Option A) → Reads Fits text_of w r → Taken Fits text_of (w ∷ fields)
     by_read None reads = inr (λ a rest fits e. reads.none a fits (sym (ap head e)))
-    by_read (Some a) reads = inl (a, words, reads.some.0, ap (λ (v : List ℕ). v ∷ words) (sym reads.some.1))
+    by_read (Some a) reads = inl (a, fields, reads.some.0, ap (λ (v : List ℕ). v ∷ fields) (sym reads.some.1))
 
-take_number : (bound : ℕ) (words : List (List ℕ)) → Taken (λ n. n < bound) decimal words
-take_number bound words = take_value (λ n. n < bound) decimal (number_readable bound) words
+take_number : (bound : ℕ) (fields : List (List ℕ)) → Taken (λ n. n < bound) decimal fields
+take_number bound fields = take_value (λ n. n < bound) decimal (number_readable bound) fields
 
-back_readable : (word : List ℕ) → Readable FitsBack back_word word
-back_readable word =
-    elim (take_number (2 ^ 16) (words_of 61 word)) [
-      | inr none ↦ (None, backs.no_state word none)
+back_readable : (field : List ℕ) → Readable FitsBack back_field field
+back_readable field =
+    elim (take_number (2 ^ 16) (fields_by 61 field)) [
+      | inr none ↦ (None, backs.no_state field none)
       | inl t ↦ elim (take_number (2 ^ 32) t.1) [
-        | inr none ↦ (None, backs.no_row word t.0 t.1 t.3 none)
+        | inr none ↦ (None, backs.no_row field t.0 t.1 t.3 none)
         | inl u ↦ elim (nothing_left u.1) [
-          | inl e ↦ (Some (t.0, u.0), backs.a_back word t.0 u.0 t.1 u.1 t.2 u.2 t.3 u.3 e)
-          | inr some ↦ (None, backs.no_end word t.0 u.0 t.1 u.1 t.3 u.3 some)
+          | inl e ↦ (Some (t.0, u.0), backs.a_back field t.0 u.0 t.1 u.1 t.2 u.2 t.3 u.3 e)
+          | inr some ↦ (None, backs.no_end field t.0 u.0 t.1 u.1 t.3 u.3 some)
         ]
       ]
     ]
@@ -115,26 +115,26 @@ at_most (suc a) b =
       | inr lt ↦ inr (omega (arith, lt))
     ]
 
-backs_readable : (low : ℕ) (words : List (List ℕ)) → Readable (AreBacks low) (map back_word) words
+backs_readable : (low : ℕ) (fields : List (List ℕ)) → Readable (AreBacks low) (map back_field) fields
 unfolding head tail
 backs_readable low [] = (Some [], record { some = (tt, refl); none = tt })
-backs_readable low (w ∷ words) = by_read (back_readable w).0 (back_readable w).1 (λ (more : ℕ). backs_readable more words)
+backs_readable low (w ∷ fields) = by_read (back_readable w).0 (back_readable w).1 (λ (more : ℕ). backs_readable more fields)
   where
-    after : (b : ℕ × ℕ) → FitsBack b → back_word b ≡ w → low ≤ b.0 → (r : Option (List (ℕ × ℕ))) → Reads (AreBacks (b.0 + 1)) (map back_word) words r
-        → Readable (AreBacks low) (map back_word) (w ∷ words)
+    after : (b : ℕ × ℕ) → FitsBack b → back_field b ≡ w → low ≤ b.0 → (r : Option (List (ℕ × ℕ))) → Reads (AreBacks (b.0 + 1)) (map back_field) fields r
+        → Readable (AreBacks low) (map back_field) (w ∷ fields)
     after b fits is up (Some bs) reads = (Some (b ∷ bs), record { some = ((up, fits.0, fits.1, reads.some.0), rw (is, reads.some.1) refl); none = tt })
     after b fits is up None reads = (None, record { some = tt; none = missing })
       where
-        missing : (bs : List (ℕ × ℕ)) → AreBacks low bs → map back_word bs ≢ w ∷ words
+        missing : (bs : List (ℕ × ℕ)) → AreBacks low bs → map back_field bs ≢ w ∷ fields
         missing [] good e = omega (arith, ap length e)
         missing (d ∷ ds) good e =
             let same : d ≡ b = backs.one_back d b (good.1, good.2) fits (ap head e ∙ sym is) in
             reads.none ds (subst (λ (x : ℕ × ℕ). AreBacks (x.0 + 1) ds) same good.3) (ap tail e)
 
-    by_read : (r : Option (ℕ × ℕ)) → Reads FitsBack back_word w r → ((more : ℕ) → Readable (AreBacks more) (map back_word) words) → Readable (AreBacks low) (map back_word) (w ∷ words)
+    by_read : (r : Option (ℕ × ℕ)) → Reads FitsBack back_field w r → ((more : ℕ) → Readable (AreBacks more) (map back_field) fields) → Readable (AreBacks low) (map back_field) (w ∷ fields)
     by_read None reads rest = (None, record { some = tt; none = missing })
       where
-        missing : (bs : List (ℕ × ℕ)) → AreBacks low bs → map back_word bs ≢ w ∷ words
+        missing : (bs : List (ℕ × ℕ)) → AreBacks low bs → map back_field bs ≢ w ∷ fields
         missing [] good e = omega (arith, ap length e)
         missing (d ∷ ds) good e = reads.none d (good.1, good.2) (ap head e)
     by_read (Some b) reads rest =
@@ -143,7 +143,7 @@ backs_readable low (w ∷ words) = by_read (back_readable w).0 (back_readable w)
           | inr under ↦ (None, record { some = tt; none = missing under })
         ]
       where
-        missing : b.0 < low → (bs : List (ℕ × ℕ)) → AreBacks low bs → map back_word bs ≢ w ∷ words
+        missing : b.0 < low → (bs : List (ℕ × ℕ)) → AreBacks low bs → map back_field bs ≢ w ∷ fields
         missing under [] good e = omega (arith, ap length e)
         missing under (d ∷ ds) good e =
             let same : d ≡ b = backs.one_back d b (good.1, good.2) reads.some.0 (ap head e ∙ sym reads.some.1) in
@@ -153,63 +153,63 @@ backs_readable low (w ∷ words) = by_read (back_readable w).0 (back_readable w)
 -- ---- what a row does
 
 -- only the move that a name tells can have it
-move_readable : (word : List ℕ) → Readable IsEnvironments move_name word
-move_readable word =
-    elim (same_text (move_name (move_of word)) word) [
-      | inl e ↦ elim (environments_or_not (move_of word)) [
-        | inl fits ↦ (Some (move_of word), record { some = (fits, e); none = tt })
+move_readable : (field : List ℕ) → Readable IsEnvironments move_name field
+move_readable field =
+    elim (same_text (move_name (move_of field)) field) [
+      | inl e ↦ elim (environments_or_not (move_of field)) [
+        | inl fits ↦ (Some (move_of field), record { some = (fits, e); none = tt })
         | inr not ↦ (None, record { some = tt; none = λ by fits is. not (subst IsEnvironments (one by is) fits) })
       ]
       | inr differs ↦ (None, record { some = tt; none = λ by fits is. differs (ap move_name (sym (one by is)) ∙ is) })
     ]
   where
-    one : (by : Move) → move_name by ≡ word → by ≡ move_of word
+    one : (by : Move) → move_name by ≡ field → by ≡ move_of field
     one by is = sym (told by) ∙ ap move_of is
 
-kind_readable : (word : List ℕ) → Readable FitsKind kind_word word
-kind_readable word =
-    elim (same_text (codes "bad") word) [
+kind_readable : (field : List ℕ) → Readable FitsKind kind_field field
+kind_readable field =
+    elim (same_text (codes "bad") field) [
       | inl e ↦ found kind.Bad tt e
       | inr bad ↦
-          elim (same_text (codes "out") word) [
+          elim (same_text (codes "out") field) [
             | inl e ↦ found kind.Out tt e
             | inr out ↦
-                elim (same_text (codes "both") word) [
+                elim (same_text (codes "both") field) [
                   | inl e ↦ found kind.Both tt e
                   | inr both ↦
-                      elim (same_text (codes "into") word) [
+                      elim (same_text (codes "into") field) [
                         | inl e ↦ found kind.Into tt e
-                        | inr into ↦ by_move bad out both into (move_readable word).0 (move_readable word).1
+                        | inr into ↦ by_move bad out both into (move_readable field).0 (move_readable field).1
                       ]
                 ]
           ]
     ]
   where
-    found : (k : RowKind) → FitsKind k → kind_word k ≡ word → Readable FitsKind kind_word word
+    found : (k : RowKind) → FitsKind k → kind_field k ≡ field → Readable FitsKind kind_field field
     found k fits e = (Some k, record { some = (fits, e); none = tt })
 
-    missing : codes "bad" ≢ word → codes "out" ≢ word → codes "both" ≢ word → codes "into" ≢ word → ((by : Move) → IsEnvironments by → move_name by ≢ word)
-        → (k : RowKind) → FitsKind k → kind_word k ≢ word
+    missing : codes "bad" ≢ field → codes "out" ≢ field → codes "both" ≢ field → codes "into" ≢ field → ((by : Move) → IsEnvironments by → move_name by ≢ field)
+        → (k : RowKind) → FitsKind k → kind_field k ≢ field
     missing bad out both into go kind.Bad fits = bad
     missing bad out both into go kind.Out fits = out
     missing bad out both into go kind.Both fits = both
     missing bad out both into go kind.Into fits = into
     missing bad out both into go (kind.Go by) fits = go by fits
 
-    by_move : codes "bad" ≢ word → codes "out" ≢ word → codes "both" ≢ word → codes "into" ≢ word → (r : Option Move) → Reads IsEnvironments move_name word r
-        → Readable FitsKind kind_word word
+    by_move : codes "bad" ≢ field → codes "out" ≢ field → codes "both" ≢ field → codes "into" ≢ field → (r : Option Move) → Reads IsEnvironments move_name field r
+        → Readable FitsKind kind_field field
     by_move bad out both into (Some by) reads = found (kind.Go by) reads.some.0 reads.some.1
     by_move bad out both into None reads = (None, record { some = tt; none = missing bad out both into reads.none })
 
--- the other words of what is of a kind
-only_bad : (how : How) → kind_of_how how ≡ kind.Bad → rest_words how ≡ []
+-- the other fields of what is of a kind
+only_bad : (how : How) → kind_of_how how ≡ kind.Bad → rest_fields how ≡ []
 only_bad Bad e = refl
 only_bad Out e = absurd (cc)
 only_bad (Both s t) e = absurd (cc)
 only_bad (Go by row) e = absurd (cc)
 only_bad (Into c bs) e = absurd (cc)
 
-only_out : (how : How) → kind_of_how how ≡ kind.Out → rest_words how ≡ []
+only_out : (how : How) → kind_of_how how ≡ kind.Out → rest_fields how ≡ []
 only_out Bad e = absurd (cc)
 only_out Out e = refl
 only_out (Both s t) e = absurd (cc)
@@ -221,25 +221,25 @@ record TwoRows (how : How) : Type 0 where
   tried : ℕ
   small : skip < 2 ^ 32
   low : tried < 2 ^ 32
-  words : rest_words how ≡ decimal skip ∷ decimal tried ∷ []
+  fields : rest_fields how ≡ decimal skip ∷ decimal tried ∷ []
 
 only_both : (how : How) → FitsHow how → kind_of_how how ≡ kind.Both → TwoRows how
 only_both Bad fits e = absurd (cc)
 only_both Out fits e = absurd (cc)
-only_both (Both s t) fits e = record { skip = s; tried = t; small = fits.0; low = fits.1; words = refl }
+only_both (Both s t) fits e = record { skip = s; tried = t; small = fits.0; low = fits.1; fields = refl }
 only_both (Go by row) fits e = absurd (cc)
 only_both (Into c bs) fits e = absurd (cc)
 
 record OneRow (how : How) : Type 0 where
   row : ℕ
   small : row < 2 ^ 32
-  words : rest_words how ≡ decimal row ∷ []
+  fields : rest_fields how ≡ decimal row ∷ []
 
 only_go : (by : Move) (how : How) → FitsHow how → kind_of_how how ≡ kind.Go by → OneRow how
 only_go by Bad fits e = absurd (cc)
 only_go by Out fits e = absurd (cc)
 only_go by (Both s t) fits e = absurd (cc)
-only_go by (Go way row) fits e = record { row = row; small = fits.1; words = refl }
+only_go by (Go way row) fits e = record { row = row; small = fits.1; fields = refl }
 only_go by (Into c bs) fits e = absurd (cc)
 
 record CalleeAndBacks (how : How) : Type 0 where
@@ -247,89 +247,89 @@ record CalleeAndBacks (how : How) : Type 0 where
   backs : List (ℕ × ℕ)
   small : callee < 2 ^ 32
   good : AreBacks 0 backs
-  words : rest_words how ≡ decimal callee ∷ map back_word backs
+  fields : rest_fields how ≡ decimal callee ∷ map back_field backs
 
 only_into : (how : How) → FitsHow how → kind_of_how how ≡ kind.Into → CalleeAndBacks how
 only_into Bad fits e = absurd (cc)
 only_into Out fits e = absurd (cc)
 only_into (Both s t) fits e = absurd (cc)
 only_into (Go by row) fits e = absurd (cc)
-only_into (Into c bs) fits e = record { callee = c; backs = bs; small = fits.0; good = fits.1; words = refl }
+only_into (Into c bs) fits e = record { callee = c; backs = bs; small = fits.0; good = fits.1; fields = refl }
 
-rest_readable : (k : RowKind) → FitsKind k → (words : List (List ℕ)) → Readable (IsOf k) rest_words words
+rest_readable : (k : RowKind) → FitsKind k → (fields : List (List ℕ)) → Readable (IsOf k) rest_fields fields
 unfolding tail
-rest_readable kind.Bad fits words =
-    elim (nothing_left words) [
+rest_readable kind.Bad fits fields =
+    elim (nothing_left fields) [
       | inl e ↦ (Some Bad, record { some = (record { fits = tt; kind = refl }, sym e); none = tt })
       | inr some ↦ (None, record { some = tt; none = λ how is e. some (sym e ∙ only_bad how is.kind) })
     ]
-rest_readable kind.Out fits words =
-    elim (nothing_left words) [
+rest_readable kind.Out fits fields =
+    elim (nothing_left fields) [
       | inl e ↦ (Some Out, record { some = (record { fits = tt; kind = refl }, sym e); none = tt })
       | inr some ↦ (None, record { some = tt; none = λ how is e. some (sym e ∙ only_out how is.kind) })
     ]
-rest_readable kind.Both fits words =
-    elim (take_number (2 ^ 32) words) [
-      | inr none ↦ (None, record { some = tt; none = λ how is e. let o = only_both how is.fits is.kind in none o.skip (decimal o.tried ∷ []) o.small (sym e ∙ o.words) })
+rest_readable kind.Both fits fields =
+    elim (take_number (2 ^ 32) fields) [
+      | inr none ↦ (None, record { some = tt; none = λ how is e. let o = only_both how is.fits is.kind in none o.skip (decimal o.tried ∷ []) o.small (sym e ∙ o.fields) })
       | inl t ↦ elim (take_number (2 ^ 32) t.1) [
-        | inr none ↦ (None, record { some = tt; none = λ how is e. let o = only_both how is.fits is.kind in none o.tried [] o.low (ap tail (sym t.3 ∙ sym e ∙ o.words)) })
+        | inr none ↦ (None, record { some = tt; none = λ how is e. let o = only_both how is.fits is.kind in none o.tried [] o.low (ap tail (sym t.3 ∙ sym e ∙ o.fields)) })
         | inl u ↦ elim (nothing_left u.1) [
           | inl over ↦ (Some (Both t.0 u.0), record { some = (record { fits = (t.2, u.2); kind = refl }, sym (t.3 ∙ rest_of (decimal t.0) t.1 (decimal u.0) u.1 u.3 over)); none = tt })
-          | inr some ↦ (None, record { some = tt; none = λ how is e. let o = only_both how is.fits is.kind in some (ap tail (sym u.3 ∙ ap tail (sym t.3 ∙ sym e ∙ o.words))) })
+          | inr some ↦ (None, record { some = tt; none = λ how is e. let o = only_both how is.fits is.kind in some (ap tail (sym u.3 ∙ ap tail (sym t.3 ∙ sym e ∙ o.fields))) })
         ]
       ]
     ]
   where
     rest_of : (a : List ℕ) (left : List (List ℕ)) (b : List ℕ) (more : List (List ℕ)) → left ≡ b ∷ more → more ≡ [] → a ∷ left ≡ a ∷ b ∷ []
     rest_of a left b more e over = ap (λ (ws : List (List ℕ)). a ∷ ws) (e ∙ ap (λ (ws : List (List ℕ)). b ∷ ws) over)
-rest_readable (kind.Go by) fits words =
-    elim (take_number (2 ^ 32) words) [
-      | inr none ↦ (None, record { some = tt; none = λ how is e. let o = only_go by how is.fits is.kind in none o.row [] o.small (sym e ∙ o.words) })
+rest_readable (kind.Go by) fits fields =
+    elim (take_number (2 ^ 32) fields) [
+      | inr none ↦ (None, record { some = tt; none = λ how is e. let o = only_go by how is.fits is.kind in none o.row [] o.small (sym e ∙ o.fields) })
       | inl t ↦ elim (nothing_left t.1) [
         | inl over ↦ (Some (Go by t.0), record { some = (record { fits = (fits, t.2); kind = refl }, sym (t.3 ∙ ap (λ (ws : List (List ℕ)). decimal t.0 ∷ ws) over)); none = tt })
-        | inr some ↦ (None, record { some = tt; none = λ how is e. let o = only_go by how is.fits is.kind in some (ap tail (sym t.3 ∙ sym e ∙ o.words)) })
+        | inr some ↦ (None, record { some = tt; none = λ how is e. let o = only_go by how is.fits is.kind in some (ap tail (sym t.3 ∙ sym e ∙ o.fields)) })
       ]
     ]
-rest_readable kind.Into fits words =
-    elim (take_number (2 ^ 32) words) [
-      | inr none ↦ (None, record { some = tt; none = λ how is e. let o = only_into how is.fits is.kind in none o.callee (map back_word o.backs) o.small (sym e ∙ o.words) })
+rest_readable kind.Into fits fields =
+    elim (take_number (2 ^ 32) fields) [
+      | inr none ↦ (None, record { some = tt; none = λ how is e. let o = only_into how is.fits is.kind in none o.callee (map back_field o.backs) o.small (sym e ∙ o.fields) })
       | inl t ↦ with_backs t.0 t.1 t.2 t.3 (backs_readable 0 t.1).0 (backs_readable 0 t.1).1
     ]
   where
-    with_backs : (callee : ℕ) (left : List (List ℕ)) → callee < 2 ^ 32 → words ≡ decimal callee ∷ left → (r : Option (List (ℕ × ℕ))) → Reads (AreBacks 0) (map back_word) left r
-        → Readable (IsOf kind.Into) rest_words words
+    with_backs : (callee : ℕ) (left : List (List ℕ)) → callee < 2 ^ 32 → fields ≡ decimal callee ∷ left → (r : Option (List (ℕ × ℕ))) → Reads (AreBacks 0) (map back_field) left r
+        → Readable (IsOf kind.Into) rest_fields fields
     with_backs callee left small is (Some bs) reads = (
       Some (Into callee bs),
       record { some = (record { fits = (small, reads.some.0); kind = refl }, sym (is ∙ ap (λ (ws : List (List ℕ)). decimal callee ∷ ws) (sym reads.some.1))); none = tt },
     )
     with_backs callee left small is None reads = (
       None,
-      record { some = tt; none = λ how of e. let o = only_into how of.fits of.kind in reads.none o.backs o.good (sym (ap tail (sym is ∙ sym e ∙ o.words))) },
+      record { some = tt; none = λ how of e. let o = only_into how of.fits of.kind in reads.none o.backs o.good (sym (ap tail (sym is ∙ sym e ∙ o.fields))) },
     )
 
-how_readable : (words : List (List ℕ)) → Readable FitsHow how_words words
-how_readable [] = (None, no_words [] refl)
-how_readable (w ∷ words) = by_kind (kind_readable w).0 (kind_readable w).1
+how_readable : (fields : List (List ℕ)) → Readable FitsHow how_fields fields
+how_readable [] = (None, no_fields [] refl)
+how_readable (w ∷ fields) = by_kind (kind_readable w).0 (kind_readable w).1
   where
-    by_kind : (r : Option RowKind) → Reads FitsKind kind_word w r → Readable FitsHow how_words (w ∷ words)
-    by_kind None reads = (None, no_kind (w ∷ words) w words refl reads)
-    by_kind (Some k) reads = let rest = rest_readable k reads.some.0 words in (rest.0, of_kind (w ∷ words) w words k rest.0 refl reads rest.1)
+    by_kind : (r : Option RowKind) → Reads FitsKind kind_field w r → Readable FitsHow how_fields (w ∷ fields)
+    by_kind None reads = (None, no_kind (w ∷ fields) w fields refl reads)
+    by_kind (Some k) reads = let rest = rest_readable k reads.some.0 fields in (rest.0, of_kind (w ∷ fields) w fields k rest.0 refl reads rest.1)
 
 -- ---- a row's line
 
 row_readable : (format : ℕ) (text : List ℕ) → Readable (FitsNamed format) (row_text format) text
 unfolding tail
 row_readable format text =
-    elim (take_number (2 ^ 32) (words_of 32 text)) [
-      | inr none ↦ (None, no_place format text (λ number pos state aim rest a b d f e. none number (decimal pos ∷ decimal state ∷ set_text format aim ∷ rest) a e))
+    elim (take_number (2 ^ 32) (fields_by 32 text)) [
+      | inr none ↦ (None, no_row_head format text (λ number pos state aim rest a b d f e. none number (decimal pos ∷ decimal state ∷ set_text format aim ∷ rest) a e))
       | inl t ↦ elim (take_number (2 ^ 32) t.1) [
-        | inr none ↦ (None, no_place format text (λ number pos state aim rest a b d f e. none pos (decimal state ∷ set_text format aim ∷ rest) b (ap tail (sym t.3 ∙ e))))
+        | inr none ↦ (None, no_row_head format text (λ number pos state aim rest a b d f e. none pos (decimal state ∷ set_text format aim ∷ rest) b (ap tail (sym t.3 ∙ e))))
         | inl u ↦ elim (take_number (2 ^ 16) u.1) [
-          | inr none ↦ (None, no_place format text (λ number pos state aim rest a b d f e. none state (set_text format aim ∷ rest) d (ap tail (sym u.3 ∙ ap tail (sym t.3 ∙ e)))))
+          | inr none ↦ (None, no_row_head format text (λ number pos state aim rest a b d f e. none state (set_text format aim ∷ rest) d (ap tail (sym u.3 ∙ ap tail (sym t.3 ∙ e)))))
           | inl v ↦ elim (take_value (IsSetIn format) (set_text format) (set_readable (cond (eqb format 2) 1024 512) (set_text format)) v.1) [
-            | inr none ↦ (None, no_place format text (λ number pos state aim rest a b d f e. none aim rest f (ap tail (sym v.3 ∙ ap tail (sym u.3 ∙ ap tail (sym t.3 ∙ e))))))
+            | inr none ↦ (None, no_row_head format text (λ number pos state aim rest a b d f e. none aim rest f (ap tail (sym v.3 ∙ ap tail (sym u.3 ∙ ap tail (sym t.3 ∙ e))))))
             | inl w ↦
-                let place : words_of 32 text ≡ decimal t.0 ∷ decimal u.0 ∷ decimal v.0 ∷ set_text format w.0 ∷ w.1 = t.3
+                let place : fields_by 32 text ≡ decimal t.0 ∷ decimal u.0 ∷ decimal v.0 ∷ set_text format w.0 ∷ w.1 = t.3
                 ∙ four (decimal t.0) t.1 (decimal u.0) u.1 (decimal v.0) v.1 (set_text format w.0) w.1 u.3 v.3 w.3 in
                 with_how t.0 u.0 v.0 w.0 w.1 t.2 u.2 v.2 w.2 place (how_readable w.1).0 (how_readable w.1).1
           ]
@@ -342,7 +342,7 @@ row_readable format text =
     four a left b more d others f rest p q s = ap (λ (ws : List (List ℕ)). a ∷ ws) (p ∙ ap (λ (ws : List (List ℕ)). b ∷ ws) (q ∙ ap (λ (ws : List (List ℕ)). d ∷ ws) s))
 
     with_how : (number pos state aim : ℕ) (left : List (List ℕ)) → number < 2 ^ 32 → pos < 2 ^ 32 → state < 2 ^ 16 → IsSetIn format aim
-        → words_of 32 text ≡ decimal number ∷ decimal pos ∷ decimal state ∷ set_text format aim ∷ left → (r : Option How) → Reads FitsHow how_words left r
+        → fields_by 32 text ≡ decimal number ∷ decimal pos ∷ decimal state ∷ set_text format aim ∷ left → (r : Option How) → Reads FitsHow how_fields left r
         → Readable (FitsNamed format) (row_text format) text
     with_how number pos state aim left a b d f place (Some how) reads =
         (Some (number, record { pos = pos; state = state; aim = aim; how = how }), a_row format text number pos state aim left how a b d f place reads)

@@ -1,4 +1,4 @@
 pub mod StrategyText
 pub mod Faults
-pub mod Words
+pub mod Fields
 pub mod Steps

@@ -7,26 +7,26 @@ use Rattle.cw_text.specs.Lines.{line, joined, set_text, IsSetIn, states_line, en
 use Rattle.cw_text.specs.Moves.{move_name, IsEnvironments}
 
 -- `EXIT=ROW`
-abbrev pub back_word : ℕ × ℕ → List ℕ
-back_word back = joined 61 (decimal back.0 ∷ decimal back.1 ∷ [])
+abbrev pub back_field : ℕ × ℕ → List ℕ
+back_field back = joined 61 (decimal back.0 ∷ decimal back.1 ∷ [])
 
-abbrev pub how_words : How → List (List ℕ)
-how_words Bad = codes "bad" ∷ []
-how_words Out = codes "out" ∷ []
-how_words (Both skip tried) = codes "both" ∷ decimal skip ∷ decimal tried ∷ []
-how_words (Go by row) = move_name by ∷ decimal row ∷ []
-how_words (Into callee backs) = codes "into" ∷ decimal callee ∷ map back_word backs
+abbrev pub how_fields : How → List (List ℕ)
+how_fields Bad = codes "bad" ∷ []
+how_fields Out = codes "out" ∷ []
+how_fields (Both skip tried) = codes "both" ∷ decimal skip ∷ decimal tried ∷ []
+how_fields (Go by row) = move_name by ∷ decimal row ∷ []
+how_fields (Into callee backs) = codes "into" ∷ decimal callee ∷ map back_field backs
 
 -- `NUMBER POSITION STATE AIM HOW`
-abbrev pub row_words : (format number : ℕ) → Row → List (List ℕ)
-row_words format number r = decimal number ∷ decimal r.pos ∷ decimal r.state ∷ set_text format r.aim ∷ how_words r.how
+abbrev pub row_fields : (format number : ℕ) → Row → List (List ℕ)
+row_fields format number r = decimal number ∷ decimal r.pos ∷ decimal r.state ∷ set_text format r.aim ∷ how_fields r.how
 
 -- the lines of a strategy's text
 unfoldable pub head_line : (format : ℕ) → List ℕ
 head_line format = line (codes "capweave strategy " ++ decimal format)
 
 unfoldable pub row_line : (format number : ℕ) → Row → List ℕ
-row_line format number r = line (joined 32 (row_words format number r))
+row_line format number r = line (joined 32 (row_fields format number r))
 
 -- a line for each row, numbered from a number on
 unfoldable pub row_lines : (format number : ℕ) → List Row → List ℕ

@@ -1,8 +1,8 @@
-//! What a row does, by its word.
+//! What a row does, by its field.
 
 ghost use Rattle.std.specs.Prelude.{◌≡◌};
 ghost use Rattle.cw_text.specs.Lines.{Reads};
-ghost use Rattle.cw_strategy_text.specs.Words.{kind_word, FitsKind};
+ghost use Rattle.cw_strategy_text.specs.Fields.{kind_field, FitsKind};
 
 use cw_certs::Move;
 use cw_text::environments_move;
@@ -17,21 +17,21 @@ pub(crate) enum RowKind {
     Into,
 }
 
-/// What a row does whose word this is.
-pub(crate) fn kind_of(word: &[u8]) -> Option<RowKind>
-    ensures { Reads FitsKind kind_word word.now result }
+/// What a row does whose field this is.
+pub(crate) fn kind_of(field: &[u8]) -> Option<RowKind>
+    ensures { Reads FitsKind kind_field field.now result }
 {
-    if word == b"bad".as_slice() {
+    if field == b"bad".as_slice() {
         return Some(RowKind::Bad);
     }
-    if word == b"out".as_slice() {
+    if field == b"out".as_slice() {
         return Some(RowKind::Out);
     }
-    if word == b"both".as_slice() {
+    if field == b"both".as_slice() {
         return Some(RowKind::Both);
     }
-    if word == b"into".as_slice() {
+    if field == b"into".as_slice() {
         return Some(RowKind::Into);
     }
-    Some(RowKind::Go(environments_move(word)?))
+    Some(RowKind::Go(environments_move(field)?))
 }

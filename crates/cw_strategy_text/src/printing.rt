@@ -9,8 +9,8 @@ ghost use Rattle.cw_certs.specs.Strategies.{how_of, row_of, strategy_of};
 ghost use Rattle.cw_io.specs.Causes.{HasCause};
 ghost use Rattle.cw_io.specs.Pieces.{Puts};
 ghost use Rattle.cw_io.specs.Written.{Follows};
-ghost use Rattle.cw_strategy_text.specs.StrategyText.{back_word, head_line, how_words, row_line, row_lines, strategy_text};
-ghost use Rattle.cw_strategy_text.specs.Words.{backs_of};
+ghost use Rattle.cw_strategy_text.specs.StrategyText.{back_field, head_line, how_fields, row_line, row_lines, strategy_text};
+ghost use Rattle.cw_strategy_text.specs.Fields.{backs_of};
 
 use cw_certs::{EnvCert, EnvRow, How, Move};
 use cw_core::{PosId, StateId, StateSet};
@@ -102,13 +102,13 @@ pub fn put_row<S: Sink>(
     ensures follows { Follows S.taken S.faults S.refused writer.new out.new }
 {
     writer.put_number(number as u64, out);
-    put_place(at, aim, format, writer, out);
+    put_row_head(at, aim, format, writer, out);
     put_how(how, writer, out);
     writer.put(b"\n", out);
 }
 
 /// Appends a row's position, state and aim, each after a space.
-fn put_place<S: Sink>(
+fn put_row_head<S: Sink>(
     at: (PosId, StateId),
     aim: &StateSet,
     format: u8,
@@ -116,7 +116,7 @@ fn put_place<S: Sink>(
     out: &mut S,
 )
     requires follows { Follows S.taken S.faults S.refused writer.old out.old }
-    ensures text { writer.new.text ≡ writer.old.text ++ flat_map (λ word. 32 ∷ word) (decimal at.0.0 ∷ decimal at.1.0 ∷ set_text format aim.now ∷ []) }
+    ensures text { writer.new.text ≡ writer.old.text ++ flat_map (λ field. 32 ∷ field) (decimal at.0.0 ∷ decimal at.1.0 ∷ set_text format aim.now ∷ []) }
     ensures begun { writer.new.begun ≡ writer.old.begun }
     ensures follows { Follows S.taken S.faults S.refused writer.new out.new }
 {
@@ -128,10 +128,10 @@ fn put_place<S: Sink>(
     put_set(aim, format, writer, out);
 }
 
-/// Appends what a row does, each word after a space.
+/// Appends what a row does, each field after a space.
 fn put_how<S: Sink>(how: &How, writer: &mut Writer<S>, out: &mut S)
     requires follows { Follows S.taken S.faults S.refused writer.old out.old }
-    ensures text { writer.new.text ≡ writer.old.text ++ flat_map (λ word. 32 ∷ word) (how_words (how_of how.now)) }
+    ensures text { writer.new.text ≡ writer.old.text ++ flat_map (λ field. 32 ∷ field) (how_fields (how_of how.now)) }
     ensures begun { writer.new.begun ≡ writer.old.begun }
     ensures follows { Follows S.taken S.faults S.refused writer.new out.new }
 {
@@ -147,7 +147,7 @@ fn put_how<S: Sink>(how: &How, writer: &mut Writer<S>, out: &mut S)
 /// Appends ` both SKIP TRIED`.
 fn put_both<S: Sink>(skip: u32, tried: u32, writer: &mut Writer<S>, out: &mut S)
     requires follows { Follows S.taken S.faults S.refused writer.old out.old }
-    ensures text { writer.new.text ≡ writer.old.text ++ flat_map (λ word. 32 ∷ word) (codes "both" ∷ decimal skip ∷ decimal tried ∷ []) }
+    ensures text { writer.new.text ≡ writer.old.text ++ flat_map (λ field. 32 ∷ field) (codes "both" ∷ decimal skip ∷ decimal tried ∷ []) }
     ensures begun { writer.new.begun ≡ writer.old.begun }
     ensures follows { Follows S.taken S.faults S.refused writer.new out.new }
 {
@@ -160,7 +160,7 @@ fn put_both<S: Sink>(skip: u32, tried: u32, writer: &mut Writer<S>, out: &mut S)
 /// Appends ` MOVE ROW`.
 fn put_go<S: Sink>(by: Move, row: u32, writer: &mut Writer<S>, out: &mut S)
     requires follows { Follows S.taken S.faults S.refused writer.old out.old }
-    ensures text { writer.new.text ≡ writer.old.text ++ flat_map (λ word. 32 ∷ word) (move_name by ∷ decimal row ∷ []) }
+    ensures text { writer.new.text ≡ writer.old.text ++ flat_map (λ field. 32 ∷ field) (move_name by ∷ decimal row ∷ []) }
     ensures begun { writer.new.begun ≡ writer.old.begun }
     ensures follows { Follows S.taken S.faults S.refused writer.new out.new }
 {
@@ -173,7 +173,7 @@ fn put_go<S: Sink>(by: Move, row: u32, writer: &mut Writer<S>, out: &mut S)
 /// Appends ` into CALLEE` and the backs.
 fn put_into<S: Sink>(callee: u32, backs: &[(StateId, u32)], writer: &mut Writer<S>, out: &mut S)
     requires follows { Follows S.taken S.faults S.refused writer.old out.old }
-    ensures text { writer.new.text ≡ writer.old.text ++ flat_map (λ word. 32 ∷ word) (codes "into" ∷ decimal callee ∷ map back_word (backs_of backs.now)) }
+    ensures text { writer.new.text ≡ writer.old.text ++ flat_map (λ field. 32 ∷ field) (codes "into" ∷ decimal callee ∷ map back_field (backs_of backs.now)) }
     ensures begun { writer.new.begun ≡ writer.old.begun }
     ensures follows { Follows S.taken S.faults S.refused writer.new out.new }
 {
@@ -185,7 +185,7 @@ fn put_into<S: Sink>(callee: u32, backs: &[(StateId, u32)], writer: &mut Writer<
 /// Appends ` EXIT=ROW` for each exit state.
 fn put_backs<S: Sink>(backs: &[(StateId, u32)], writer: &mut Writer<S>, out: &mut S)
     requires follows { Follows S.taken S.faults S.refused writer.old out.old }
-    ensures text { writer.new.text ≡ writer.old.text ++ flat_map (λ word. 32 ∷ word) (map back_word (backs_of backs.now)) }
+    ensures text { writer.new.text ≡ writer.old.text ++ flat_map (λ field. 32 ∷ field) (map back_field (backs_of backs.now)) }
     ensures begun { writer.new.begun ≡ writer.old.begun }
     ensures follows { Follows S.taken S.faults S.refused writer.new out.new }
 {
@@ -197,7 +197,7 @@ fn put_backs<S: Sink>(backs: &[(StateId, u32)], writer: &mut Writer<S>, out: &mu
 /// Appends ` EXIT=ROW`.
 fn put_back<S: Sink>(back: (StateId, u32), writer: &mut Writer<S>, out: &mut S)
     requires follows { Follows S.taken S.faults S.refused writer.old out.old }
-    ensures text { writer.new.text ≡ writer.old.text ++ (32 ∷ back_word (back.0.0, back.1)) }
+    ensures text { writer.new.text ≡ writer.old.text ++ (32 ∷ back_field (back.0.0, back.1)) }
     ensures begun { writer.new.begun ≡ writer.old.begun }
     ensures follows { Follows S.taken S.faults S.refused writer.new out.new }
 {

@@ -2,23 +2,23 @@
 use Rattle.std.proofs.Common.{◌≡◌, ◌≢◌, ℕ, List, [], ◌∷◌, ◌++◌, Bool, true, false, Option, Some, None, refl, sym, ap, ap₂, ◌∙◌, subst, option_map}
 use Rattle.std.proofs.lemmas.Option.{none-some, same_Some}
 use Rattle.cw_syntax.specs.Plans.{Callee, Stm, Plain, Break, Continue, Return, Open, Close, Call, Group, Label, If, While, Do, For, Stms, Plan}
-use Rattle.cw_syntax.specs.Frames.{Item, Entry, Todo, Test, After, Mark, End, Frame, items_of, init_if, after_if, settle, broken, continued, ended, Way, On, Left, Right, Opened, Failed, after, popped, pushed, frame_of, pass, front}
-use Rattle.cw_syntax.specs.Steps.{NoMark, NoTurn, IsTurn, Ends, no_items, an_end, an_entry, a_statement, a_test, a_step, a_loops_end, Passes, entry, plain, left, right, goes_in, goes_out, goes_on, step, break_out, continue_at, return_at, label, opened, failed, close, Steps, within, call, returns, over, StepsAreTheTable}
+use Rattle.cw_syntax.specs.Frames.{Item, Entry, Todo, Test, After, LoopEnd, End, Frame, items_of, init_if, after_if, settle, broken, continued, ended, Way, On, Left, Right, Opened, Failed, after, popped, pushed, frame_of, pass, front}
+use Rattle.cw_syntax.specs.Steps.{NoLoopEnd, NoTurn, IsTurn, Ends, no_items, an_end, an_entry, a_statement, a_test, a_step, a_loops_end, Passes, entry, plain, left, right, goes_in, goes_out, goes_on, step, break_out, continue_at, return_at, label, expanded, failed, close, Steps, within, call, returns, over, StepsAreTheTable}
 use Rattle.cw_syntax.proofs.Settling.{settles, settles_to}
 
 -- what a break, a continue and a return drop
-broken_at : (rest behind : Frame) → broken rest ≡ Some behind → (before : Frame) × (before ++ Mark ∷ behind ≡ rest) × NoMark before
+broken_at : (rest behind : Frame) → broken rest ≡ Some behind → (before : Frame) × (before ++ LoopEnd ∷ behind ≡ rest) × NoLoopEnd before
 broken_at [] behind e = absurd (none-some behind e)
-broken_at (Mark ∷ is) behind e = ([], ap (λ l. Mark ∷ l) (sym (same_Some is behind e)), tt)
+broken_at (LoopEnd ∷ is) behind e = ([], ap (λ l. LoopEnd ∷ l) (sym (same_Some is behind e)), tt)
 broken_at (Entry f j ∷ is) behind e = let h = broken_at is behind e in (Entry f j ∷ h.0, ap (λ l. Entry f j ∷ l) h.1, h.2)
 broken_at (Todo s ∷ is) behind e = let h = broken_at is behind e in (Todo s ∷ h.0, ap (λ l. Todo s ∷ l) h.1, h.2)
 broken_at (Test at d u s ∷ is) behind e = let h = broken_at is behind e in (Test at d u s ∷ h.0, ap (λ l. Test at d u s ∷ l) h.1, h.2)
 broken_at (After at ∷ is) behind e = let h = broken_at is behind e in (After at ∷ h.0, ap (λ l. After at ∷ l) h.1, h.2)
 broken_at (End f ∷ is) behind e = let h = broken_at is behind e in (End f ∷ h.0, ap (λ l. End f ∷ l) h.1, h.2)
 
-broken_to : (before behind : Frame) → NoMark before → broken (before ++ Mark ∷ behind) ≡ Some behind
+broken_to : (before behind : Frame) → NoLoopEnd before → broken (before ++ LoopEnd ∷ behind) ≡ Some behind
 broken_to [] behind h = refl
-broken_to (Mark ∷ is) behind h = absurd h
+broken_to (LoopEnd ∷ is) behind h = absurd h
 broken_to (Entry f j ∷ is) behind h = broken_to is behind h
 broken_to (Todo s ∷ is) behind h = broken_to is behind h
 broken_to (Test at d u s ∷ is) behind h = broken_to is behind h
@@ -31,7 +31,7 @@ continued_at (Test at d u s ∷ is) behind e = ([], sym (same_Some (Test at d u 
 continued_at (After at ∷ is) behind e = ([], sym (same_Some (After at ∷ is) behind e), tt, subst IsTurn (same_Some (After at ∷ is) behind e) tt)
 continued_at (Entry f j ∷ is) behind e = let h = continued_at is behind e in (Entry f j ∷ h.0, ap (λ l. Entry f j ∷ l) h.1, h.2, h.3)
 continued_at (Todo s ∷ is) behind e = let h = continued_at is behind e in (Todo s ∷ h.0, ap (λ l. Todo s ∷ l) h.1, h.2, h.3)
-continued_at (Mark ∷ is) behind e = let h = continued_at is behind e in (Mark ∷ h.0, ap (λ l. Mark ∷ l) h.1, h.2, h.3)
+continued_at (LoopEnd ∷ is) behind e = let h = continued_at is behind e in (LoopEnd ∷ h.0, ap (λ l. LoopEnd ∷ l) h.1, h.2, h.3)
 continued_at (End f ∷ is) behind e = let h = continued_at is behind e in (End f ∷ h.0, ap (λ l. End f ∷ l) h.1, h.2, h.3)
 
 turn_stays : (behind : Frame) → IsTurn behind → continued behind ≡ Some behind
@@ -40,7 +40,7 @@ turn_stays (Test at d u s ∷ is) h = refl
 turn_stays (After at ∷ is) h = refl
 turn_stays (Entry f j ∷ is) h = absurd h
 turn_stays (Todo s ∷ is) h = absurd h
-turn_stays (Mark ∷ is) h = absurd h
+turn_stays (LoopEnd ∷ is) h = absurd h
 turn_stays (End f ∷ is) h = absurd h
 
 continued_to : (before behind : Frame) → NoTurn before → IsTurn behind → continued (before ++ behind) ≡ Some behind
@@ -49,7 +49,7 @@ continued_to (Test at d u s ∷ is) behind h t = absurd h
 continued_to (After at ∷ is) behind h t = absurd h
 continued_to (Entry f j ∷ is) behind h t = continued_to is behind h t
 continued_to (Todo s ∷ is) behind h t = continued_to is behind h t
-continued_to (Mark ∷ is) behind h t = continued_to is behind h t
+continued_to (LoopEnd ∷ is) behind h t = continued_to is behind h t
 continued_to (End f ∷ is) behind h t = continued_to is behind h t
 
 ends_of : (rest : Frame) → Ends rest (ended rest)
@@ -59,7 +59,7 @@ ends_of (Entry f j ∷ is) = an_entry f j is (ended is) (ends_of is)
 ends_of (Todo s ∷ is) = a_statement s is (ended is) (ends_of is)
 ends_of (Test at d u s ∷ is) = a_test at d u s is (ended is) (ends_of is)
 ends_of (After at ∷ is) = a_step at is (ended is) (ends_of is)
-ends_of (Mark ∷ is) = a_loops_end is (ended is) (ends_of is)
+ends_of (LoopEnd ∷ is) = a_loops_end is (ended is) (ends_of is)
 
 ended_is : (rest ends : Frame) → Ends rest ends → ended rest ≡ ends
 ended_is _ _ no_items = refl
@@ -85,7 +85,7 @@ passes (Todo (Plain at)) On rest raw e = to (Todo (Plain at)) On rest rest raw (
 passes (Todo (Break at)) On rest raw e = break_passes at rest raw e
 passes (Todo (Continue at)) On rest raw e = continue_passes at rest raw e
 passes (Todo (Return at)) On rest raw e = to (Todo (Return at)) On rest (ended rest) raw (return_at at rest (ended rest) (ends_of rest)) e
-passes (Todo (Open at j d)) Opened rest raw e = to (Todo (Open at j d)) Opened rest rest raw (opened at j d rest) e
+passes (Todo (Open at j d)) Opened rest raw e = to (Todo (Open at j d)) Opened rest rest raw (expanded at j d rest) e
 passes (Todo (Open at j d)) Failed rest raw e = to (Todo (Open at j d)) Failed rest rest raw (failed at j d rest) e
 passes (Todo (Close at j d)) On rest raw e = to (Todo (Close at j d)) On rest rest raw (close at j d rest) e
 passes (Todo (Label at mark j l s)) On rest raw e = to (Todo (Label at mark j l s)) On rest (Todo s ∷ rest) raw (label at mark j l s rest) e
@@ -110,7 +110,7 @@ passed _ _ _ _ (break_out at before behind h) = broken_to before behind h
 passed _ _ _ _ (continue_at at before behind h t) = continued_to before behind h t
 passed _ _ _ _ (return_at at rest ends h) = ap Some (ended_is rest ends h)
 passed _ _ _ _ (label at mark j l s rest) = refl
-passed _ _ _ _ (opened at j d rest) = refl
+passed _ _ _ _ (expanded at j d rest) = refl
 passed _ _ _ _ (failed at j d rest) = refl
 passed _ _ _ _ (close at j d rest) = refl
 
@@ -131,7 +131,7 @@ same_pass plan _ _ _ _ frames (break_out at before behind h) = refl
 same_pass plan _ _ _ _ frames (continue_at at before behind h t) = refl
 same_pass plan _ _ _ _ frames (return_at at rest ends h) = refl
 same_pass plan _ _ _ _ frames (label at mark j l s rest) = refl
-same_pass plan _ _ _ _ frames (opened at j d rest) = refl
+same_pass plan _ _ _ _ frames (expanded at j d rest) = refl
 same_pass plan _ _ _ _ frames (failed at j d rest) = refl
 same_pass plan _ _ _ _ frames (close at j d rest) = refl
 

@@ -11,7 +11,7 @@ pub data Item : Type 0 where
   -- the step of a `for`
   After : (at : ℕ) → Item
   -- the end of a loop
-  Mark : Item
+  LoopEnd : Item
   End : (function : ℕ) → Item
 
 abbrev pub Frame : Type 0
@@ -36,36 +36,36 @@ abbrev pub after_if : Bool → ℕ → Frame → Frame
 after_if true at rest = After at ∷ rest
 after_if false at rest = rest
 
--- Rewritings at the front, which are no steps: a block is its statements, a `while` its test and its mark, a `do` its body, test and mark,
--- a `for` its init, test and mark. `next` is `rest` rewritten.
+-- Rewritings at the front, which are no steps: a block is its statements, a `while` its test and a loop end, a `do` its body, test and loop end,
+-- a `for` its init, test and loop end. `next` is `rest` rewritten.
 abbrev mutual
-  pub opened : Stm → Frame → Frame → Frame
-  opened (Plain at) rest next = Todo (Plain at) ∷ rest
-  opened (Break at) rest next = Todo (Break at) ∷ rest
-  opened (Continue at) rest next = Todo (Continue at) ∷ rest
-  opened (Return at) rest next = Todo (Return at) ∷ rest
-  opened (Open at j d) rest next = Todo (Open at j d) ∷ rest
-  opened (Close at j d) rest next = Todo (Close at j d) ∷ rest
-  opened (Call at j callee) rest next = Todo (Call at j callee) ∷ rest
-  opened (Group ss) rest next = opened_all ss rest next
-  opened (Label at mark j l s) rest next = Todo (Label at mark j l s) ∷ rest
-  opened (If at s t) rest next = Todo (If at s t) ∷ rest
-  opened (While at s) rest next = Test at true false s ∷ (Mark ∷ rest)
-  opened (Do at s) rest next = opened s (Test at true false s ∷ (Mark ∷ rest)) (Test at true false s ∷ (Mark ∷ rest))
-  opened (For at init decided stepped s) rest next = init_if init (Test at decided stepped s ∷ (Mark ∷ rest))
+  pub expanded : Stm → Frame → Frame → Frame
+  expanded (Plain at) rest next = Todo (Plain at) ∷ rest
+  expanded (Break at) rest next = Todo (Break at) ∷ rest
+  expanded (Continue at) rest next = Todo (Continue at) ∷ rest
+  expanded (Return at) rest next = Todo (Return at) ∷ rest
+  expanded (Open at j d) rest next = Todo (Open at j d) ∷ rest
+  expanded (Close at j d) rest next = Todo (Close at j d) ∷ rest
+  expanded (Call at j callee) rest next = Todo (Call at j callee) ∷ rest
+  expanded (Group ss) rest next = expanded_all ss rest next
+  expanded (Label at mark j l s) rest next = Todo (Label at mark j l s) ∷ rest
+  expanded (If at s t) rest next = Todo (If at s t) ∷ rest
+  expanded (While at s) rest next = Test at true false s ∷ (LoopEnd ∷ rest)
+  expanded (Do at s) rest next = expanded s (Test at true false s ∷ (LoopEnd ∷ rest)) (Test at true false s ∷ (LoopEnd ∷ rest))
+  expanded (For at init decided stepped s) rest next = init_if init (Test at decided stepped s ∷ (LoopEnd ∷ rest))
 
-  pub opened_all : Stms → Frame → Frame → Frame
-  opened_all end rest next = next
-  opened_all (then s ss) rest next = opened s (items_of ss rest) (opened_all ss rest next)
+  pub expanded_all : Stms → Frame → Frame → Frame
+  expanded_all end rest next = next
+  expanded_all (then s ss) rest next = expanded s (items_of ss rest) (expanded_all ss rest next)
 
--- and a mark is dropped
+-- and a loop end is dropped
 abbrev pub settle : Frame → Frame
 settle [] = []
 settle (Entry f j ∷ rest) = Entry f j ∷ rest
-settle (Todo s ∷ rest) = opened s rest (settle rest)
+settle (Todo s ∷ rest) = expanded s rest (settle rest)
 settle (Test at decided stepped s ∷ rest) = Test at decided stepped s ∷ rest
 settle (After at ∷ rest) = After at ∷ rest
-settle (Mark ∷ rest) = settle rest
+settle (LoopEnd ∷ rest) = settle rest
 settle (End f ∷ rest) = End f ∷ rest
 
 -- nothing is left to rewrite at the front
@@ -74,13 +74,13 @@ settled (Todo (Group ss) ∷ is) = false
 settled (Todo (While at s) ∷ is) = false
 settled (Todo (Do at s) ∷ is) = false
 settled (Todo (For at init decided stepped s) ∷ is) = false
-settled (Mark ∷ is) = false
+settled (LoopEnd ∷ is) = false
 settled _ = true
 
--- `break`: all up to and with the first mark is dropped
+-- `break`: all up to and with the first loop end is dropped
 abbrev pub broken : Frame → Option Frame
 broken [] = None
-broken (Mark ∷ rest) = Some rest
+broken (LoopEnd ∷ rest) = Some rest
 broken (i ∷ rest) = broken rest
 
 -- `continue`: all before the first step of a `for`, or test, is dropped

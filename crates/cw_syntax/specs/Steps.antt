@@ -2,26 +2,26 @@
 -- are the steps of `Frames`. Public source: ISO/IEC 9899:2011, sections 6.8.4 to 6.8.6.
 use Rattle.std.specs.Prelude.{◌≡◌, ◌⊎◌, ℕ, List, [], ◌∷◌, ◌++◌, Bool, true, false, Option, Some, None}
 use Rattle.cw_syntax.specs.Plans.{Callee, Stm, Plain, Break, Continue, Return, Open, Close, Call, Group, Label, If, While, Do, For, Stms, Plan}
-use Rattle.cw_syntax.specs.Frames.{Item, Entry, Todo, Test, After, Mark, End, Frame, items_of, init_if, after_if, frame_of, start_stack, Way, On, Left, Right, Opened, Failed, pass, front}
+use Rattle.cw_syntax.specs.Frames.{Item, Entry, Todo, Test, After, LoopEnd, End, Frame, items_of, init_if, after_if, frame_of, start_stack, Way, On, Left, Right, Opened, Failed, pass, front}
 
 -- One rewriting at the front of a frame.
 pub data Rewrites : Frame → Frame → Type 0 where
   a_block : (ss : Stms) (rest : Frame) → Rewrites (Todo (Group ss) ∷ rest) (items_of ss rest)
-  a_while : (at : ℕ) (s : Stm) (rest : Frame) → Rewrites (Todo (While at s) ∷ rest) (Test at true false s ∷ (Mark ∷ rest))
-  a_do : (at : ℕ) (s : Stm) (rest : Frame) → Rewrites (Todo (Do at s) ∷ rest) (Todo s ∷ (Test at true false s ∷ (Mark ∷ rest)))
-  a_for : (at : ℕ) (init : Option ℕ) (decided stepped : Bool) (s : Stm) (rest : Frame) → Rewrites (Todo (For at init decided stepped s) ∷ rest) (init_if init (Test at decided stepped s ∷ (Mark ∷ rest)))
-  a_mark : (rest : Frame) → Rewrites (Mark ∷ rest) rest
+  a_while : (at : ℕ) (s : Stm) (rest : Frame) → Rewrites (Todo (While at s) ∷ rest) (Test at true false s ∷ (LoopEnd ∷ rest))
+  a_do : (at : ℕ) (s : Stm) (rest : Frame) → Rewrites (Todo (Do at s) ∷ rest) (Todo s ∷ (Test at true false s ∷ (LoopEnd ∷ rest)))
+  a_for : (at : ℕ) (init : Option ℕ) (decided stepped : Bool) (s : Stm) (rest : Frame) → Rewrites (Todo (For at init decided stepped s) ∷ rest) (init_if init (Test at decided stepped s ∷ (LoopEnd ∷ rest)))
+  a_loop_end : (rest : Frame) → Rewrites (LoopEnd ∷ rest) rest
 
 -- Rewritings, one after the other, for as long as there is one to make.
 pub data Settles : Frame → Frame → Type 0 where
   at_rest : (frame : Frame) → ((next : Frame) → Rewrites frame next → ⊥) → Settles frame frame
   rewritten : (frame next last : Frame) → Rewrites frame next → Settles next last → Settles frame last
 
--- the items hold no mark
-abbrev pub NoMark : Frame → Type 0
-NoMark [] = Unit {0}
-NoMark (Mark ∷ rest) = ⊥
-NoMark (i ∷ rest) = NoMark rest
+-- the items hold no loop end
+abbrev pub NoLoopEnd : Frame → Type 0
+NoLoopEnd [] = Unit {0}
+NoLoopEnd (LoopEnd ∷ rest) = ⊥
+NoLoopEnd (i ∷ rest) = NoLoopEnd rest
 
 -- the items hold no test and no step of a `for`
 abbrev pub NoTurn : Frame → Type 0
@@ -44,7 +44,7 @@ pub data Ends : Frame → Frame → Type 0 where
   a_statement : (s : Stm) (rest ends : Frame) → Ends rest ends → Ends (Todo s ∷ rest) ends
   a_test : (at : ℕ) (decided stepped : Bool) (s : Stm) (rest ends : Frame) → Ends rest ends → Ends (Test at decided stepped s ∷ rest) ends
   a_step : (at : ℕ) (rest ends : Frame) → Ends rest ends → Ends (After at ∷ rest) ends
-  a_loops_end : (rest ends : Frame) → Ends rest ends → Ends (Mark ∷ rest) ends
+  a_loops_end : (rest ends : Frame) → Ends rest ends → Ends (LoopEnd ∷ rest) ends
 
 -- How a front item is passed within its frame: the item, the way, what stands behind it, and what is to do then, not yet rewritten.
 pub data Passes : Item → Way → Frame → Frame → Type 0 where
@@ -56,11 +56,11 @@ pub data Passes : Item → Way → Frame → Frame → Type 0 where
   goes_out : (at : ℕ) (stepped : Bool) (s : Stm) (rest : Frame) → Passes (Test at true stepped s) Right rest rest
   goes_on : (at : ℕ) (stepped : Bool) (s : Stm) (rest : Frame) → Passes (Test at false stepped s) On rest (Todo s ∷ after_if stepped at (Test at false stepped s ∷ rest))
   step : (at : ℕ) (rest : Frame) → Passes (After at) On rest rest
-  break_out : (at : ℕ) (before behind : Frame) → NoMark before → Passes (Todo (Break at)) On (before ++ Mark ∷ behind) behind
+  break_out : (at : ℕ) (before behind : Frame) → NoLoopEnd before → Passes (Todo (Break at)) On (before ++ LoopEnd ∷ behind) behind
   continue_at : (at : ℕ) (before behind : Frame) → NoTurn before → IsTurn behind → Passes (Todo (Continue at)) On (before ++ behind) behind
   return_at : (at : ℕ) (rest ends : Frame) → Ends rest ends → Passes (Todo (Return at)) On rest ends
   label : (at mark j l : ℕ) (s : Stm) (rest : Frame) → Passes (Todo (Label at mark j l s)) On rest (Todo s ∷ rest)
-  opened : (at j d : ℕ) (rest : Frame) → Passes (Todo (Open at j d)) Opened rest rest
+  expanded : (at j d : ℕ) (rest : Frame) → Passes (Todo (Open at j d)) Opened rest rest
   failed : (at j d : ℕ) (rest : Frame) → Passes (Todo (Open at j d)) Failed rest rest
   close : (at j d : ℕ) (rest : Frame) → Passes (Todo (Close at j d)) On rest rest
 

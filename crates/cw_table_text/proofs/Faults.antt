@@ -17,8 +17,8 @@ use Rattle.cw_text.specs.LimitsText.{limits_line}
 use Rattle.cw_text_lines.proofs.Starts.{line_end}
 use Rattle.cw_table_text.specs.declared.row.Row.{Row}
 use Rattle.cw_table_text.specs.declared.row.Row.TheVariants.{Memory, Live, Try, At, Opened, Closed, Into, Back}
-use Rattle.cw_table_text.specs.Rows.{rows_of, row_words}
-use Rattle.cw_table_text.specs.TablesText.{header, limits_words, table_words, head_lines, tables_lines, tables_text, text_of, done}
+use Rattle.cw_table_text.specs.Rows.{rows_of, row_text}
+use Rattle.cw_table_text.specs.TablesText.{header, limits_text, table_text, head_lines, tables_lines, tables_text, text_of, done}
 use Rattle.cw_table_text.specs.Grammar.{IsMem, Fits, IsOrdered, IsTable, Spells, BeginsAny, Begins, HasRows, IsHead, IsRow, IsDone, IsDue, GoesOn, IsWhole, IsWrong, IsFault, Answers}
 use Rattle.cw_table_text.specs.Working.{FitsHead, IsEmpty, IsGood, IsRowLine, IsWrongRow, AreRead, AreWrong, RowsRead, is_next, with_row, row_lines}
 use Rattle.cw_table_text.proofs.Adding.{rows_next, ascends_next, next_true}
@@ -108,7 +108,7 @@ head_fault policy text before rest n cut number short begins none = record {
     not_whole : IsWhole policy before → rest ≢ []
     not_whole w e =
         let l : length before ≡ length (tables_lines policy w.0) = ap length w.2 in
-        let m = length-append (head_lines policy w.0.states w.0.start) (map (row_words policy.format) (rows_of w.0) ++ done ∷ []) in
+        let m = length-append (head_lines policy w.0.states w.0.start) (map (row_text policy.format) (rows_of w.0) ++ done ∷ []) in
         omega (arith, l, m, short)
 
 pub fault_1 : (policy : PlainPolicy) (text : List ℕ) → ((rest : List ℕ) → text ≢ codes "#include \"capweave.h\"\n" ++ rest) → IsFault policy text (Line 1)
@@ -129,20 +129,20 @@ pub fault_2 : (policy : PlainPolicy) (text rest : List ℕ) → text ≡ codes "
 unfolding zero_mem
 fault_2 policy text rest is none =
     head_fault policy text (header ∷ []) rest 2 is (omega arith) (omega arith) (begins_empty policy 0 zero_mem (header ∷ []) _ (omega arith) (omega arith) refl)
-    (λ l g h. let same : limits_words policy ≡ l = ap second_of h.5 in none g.0 (g.2 ∙ ap (λ x. line x ++ g.0) (sym same) ∙ ap (λ x. x ++ g.0) (sym (limits_is policy))))
+    (λ l g h. let same : limits_text policy ≡ l = ap second_of h.5 in none g.0 (g.2 ∙ ap (λ x. line x ++ g.0) (sym same) ∙ ap (λ x. x ++ g.0) (sym (limits_is policy))))
 
 two_lines : (policy : PlainPolicy) (text first rest : List ℕ) → text ≡ codes "#include \"capweave.h\"\n" ++ first → first ≡ limits_line policy ++ rest
-    → text ≡ text_of (header ∷ limits_words policy ∷ []) ++ rest
+    → text ≡ text_of (header ∷ limits_text policy ∷ []) ++ rest
 two_lines policy text first rest is then_is =
-    is ∙ ap (λ t. line header ++ t) (then_is ∙ ap (λ x. x ++ rest) (limits_is policy ∙ sym (append-nil (line (limits_words policy)))))
-    ∙ sym (append_assoc (line header) (line (limits_words policy) ++ []) rest)
+    is ∙ ap (λ t. line header ++ t) (then_is ∙ ap (λ x. x ++ rest) (limits_is policy ∙ sym (append-nil (line (limits_text policy)))))
+    ∙ sym (append_assoc (line header) (line (limits_text policy) ++ []) rest)
 
 fault_3 : (policy : PlainPolicy) (text first rest : List ℕ) → text ≡ codes "#include \"capweave.h\"\n" ++ first → first ≡ limits_line policy ++ rest
-    → ((l : List ℕ) (states : ℕ) (start : MemId) → GoesOn rest l → FitsHead (states, start) → table_words policy.format states start ≢ l) → IsFault policy text (Line 3)
+    → ((l : List ℕ) (states : ℕ) (start : MemId) → GoesOn rest l → FitsHead (states, start) → table_text policy.format states start ≢ l) → IsFault policy text (Line 3)
 unfolding zero_mem
 fault_3 policy text first rest is then_is none =
-    head_fault policy text (header ∷ limits_words policy ∷ []) rest 3 (two_lines policy text first rest is then_is) (omega arith) (omega arith)
-    (begins_empty policy 0 zero_mem (header ∷ limits_words policy ∷ []) _ (omega arith) (omega arith) refl)
+    head_fault policy text (header ∷ limits_text policy ∷ []) rest 3 (two_lines policy text first rest is then_is) (omega arith) (omega arith)
+    (begins_empty policy 0 zero_mem (header ∷ limits_text policy ∷ []) _ (omega arith) (omega arith) refl)
     (λ l g h. none l h.0 h.1 g (h.3, h.4) (ap third_of h.5))
 
 pub fault_3_missing : (policy : PlainPolicy) (text first rest : List ℕ) → text ≡ codes "#include \"capweave.h\"\n" ++ first → first ≡ limits_line policy ++ rest → IsFree 10 rest
@@ -151,25 +151,25 @@ fault_3_missing policy text first rest is then_is free = fault_3 policy text fir
 
 pub fault_3_misspelled : (policy : PlainPolicy) (text first rest a after : List ℕ) → text ≡ codes "#include \"capweave.h\"\n" ++ first → first ≡ limits_line policy ++ rest
     → rest ≡ a ++ (10 ∷ after) → IsFree 10 a
-    → ((head : ℕ × MemId) → FitsHead head → table_words policy.format head.0 head.1 ≢ a) → IsFault policy text (Line 3)
+    → ((head : ℕ × MemId) → FitsHead head → table_text policy.format head.0 head.1 ≢ a) → IsFault policy text (Line 3)
 fault_3_misspelled policy text first rest a after is then_is cut free none =
     fault_3 policy text first rest is then_is (λ l states start g fits e. none (states, start) fits (e ∙ the_line rest a after l free cut g))
 
 pub head_is : (policy : PlainPolicy) (text first rest a after : List ℕ) (states : ℕ) (start : MemId) → text ≡ codes "#include \"capweave.h\"\n" ++ first
     → first ≡ limits_line policy ++ rest → rest ≡ a ++ (10 ∷ after)
-    → table_words policy.format states start ≡ a → text ≡ text_of (head_lines policy states start) ++ after
-head_is policy text first rest a after states start is then_is cut words =
-    is ∙ ap (λ t. line header ++ t) (then_is ∙ ap (λ x. x ++ rest) (limits_is policy) ∙ ap (λ t. line (limits_words policy) ++ t) (cut ∙ sym (line_end a after) ∙ ap (λ x. line x ++ after) (sym words)))
-    ∙ rw (append-nil (line (table_words policy.format states start)))
-    (ap (λ t. line header ++ t) (sym (append_assoc (line (limits_words policy)) (line (table_words policy.format states start)) after))
-    ∙ sym (append_assoc (line header) (line (limits_words policy) ++ line (table_words policy.format states start)) after))
+    → table_text policy.format states start ≡ a → text ≡ text_of (head_lines policy states start) ++ after
+head_is policy text first rest a after states start is then_is cut fields =
+    is ∙ ap (λ t. line header ++ t) (then_is ∙ ap (λ x. x ++ rest) (limits_is policy) ∙ ap (λ t. line (limits_text policy) ++ t) (cut ∙ sym (line_end a after) ∙ ap (λ x. line x ++ after) (sym fields)))
+    ∙ rw (append-nil (line (table_text policy.format states start)))
+    (ap (λ t. line header ++ t) (sym (append_assoc (line (limits_text policy)) (line (table_text policy.format states start)) after))
+    ∙ sym (append_assoc (line header) (line (limits_text policy) ++ line (table_text policy.format states start)) after))
 
 -- ---- the rows so far
 
-pub rows_text : (format : ℕ) (rs : List Row) (r : Row) → text_of (row_lines format (rs ++ r ∷ [])) ≡ text_of (row_lines format rs) ++ line (row_words format r)
+pub rows_text : (format : ℕ) (rs : List Row) (r : Row) → text_of (row_lines format (rs ++ r ∷ [])) ≡ text_of (row_lines format rs) ++ line (row_text format r)
 rows_text format rs r =
-    ap text_of (map-append (row_words format) rs (r ∷ [])) ∙ flat_map-append line (row_lines format rs) (row_words format r ∷ [])
-    ∙ ap (λ t. text_of (row_lines format rs) ++ t) (append-nil (line (row_words format r)))
+    ap text_of (map-append (row_text format) rs (r ∷ [])) ∙ flat_map-append line (row_lines format rs) (row_text format r ∷ [])
+    ∙ ap (λ t. text_of (row_lines format rs) ++ t) (append-nil (line (row_text format r)))
 
 pub start_good : (format : ℕ) (t : Table) → IsEmpty t → IsGood format t
 start_good format t e = record { fits = rw e.rows tt; ascend = e.ascend; few = rw e.rows (omega arith) }
@@ -180,7 +180,7 @@ start_text format t text e = rw e.rows refl
 pub next_text : (format : ℕ) (text rest after : List ℕ) (t : Table) (row : Row) → text ≡ text_of (row_lines format (rows_of t)) ++ rest → IsRowLine format t rest row after
     → text ≡ text_of (row_lines format (rows_of (with_row t row))) ++ after
 next_text format text rest after t row is r =
-    is ∙ ap (λ x. text_of (row_lines format (rows_of t)) ++ x) r.is ∙ sym (append_assoc (text_of (row_lines format (rows_of t))) (line (row_words format row)) after)
+    is ∙ ap (λ x. text_of (row_lines format (rows_of t)) ++ x) r.is ∙ sym (append_assoc (text_of (row_lines format (rows_of t))) (line (row_text format row)) after)
     ∙ ap (λ x. x ++ after) (sym (rows_text format (rows_of t) row)) ∙ ap (λ rows. text_of (row_lines format rows) ++ after) (sym (rows_next t row r.next))
 
 longer : (t : Table) (row : Row) → is_next t row ≡ true → length (rows_of (with_row t row)) ≡ length (rows_of t) + 1
@@ -218,7 +218,7 @@ same_start t (Back r) = refl
 
 -- a row that can't be taken
 pub no_row : (format n : ℕ) (t : Table) (rest a after : List ℕ) → n ≡ length (rows_of t) + 4 → rest ≡ a ++ (10 ∷ after) → IsFree 10 a → a ≢ done
-    → Reads (Fits format) (row_words format) a None → IsWrongRow format t rest (Line n)
+    → Reads (Fits format) (row_text format) a None → IsWrongRow format t rest (Line n)
 no_row format n t rest a after number cut free differs h =
     (number, λ l g. let same = the_line rest a after l free cut g in ((λ e. differs (sym same ∙ e)), λ row fits e. h.none row fits (e ∙ same)))
 
@@ -230,7 +230,7 @@ front policy t = head_lines policy t.states t.start ++ row_lines policy.format (
 front_length : (policy : PlainPolicy) (t : Table) → length (front policy t) ≡ length (rows_of t) + 3
 front_length policy t =
     let l = length-append (head_lines policy t.states t.start) (row_lines policy.format (rows_of t)) in
-    omega (arith, l, length-map (rows_of t) (row_words policy.format))
+    omega (arith, l, length-map (rows_of t) (row_text policy.format))
 
 pub front_text : (policy : PlainPolicy) (t : Table) (text rows rest : List ℕ) → text ≡ text_of (head_lines policy t.states t.start) ++ rows
     → rows ≡ text_of (row_lines policy.format (rows_of t)) ++ rest
@@ -252,15 +252,15 @@ begins_rows policy t g head = (t, done ∷ [], good_table policy t g head, all_l
 -- the rows of a table whose lines go on so
 pub rows_go_on : (policy : PlainPolicy) (t u : Table) (row : Row) (more : List (List ℕ)) → AllByRecursion (Fits policy.format) (rows_of t)
     → AllByRecursion (Fits policy.format) (rows_of u) → Fits policy.format row
-    → tables_lines policy u ≡ (front policy t ++ row_words policy.format row ∷ []) ++ more → (rest : List Row) × (rows_of u ≡ rows_of t ++ row ∷ rest)
+    → tables_lines policy u ≡ (front policy t ++ row_text policy.format row ∷ []) ++ more → (rest : List Row) × (rows_of u ≡ rows_of t ++ row ∷ rest)
 rows_go_on policy t u row more p q r e =
     rows_split policy.format (rows_of t) (rows_of u) row more p q r
-    (ap (drop 3) (e ∙ append_assoc (front policy t) (row_words policy.format row ∷ []) more
-    ∙ append_assoc (head_lines policy t.states t.start) (row_lines policy.format (rows_of t)) (row_words policy.format row ∷ more)))
+    (ap (drop 3) (e ∙ append_assoc (front policy t) (row_text policy.format row ∷ []) more
+    ∙ append_assoc (head_lines policy t.states t.start) (row_lines policy.format (rows_of t)) (row_text policy.format row ∷ more)))
 
 -- the lines of a table with the next row
 begins_next : (policy : PlainPolicy) (t : Table) (row : Row) → IsGood policy.format t → FitsHead (t.states, t.start) → Fits policy.format row → is_next t row ≡ true
-    → BeginsAny policy (front policy t ++ row_words policy.format row ∷ [])
+    → BeginsAny policy (front policy t ++ row_text policy.format row ∷ [])
 begins_next policy t row g head fits next = (with_row t row, done ∷ [], ordered, lines)
   where
     ordered : IsOrdered policy.format (with_row t row)
@@ -271,8 +271,8 @@ begins_next policy t row g head fits next = (with_row t row, done ∷ [], ordere
       ascend = ascends_next t row next g.ascend;
     }
 
-    lines : tables_lines policy (with_row t row) ≡ (front policy t ++ row_words policy.format row ∷ []) ++ done ∷ []
-    lines = rw (same_states t row, same_start t row, rows_next t row next, map-append (row_words policy.format) (rows_of t) (row ∷ []))
+    lines : tables_lines policy (with_row t row) ≡ (front policy t ++ row_text policy.format row ∷ []) ++ done ∷ []
+    lines = rw (same_states t row, same_start t row, rows_next t row next, map-append (row_text policy.format) (rows_of t) (row ∷ []))
         (simp append_assoc)
 
 wrong_row : (policy : PlainPolicy) (t : Table) (rest : List ℕ) (fault : TextFault) → IsGood policy.format t → FitsHead (t.states, t.start) → fault ≢ NoMemory

@@ -13,14 +13,14 @@ use Rattle.cw_text.specs.declared.fault.TextFault.TheVariants.{Line, Order, Limi
 use Rattle.cw_text.proofs.Free.{one_line, free_from_test, joined_free}
 use Rattle.cw_text_lines.proofs.Starts.{line_end}
 use Rattle.cw_table_text.specs.declared.row.Row.{Row}
-use Rattle.cw_table_text.specs.Rows.{rows_of, row_words, name_of, fields_of}
-use Rattle.cw_table_text.specs.TablesText.{header, limits_words, table_words, head_lines, tables_lines, tables_text, text_of, done}
+use Rattle.cw_table_text.specs.Rows.{rows_of, row_text, name_of, fields_of}
+use Rattle.cw_table_text.specs.TablesText.{header, limits_text, table_text, head_lines, tables_lines, tables_text, text_of, done}
 use Rattle.cw_table_text.specs.Grammar.{Fits, IsTable, Spells, BeginsAny, Begins, IsRow, IsDone, IsDue, GoesOn, IsWhole, IsWrong, IsFault, Answers}
 use Rattle.cw_table_text.specs.Working.{FitsHead, head_fields}
 use Rattle.cw_table_text.proofs.Adding.{mems_are, live_are, tries_are, ats_are, opened_are, closed_are, into_are, back_are, picked, mems_in, live_in, tries_in, ats_in, opened_in}
 use Rattle.cw_table_text.proofs.Adding.{closed_in, into_in, back_in}
 use Rattle.cw_table_text.proofs.Faults.{the_line, first_of, second_of, third_of}
-use Rattle.cw_table_text.proofs.HeadLines.{head_parts, head_line, head_name_free, head_fields_free, words_are, words_at}
+use Rattle.cw_table_text.proofs.HeadLines.{head_parts, head_line, head_name_free, head_fields_free, fields_stay, text_at}
 use Rattle.cw_table_text.proofs.RowLines.{line_feed, name_free, fields_free, row_line}
 use Rattle.cw_table_text.proofs.Same.{rows_same}
 
@@ -38,10 +38,10 @@ one_table_of_rows t u s m e = same_table s m (sym (mems_are t) ∙ ap (picked me
 abbrev mem_of : ℕ → MemId
 mem_of n = record { 0 = n }
 
-one_head : (format : ℕ) (p q : ℕ × MemId) → format < 2 ^ 8 → FitsHead p → FitsHead q → words_at format p ≡ words_at format q → (p.0 ≡ q.0) × (p.1 ≡ q.1)
+one_head : (format : ℕ) (p q : ℕ × MemId) → format < 2 ^ 8 → FitsHead p → FitsHead q → text_at format p ≡ text_at format q → (p.0 ≡ q.0) × (p.1 ≡ q.1)
 one_head format p q small fits also e =
-    let h = head_parts format q (words_at format p) (codes "CW_TABLE") (joined 44 (head_fields format p)) small also head_name_free (head_line format p) (sym e) in
-    let same : head_fields format p ≡ head_fields format q = sym (words_are format p small fits) ∙ h.1 in
+    let h = head_parts format q (text_at format p) (codes "CW_TABLE") (joined 44 (head_fields format p)) small also head_name_free (head_line format p) (sym e) in
+    let same : head_fields format p ≡ head_fields format q = sym (fields_stay format p small fits) ∙ h.1 in
     let start : p.1.0 ≡ q.1.0 = decimal_injective p.1.0 q.1.0 (omega (arith, fits.1)) (omega (arith, also.1)) (ap third_of same) in
     (decimal_injective p.0 q.0 (omega (arith, fits.0)) (omega (arith, also.0)) (ap second_of same), ap mem_of start)
 
@@ -61,18 +61,18 @@ call_free name fields free all =
     All-append P name (40 ∷ (joined 44 fields ++ 41 ∷ [])) free
     (All-cons P 40 (joined 44 fields ++ 41 ∷ []) refl (All-append P (joined 44 fields) (41 ∷ []) (joined_free 44 10 refl fields all) (All-cons P 41 [] refl (All-nil P))))
 
-row_free : (format : ℕ) (row : Row) → Fits format row → IsFree 10 (row_words format row)
+row_free : (format : ℕ) (row : Row) → Fits format row → IsFree 10 (row_text format row)
 row_free format row fits = subst (IsFree 10) (sym (row_line format row)) (call_free (name_of row) (fields_of format row) (name_free 10 (omega arith) row) (fields_free 10 line_feed format row fits))
 
-head_free : (format : ℕ) (p : ℕ × MemId) → format < 2 ^ 8 → FitsHead p → IsFree 10 (words_at format p)
+head_free : (format : ℕ) (p : ℕ × MemId) → format < 2 ^ 8 → FitsHead p → IsFree 10 (text_at format p)
 head_free format p small fits = subst (IsFree 10) (sym (head_line format p))
     (call_free (codes "CW_TABLE") (head_fields format p) (free_from_test (λ b. ltb 44 b) 10 (codes "CW_TABLE") refl refl) (head_fields_free 10 line_feed format p small fits))
 
-rows_free : (format : ℕ) (rows : List Row) → AllByRecursion (Fits format) rows → Free (map (row_words format) rows ++ done ∷ [])
+rows_free : (format : ℕ) (rows : List Row) → AllByRecursion (Fits format) rows → Free (map (row_text format) rows ++ done ∷ [])
 rows_free format [] all = (free_from_test (λ b. ltb 44 b) 10 done refl refl, tt)
 rows_free format (r ∷ rows) all = (row_free format r all.0, rows_free format rows all.1)
 
-all_free : (policy : PlainPolicy) (t : Table) → policy.format < 2 ^ 8 → IsFree 10 (limits_words policy) → IsTable policy.format t → Free (tables_lines policy t)
+all_free : (policy : PlainPolicy) (t : Table) → policy.format < 2 ^ 8 → IsFree 10 (limits_text policy) → IsTable policy.format t → Free (tables_lines policy t)
 all_free policy t small limits p = (
   free_from_test (λ b. ltb 31 b) 10 header refl refl,
   (limits, (head_free policy.format (t.states, t.start) small (p.ordered.states, p.ordered.start), rows_free policy.format (rows_of t) p.ordered.rows)),
@@ -82,7 +82,7 @@ front_free : (a b : List (List ℕ)) → Free (a ++ b) → Free a
 front_free [] b all = tt
 front_free (x ∷ a) b all = (all.0, front_free a b all.1)
 
-begins_free : (policy : PlainPolicy) (before : List (List ℕ)) → policy.format < 2 ^ 8 → IsFree 10 (limits_words policy) → Begins policy before → Free before
+begins_free : (policy : PlainPolicy) (before : List (List ℕ)) → policy.format < 2 ^ 8 → IsFree 10 (limits_text policy) → Begins policy before → Free before
 begins_free policy before small limits b = front_free before b.1 (subst Free b.3 (all_free policy b.0 small limits b.2))
 
 -- ---- a text cut into lines in two ways
@@ -122,23 +122,23 @@ lines_split (x ∷ a) (y ∷ b) r s p q e =
 record RowAmong (format : ℕ) (ds : List (List ℕ)) (l : List ℕ) : Type 0 where
   rows : List Row
   row : Row
-  before : ds ≡ map (row_words format) rows
-  is : l ≡ row_words format row
+  before : ds ≡ map (row_text format) rows
+  is : l ≡ row_text format row
   fits : Fits format row
 
-place : (format : ℕ) (rows : List Row) (ds more : List (List ℕ)) (l : List ℕ) → AllByRecursion (Fits format) rows → map (row_words format) rows ++ done ∷ [] ≡ ds ++ l ∷ more
-    → ((ds ≡ map (row_words format) rows) × (l ≡ done)) ⊎ RowAmong format ds l
+place : (format : ℕ) (rows : List Row) (ds more : List (List ℕ)) (l : List ℕ) → AllByRecursion (Fits format) rows → map (row_text format) rows ++ done ∷ [] ≡ ds ++ l ∷ more
+    → ((ds ≡ map (row_text format) rows) × (l ≡ done)) ⊎ RowAmong format ds l
 place format [] [] more l all e = inl (refl, sym (ap first_of e))
 place format [] (d ∷ ds) more l all e = absurd (omega (arith, ap length e, length-append ds (l ∷ more)))
 place format (x ∷ rows) [] more l all e = inr (record { rows = []; row = x; before = refl; is = sym (ap first_of e); fits = all.0 })
 place format (x ∷ rows) (d ∷ ds) more l all e = further (place format rows ds more l all.1 (ap (drop 1) e))
   where
-    further : ((ds ≡ map (row_words format) rows) × (l ≡ done)) ⊎ RowAmong format ds l → ((d ∷ ds ≡ map (row_words format) (x ∷ rows)) × (l ≡ done)) ⊎ RowAmong format (d ∷ ds) l
-    further (inl h) = inl (ap (λ z. z ∷ ds) (sym (ap first_of e)) ∙ ap (λ zs. row_words format x ∷ zs) h.0, h.1)
-    further (inr h) = inr (record { rows = x ∷ h.rows; row = h.row; before = ap (λ z. z ∷ ds) (sym (ap first_of e)) ∙ ap (λ zs. row_words format x ∷ zs) h.before; is = h.is; fits = h.fits })
+    further : ((ds ≡ map (row_text format) rows) × (l ≡ done)) ⊎ RowAmong format ds l → ((d ∷ ds ≡ map (row_text format) (x ∷ rows)) × (l ≡ done)) ⊎ RowAmong format (d ∷ ds) l
+    further (inl h) = inl (ap (λ z. z ∷ ds) (sym (ap first_of e)) ∙ ap (λ zs. row_text format x ∷ zs) h.0, h.1)
+    further (inr h) = inr (record { rows = x ∷ h.rows; row = h.row; before = ap (λ z. z ∷ ds) (sym (ap first_of e)) ∙ ap (λ zs. row_text format x ∷ zs) h.before; is = h.is; fits = h.fits })
 
 due : (policy : PlainPolicy) (before : List (List ℕ)) (l : List ℕ) → BeginsAny policy (before ++ l ∷ []) → IsDue policy before l
-due policy [] l b = inl (b.0.states, b.0.start, _, b.2.states, b.2.start, ap (λ x. x ∷ limits_words policy ∷ table_words policy.format b.0.states b.0.start ∷ []) (ap first_of b.3))
+due policy [] l b = inl (b.0.states, b.0.start, _, b.2.states, b.2.start, ap (λ x. x ∷ limits_text policy ∷ table_text policy.format b.0.states b.0.start ∷ []) (ap first_of b.3))
 due policy (x ∷ []) l b =
     inl (
       b.0.states,
@@ -146,8 +146,8 @@ due policy (x ∷ []) l b =
       _,
       b.2.states,
       b.2.start,
-      ap (λ z. z ∷ limits_words policy ∷ table_words policy.format b.0.states b.0.start ∷ []) (ap first_of b.3)
-          ∙ ap (λ z. x ∷ z ∷ table_words policy.format b.0.states b.0.start ∷ []) (ap second_of b.3),
+      ap (λ z. z ∷ limits_text policy ∷ table_text policy.format b.0.states b.0.start ∷ []) (ap first_of b.3)
+          ∙ ap (λ z. x ∷ z ∷ table_text policy.format b.0.states b.0.start ∷ []) (ap second_of b.3),
     )
 due policy (x ∷ y ∷ []) l b =
     inl (
@@ -156,8 +156,8 @@ due policy (x ∷ y ∷ []) l b =
       _,
       b.2.states,
       b.2.start,
-      ap (λ z. z ∷ limits_words policy ∷ table_words policy.format b.0.states b.0.start ∷ []) (ap first_of b.3)
-          ∙ ap (λ z. x ∷ z ∷ table_words policy.format b.0.states b.0.start ∷ []) (ap second_of b.3)
+      ap (λ z. z ∷ limits_text policy ∷ table_text policy.format b.0.states b.0.start ∷ []) (ap first_of b.3)
+          ∙ ap (λ z. x ∷ z ∷ table_text policy.format b.0.states b.0.start ∷ []) (ap second_of b.3)
           ∙ ap (λ z. x ∷ y ∷ z ∷ []) (ap third_of b.3),
     )
 due policy (x ∷ y ∷ z ∷ ds) l b =
@@ -165,10 +165,10 @@ due policy (x ∷ y ∷ z ∷ ds) l b =
   where
     start : (rest : List (List ℕ)) → ds ≡ rest → x ∷ y ∷ z ∷ ds ≡ head_lines policy b.0.states b.0.start ++ rest
     start rest e =
-        ap (λ u. u ∷ y ∷ z ∷ ds) (sym (ap first_of b.3)) ∙ ap (λ u. header ∷ u ∷ z ∷ ds) (sym (ap second_of b.3)) ∙ ap (λ u. header ∷ limits_words policy ∷ u ∷ ds) (sym (ap third_of b.3))
-        ∙ ap (λ us. header ∷ limits_words policy ∷ table_words policy.format b.0.states b.0.start ∷ us) e
+        ap (λ u. u ∷ y ∷ z ∷ ds) (sym (ap first_of b.3)) ∙ ap (λ u. header ∷ u ∷ z ∷ ds) (sym (ap second_of b.3)) ∙ ap (λ u. header ∷ limits_text policy ∷ u ∷ ds) (sym (ap third_of b.3))
+        ∙ ap (λ us. header ∷ limits_text policy ∷ table_text policy.format b.0.states b.0.start ∷ us) e
 
-    by_place : ((ds ≡ map (row_words policy.format) (rows_of b.0)) × (l ≡ done)) ⊎ RowAmong policy.format ds l → IsDone policy (x ∷ y ∷ z ∷ ds) l ⊎ ((row : Row) × IsRow policy (x ∷ y ∷ z ∷ ds) l row)
+    by_place : ((ds ≡ map (row_text policy.format) (rows_of b.0)) × (l ≡ done)) ⊎ RowAmong policy.format ds l → IsDone policy (x ∷ y ∷ z ∷ ds) l ⊎ ((row : Row) × IsRow policy (x ∷ y ∷ z ∷ ds) l row)
     by_place (inl h) = inl (rows_of b.0, (b.0.states, b.0.start, start _ h.0), h.1)
     by_place (inr h) = inr (h.row, (h.rows, (b.0.states, b.0.start, start _ h.before), h.fits, h.is))
 
@@ -188,7 +188,7 @@ no_longer policy before rest l (Order n) h g b = h.5 (subst (λ k. BeginsAny pol
 no_longer policy before rest l (Limit n) h g b = h.4 (subst (λ k. Begins policy (before ++ k ∷ [])) (sym (same_next rest l h.1 g h.2)) b)
 no_longer policy before rest l NoMemory h g b = h
 
-longer_is_wrong : (policy : PlainPolicy) (a b : List (List ℕ)) (r s : List ℕ) (fault : TextFault) → policy.format < 2 ^ 8 → IsFree 10 (limits_words policy) → Begins policy b
+longer_is_wrong : (policy : PlainPolicy) (a b : List (List ℕ)) (r s : List ℕ) (fault : TextFault) → policy.format < 2 ^ 8 → IsFree 10 (limits_text policy) → Begins policy b
     → IsWrong policy a r fault → Longer a b r s → ⊥
 longer_is_wrong policy a b r s fault small limits begins wrong h =
     let longer : Begins policy (a ++ h.next ∷ h.more) = subst (Begins policy) h.is begins in
@@ -216,7 +216,7 @@ one_wrong policy before rest (Line m) NoMemory p q = absurd q
 one_wrong policy before rest (Order m) NoMemory p q = absurd q
 one_wrong policy before rest (Limit m) NoMemory p q = absurd q
 
-pub one_fault : (policy : PlainPolicy) (text : List ℕ) (f g : TextFault) → policy.format < 2 ^ 8 → IsFree 10 (limits_words policy) → IsFault policy text f → IsFault policy text g → f ≡ g
+pub one_fault : (policy : PlainPolicy) (text : List ℕ) (f g : TextFault) → policy.format < 2 ^ 8 → IsFree 10 (limits_text policy) → IsFault policy text f → IsFault policy text g → f ≡ g
 one_fault policy text f g small limits p q = by_split (lines_split p.before q.before p.rest q.rest (begins_free policy p.before small limits p.begins)
     (begins_free policy q.before small limits q.begins) (sym p.cut ∙ q.cut))
   where
@@ -234,7 +234,7 @@ whole_text_is policy text t p = p.spelled ∙ sym (append-nil (text_of (tables_l
 nothing_left : (l more : List ℕ) → [] ≡ line l ++ more → ⊥
 nothing_left l more e = omega (arith, ap length e, length-append (line l) more, length-append l (10 ∷ []))
 
-pub one_table : (policy : PlainPolicy) (text : List ℕ) (t u : Table) → policy.format < 2 ^ 8 → IsFree 10 (limits_words policy) → Spells policy text t → Spells policy text u → t ≡ u
+pub one_table : (policy : PlainPolicy) (text : List ℕ) (t u : Table) → policy.format < 2 ^ 8 → IsFree 10 (limits_text policy) → Spells policy text t → Spells policy text u → t ≡ u
 one_table policy text t u small limits p q =
     by_split (lines_split (tables_lines policy t) (tables_lines policy u) [] [] (all_free policy t small limits p.table) (all_free policy u small limits q.table)
     (sym (whole_text_is policy text t p) ∙ whole_text_is policy text u q))
@@ -250,7 +250,7 @@ no_wrong_at_end policy lines (Order n) whole h = nothing_left h.1 h.3.0 h.3.2
 no_wrong_at_end policy lines (Limit n) whole h = nothing_left h.1 h.2.0 h.2.2
 no_wrong_at_end policy lines NoMemory whole h = h
 
-pub not_both : (policy : PlainPolicy) (text : List ℕ) (t : Table) (fault : TextFault) → policy.format < 2 ^ 8 → IsFree 10 (limits_words policy) → Spells policy text t → IsFault policy text fault → ⊥
+pub not_both : (policy : PlainPolicy) (text : List ℕ) (t : Table) (fault : TextFault) → policy.format < 2 ^ 8 → IsFree 10 (limits_text policy) → Spells policy text t → IsFault policy text fault → ⊥
 not_both policy text t fault small limits p q =
     by_split (lines_split q.before (tables_lines policy t) q.rest [] (begins_free policy q.before small limits q.begins) (all_free policy t small limits p.table)
     (sym q.cut ∙ whole_text_is policy text t p))
@@ -264,7 +264,7 @@ abbrev ok : Table → Result Table TextFault
 ok t = Ok t
 
 -- what a reader answers for a table's text is the table, unless memory ran out
-pub read_back : (policy : PlainPolicy) (text : List ℕ) (t : Table) (answer : Result Table TextFault) → policy.format < 2 ^ 8 → IsFree 10 (limits_words policy) → Spells policy text t
+pub read_back : (policy : PlainPolicy) (text : List ℕ) (t : Table) (answer : Result Table TextFault) → policy.format < 2 ^ 8 → IsFree 10 (limits_text policy) → Spells policy text t
     → Answers policy text answer
     → (answer ≡ Ok t) ⊎ (answer ≡ Err NoMemory)
 read_back policy text t (Ok u) small limits p q = inl (ap (λ (v : Table). ok v) (one_table policy text u t small limits q p))

@@ -13,12 +13,12 @@ use Rattle.cw_text.specs.LimitsText.{limits_line}
 use Rattle.cw_text.specs.TableText.{live_fields, try_fields, after_fields, opened_fields, into_fields, back_fields}
 use Rattle.cw_table_text.specs.declared.row.Row.{Row}
 use Rattle.cw_table_text.specs.declared.row.Row.TheVariants.{Memory, Live, Try, At, Opened, Closed, Into, Back}
-use Rattle.cw_table_text.specs.Rows.{called, memories, memory_fields, row_words, rows_of}
-use Rattle.cw_table_text.specs.TablesText.{limits_words, table_words, tables_text, text_of}
+use Rattle.cw_table_text.specs.Rows.{called, memories, memory_fields, row_text, rows_of}
+use Rattle.cw_table_text.specs.TablesText.{limits_text, table_text, tables_text, text_of}
 use Rattle.cw_table_text.specs.Working.{row_lines}
 use Rattle.cw_table_text.proofs.Adding.{memories_more}
 
--- a name, and fields with a mark behind each
+-- a name, and fields with a separator behind each
 pub two_fields : (t0 t1 t2 t3 t4 name a b : List ℕ) → t1 ≡ t0 ++ (name ++ 40 ∷ []) → t2 ≡ t1 ++ (a ++ 44 ∷ []) → t3 ≡ t2 ++ (b ++ 41 ∷ []) → t4 ≡ t3 ++ codes "\n"
     → t4 ≡ t0 ++ line (called name (a ∷ b ∷ []))
 two_fields t0 t1 t2 t3 t4 name a b h0 h1 h2 h3 = rw (h3, h2, h1, h0) (simp append_assoc)
@@ -36,29 +36,29 @@ pub five_fields : (t0 t1 t2 t3 t4 t5 t6 t7 name a b c d e : List ℕ) → t1 ≡
 five_fields t0 t1 t2 t3 t4 t5 t6 t7 name a b c d e h0 h1 h2 h3 h4 h5 h6 = rw (h6, h5, h4, h3, h2, h1, h0) (simp append_assoc)
 
 -- the lines of rows of one kind
-kind_text : {A : Type 0} (format : ℕ) (row : A → Row) (xs : List A) → text_of (row_lines format (map row xs)) ≡ flat_map (λ x. line (row_words format (row x))) xs
-kind_text format row xs = flat_map-map line (row_words format) (map row xs) ∙ flat_map-map (λ r. line (row_words format r)) row xs
+kind_text : {A : Type 0} (format : ℕ) (row : A → Row) (xs : List A) → text_of (row_lines format (map row xs)) ≡ flat_map (λ x. line (row_text format (row x))) xs
+kind_text format row xs = flat_map-map line (row_text format) (map row xs) ∙ flat_map-map (λ r. line (row_text format r)) row xs
 
 -- one memory more
 pub memory_step : (format : ℕ) (mems : List (StateId × ℕ)) (i : ℕ) (x : StateId × ℕ) → i < length mems → x ≡ get_or mems i x
     → text_of (row_lines format (memories 0 (take (i + 1) mems))) ≡ text_of (row_lines format (memories 0 (take i mems))) ++ line (called (codes "CW_MEM") (memory_fields format (i, x)))
-unfolding row_words
+unfolding row_text
 memory_step format mems i x lt is =
     let long : 0 + length (take i mems) ≡ i = omega (arith, length-take i mems) in
     let more : memories 0 (take (i + 1) mems) ≡ memories 0 (take i mems) ++ Memory i x ∷ [] =
     ap (memories 0) (take_more mems i x lt ∙ ap (λ y. take i mems ++ y ∷ []) (sym is)) ∙ memories_more 0 (take i mems) x ∙ ap (λ (k : ℕ). memories 0 (take i mems) ++ Memory k x ∷ []) long in
-    ap (λ rows. text_of (row_lines format rows)) more ∙ ap text_of (map-append (row_words format) (memories 0 (take i mems)) (Memory i x ∷ []))
-    ∙ flat_map-append line (row_lines format (memories 0 (take i mems))) (row_words format (Memory i x) ∷ [])
+    ap (λ rows. text_of (row_lines format rows)) more ∙ ap text_of (map-append (row_text format) (memories 0 (take i mems)) (Memory i x ∷ []))
+    ∙ flat_map-append line (row_lines format (memories 0 (take i mems))) (row_text format (Memory i x) ∷ [])
     ∙ ap (λ t. text_of (row_lines format (memories 0 (take i mems))) ++ t) (append-nil (line (called (codes "CW_MEM") (memory_fields format (i, x)))))
 
-pub limits_is : (policy : PlainPolicy) → limits_line policy ≡ line (limits_words policy)
-unfolding limits_line limits_words
+pub limits_is : (policy : PlainPolicy) → limits_line policy ≡ line (limits_text policy)
+unfolding limits_line limits_text
 limits_is policy = refl
 
 -- the whole text, piece by piece
 pub whole_text : (policy : PlainPolicy) (t : Table) (t0 t1 t2 t3 t4 t5 t6 t7 t8 t9 t10 t11 t12 : List ℕ) → t1 ≡ t0 ++ codes "#include \"capweave.h\"\n"
     → t2 ≡ t1 ++ limits_line policy
-    → t3 ≡ t2 ++ line (table_words policy.format t.states t.start)
+    → t3 ≡ t2 ++ line (table_text policy.format t.states t.start)
     → t4 ≡ t3 ++ text_of (row_lines policy.format (memories 0 t.mems))
     → t5 ≡ t4 ++ flat_map (λ x. line (called (codes "CW_LIVE") (live_fields x))) t.live
     → t6 ≡ t5 ++ flat_map (λ x. line (called (codes "CW_TRY") (try_fields x))) t.tries
@@ -69,7 +69,7 @@ pub whole_text : (policy : PlainPolicy) (t : Table) (t0 t1 t2 t3 t4 t5 t6 t7 t8 
     → t11 ≡ t10 ++ flat_map (λ x. line (called (codes "CW_BACK") (back_fields x))) t.back
     → t12 ≡ t11 ++ codes "CW_DONE\n"
     → t12 ≡ t0 ++ tables_text policy t
-unfolding tables_text rows_of row_words
+unfolding tables_text rows_of row_text
 whole_text policy t t0 t1 t2 t3 t4 t5 t6 t7 t8 t9 t10 t11 t12 h1 h2 h3 h4 h5 h6 h7 h8 h9 h10 h11 h12 =
     rw (h12, h11, h10, h9, h8, h7, h6, h5, h4, h3, h2, h1, limits_is policy)
     (simp (

@@ -1,4 +1,4 @@
--- The words of a row's line, and that no two rows have one line.
+-- The fields of a row's line, and that no two rows have one line.
 use Rattle.std.proofs.Common.{◌≡◌, ◌≢◌, ℕ, ◌||◌, if◌then◌else◌, length-append, ◌^◌, ◌<◌, ◌≤◌, Bool, true, false, eqb, ltb, List, [], ◌∷◌, ◌++◌, length, get_or, drop}
 use Rattle.std.proofs.Common.{refl, sym, ap, ◌∙◌, arith, append-nil}
 use Rattle.std.specs.Prelude.{Option, None, Some, codes}
@@ -11,19 +11,19 @@ use Rattle.std.proofs.lemmas.List.Elements.{All-from_recursion}
 use Rattle.std.proofs.lemmas.Bool.{le-ltb}
 use Rattle.cw_core.specs.declared.ids.MemId.{MemId}
 use Rattle.cw_core.specs.Ranges.{is_spelling_byte}
-use Rattle.cw_text.specs.Lines.{joined, words_of, IsFree, Reads, Takes}
-use Rattle.cw_text.proofs.Cuts.{words-joined, joined-words}
+use Rattle.cw_text.specs.Lines.{joined, fields_by, IsFree, Reads, Takes}
+use Rattle.cw_text.proofs.Cuts.{fields-joined, joined-fields}
 use Rattle.cw_text.proofs.Free.{free_from_test, one_line, decimal_free, set_text_free}
 use Rattle.cw_text.specs.TableText.{answer, mode}
 use Rattle.cw_table_text.specs.declared.row.Row.{Row}
 use Rattle.cw_table_text.specs.declared.row.Row.TheVariants.{Memory, Live, Try, At, Opened, Closed, Into, Back}
-use Rattle.cw_table_text.specs.Rows.{name_of, fields_of, memory_fields, row_words}
+use Rattle.cw_table_text.specs.Rows.{name_of, fields_of, memory_fields, row_text}
 use Rattle.cw_table_text.specs.Grammar.{IsAnswer, Fits, FitsMemory}
 use Rattle.cw_table_text.specs.Working.{TakesNamed}
 
--- ---- words that were taken
+-- ---- fields that were taken
 
--- what stands behind a first word
+-- what stands behind a first field
 pub behind_first : {a b : List ℕ} {old w v : List (List ℕ)} → old ≡ a ∷ w → old ≡ b ∷ v → w ≡ v
 behind_first e f = cc
 
@@ -39,7 +39,7 @@ no_mode n small high false e = let k : n ≡ 0 = small_number n 0 small (omega a
 no_mode n small high true e = let k : n ≡ 1 = small_number n 1 small (omega arith) e in omega (arith, high, k)
 
 pub no_mode_taken : (n : ℕ) (old new : List (List ℕ)) → n < 2 ^ 8 → 1 < n → old ≡ decimal n ∷ new → Takes (λ (split : Bool). Unit {0}) mode old new None
-no_mode_taken n old new small high is = record { some = tt; none = λ split rest fits e. no_mode n small high split (same_first is e); left = sym (ap (λ (words : List (List ℕ)). drop 1 words) is) }
+no_mode_taken n old new small high is = record { some = tt; none = λ split rest fits e. no_mode n small high split (same_first is e); left = sym (ap (λ (fields : List (List ℕ)). drop 1 fields) is) }
 
 fourth : List ℕ → ℕ
 fourth name = get_or name 3 0
@@ -57,99 +57,99 @@ no_memory format old h (Closed r) rest fits name e = let l : 77 ≡ 67 = ap four
 no_memory format old h (Into r) rest fits name e = let l : 77 ≡ 73 = ap fourth name in absurd (omega (arith, l))
 no_memory format old h (Back r) rest fits name e = let l : 77 ≡ 66 = ap fourth name in absurd (omega (arith, l))
 
--- ---- a line is its name and its words
+-- ---- a line is its name and its fields
 
 plain : ℕ → Bool
 plain b = ltb 44 b
 
-le-ltb44 : (mark : ℕ) → mark ≤ 44 → plain mark ≡ false
+le-ltb44 : (separator : ℕ) → separator ≤ 44 → plain separator ≡ false
 unfolding plain
-le-ltb44 mark low = le-ltb 44 mark low
+le-ltb44 separator low = le-ltb 44 separator low
 
-pub name_free : (mark : ℕ) → mark ≤ 44 → (row : Row) → IsFree mark (name_of row)
+pub name_free : (separator : ℕ) → separator ≤ 44 → (row : Row) → IsFree separator (name_of row)
 unfolding plain
-name_free mark low (Memory n m) = free_from_test plain mark (name_of (Memory n m)) (le-ltb44 mark low) refl
-name_free mark low (Live r) = free_from_test plain mark (name_of (Live r)) (le-ltb44 mark low) refl
-name_free mark low (Try r) = free_from_test plain mark (name_of (Try r)) (le-ltb44 mark low) refl
-name_free mark low (At r) = free_from_test plain mark (name_of (At r)) (le-ltb44 mark low) refl
-name_free mark low (Opened r) = free_from_test plain mark (name_of (Opened r)) (le-ltb44 mark low) refl
-name_free mark low (Closed r) = free_from_test plain mark (name_of (Closed r)) (le-ltb44 mark low) refl
-name_free mark low (Into r) = free_from_test plain mark (name_of (Into r)) (le-ltb44 mark low) refl
-name_free mark low (Back r) = free_from_test plain mark (name_of (Back r)) (le-ltb44 mark low) refl
+name_free separator low (Memory n m) = free_from_test plain separator (name_of (Memory n m)) (le-ltb44 separator low) refl
+name_free separator low (Live r) = free_from_test plain separator (name_of (Live r)) (le-ltb44 separator low) refl
+name_free separator low (Try r) = free_from_test plain separator (name_of (Try r)) (le-ltb44 separator low) refl
+name_free separator low (At r) = free_from_test plain separator (name_of (At r)) (le-ltb44 separator low) refl
+name_free separator low (Opened r) = free_from_test plain separator (name_of (Opened r)) (le-ltb44 separator low) refl
+name_free separator low (Closed r) = free_from_test plain separator (name_of (Closed r)) (le-ltb44 separator low) refl
+name_free separator low (Into r) = free_from_test plain separator (name_of (Into r)) (le-ltb44 separator low) refl
+name_free separator low (Back r) = free_from_test plain separator (name_of (Back r)) (le-ltb44 separator low) refl
 
--- the line is the name, `(`, the words joined, and `)`
-pub row_line : (format : ℕ) (row : Row) → row_words format row ≡ name_of row ++ (40 ∷ (joined 44 (fields_of format row) ++ 41 ∷ []))
-unfolding row_words
+-- the line is the name, `(`, the fields joined, and `)`
+pub row_line : (format : ℕ) (row : Row) → row_text format row ≡ name_of row ++ (40 ∷ (joined 44 (fields_of format row) ++ 41 ∷ []))
+unfolding row_text
 row_line format row = refl
 
-answer_free : (mark : ℕ) → is_ascii_digit mark ≡ false → IsFree mark (codes "CW_NONE") → (a : Option MemId) → IsAnswer a → IsFree mark (answer a)
-answer_free mark digit none None fits = none
-answer_free mark digit none (Some m) fits = decimal_free mark m.0 digit (omega (arith, fits))
+answer_free : (separator : ℕ) → is_ascii_digit separator ≡ false → IsFree separator (codes "CW_NONE") → (a : Option MemId) → IsAnswer a → IsFree separator (answer a)
+answer_free separator digit none None fits = none
+answer_free separator digit none (Some m) fits = decimal_free separator m.0 digit (omega (arith, fits))
 
-mode_free : (mark : ℕ) → is_ascii_digit mark ≡ false → (split : Bool) → IsFree mark (mode split)
-mode_free mark digit false = decimal_free mark 0 digit (omega arith)
-mode_free mark digit true = decimal_free mark 1 digit (omega arith)
+mode_free : (separator : ℕ) → is_ascii_digit separator ≡ false → (split : Bool) → IsFree separator (mode split)
+mode_free separator digit false = decimal_free separator 0 digit (omega arith)
+mode_free separator digit true = decimal_free separator 1 digit (omega arith)
 
--- no field has the mark
-pub record IsMark (mark : ℕ) : Type 0 where
-  pub digit : is_ascii_digit mark ≡ false
-  pub spelling : is_spelling_byte mark ≡ false
-  pub missing : IsFree mark (codes "CW_NONE")
+-- no field has the separator
+pub record IsSeparator (separator : ℕ) : Type 0 where
+  pub digit : is_ascii_digit separator ≡ false
+  pub spelling : is_spelling_byte separator ≡ false
+  pub missing : IsFree separator (codes "CW_NONE")
 
-number_free : (mark n : ℕ) → IsMark mark → n < 2 ^ 32 → IsFree mark (decimal n)
-number_free mark n m small = decimal_free mark n m.digit (omega (arith, small))
+number_free : (separator n : ℕ) → IsSeparator separator → n < 2 ^ 32 → IsFree separator (decimal n)
+number_free separator n m small = decimal_free separator n m.digit (omega (arith, small))
 
-each_free : (mark : ℕ) → IsMark mark → (format : ℕ) (row : Row) → Fits format row → AllByRecursion (IsFree mark) (fields_of format row)
-each_free mark m format (Memory n x) fits = (number_free mark n m fits.0, (decimal_free mark x.0.0 m.digit (omega (arith, fits.1)), (set_text_free mark format x.1 m.spelling fits.2, tt)))
-each_free mark m format (Live r) fits = (number_free mark r.0.0 m fits.0, (number_free mark r.1.0 m fits.1, tt))
-each_free mark m format (Try r) fits = (
-  number_free mark r.seam.0 m fits.0,
+each_free : (separator : ℕ) → IsSeparator separator → (format : ℕ) (row : Row) → Fits format row → AllByRecursion (IsFree separator) (fields_of format row)
+each_free separator m format (Memory n x) fits = (number_free separator n m fits.0, (decimal_free separator x.0.0 m.digit (omega (arith, fits.1)), (set_text_free separator format x.1 m.spelling fits.2, tt)))
+each_free separator m format (Live r) fits = (number_free separator r.0.0 m fits.0, (number_free separator r.1.0 m fits.1, tt))
+each_free separator m format (Try r) fits = (
+  number_free separator r.seam.0 m fits.0,
   (
-    decimal_free mark r.stage m.digit (omega (arith, fits.1)),
-    (number_free mark r.mem.0 m fits.2, (answer_free mark m.digit m.missing r.granted fits.3, (answer_free mark m.digit m.missing r.refused fits.4, tt))),
+    decimal_free separator r.stage m.digit (omega (arith, fits.1)),
+    (number_free separator r.mem.0 m fits.2, (answer_free separator m.digit m.missing r.granted fits.3, (answer_free separator m.digit m.missing r.refused fits.4, tt))),
   ),
 )
-each_free mark m format (At r) fits = (number_free mark r.seam.0 m fits.0, (number_free mark r.mem.0 m fits.1, (number_free mark r.after.0 m fits.2, tt)))
-each_free mark m format (Opened r) fits = (number_free mark r.seam.0 m fits.0, (number_free mark r.mem.0 m fits.1, (number_free mark r.opened.0 m fits.2, (number_free mark r.failed.0 m fits.3, tt))))
-each_free mark m format (Closed r) fits = (number_free mark r.seam.0 m fits.0, (number_free mark r.mem.0 m fits.1, (number_free mark r.after.0 m fits.2, tt)))
-each_free mark m format (Into r) fits = (number_free mark r.seam.0 m fits.0, (mode_free mark m.digit r.split, (number_free mark r.mem.0 m fits.1, (number_free mark r.callee.0 m fits.2, tt))))
-each_free mark m format (Back r) fits = (
-  number_free mark r.seam.0 m fits.0,
+each_free separator m format (At r) fits = (number_free separator r.seam.0 m fits.0, (number_free separator r.mem.0 m fits.1, (number_free separator r.after.0 m fits.2, tt)))
+each_free separator m format (Opened r) fits = (number_free separator r.seam.0 m fits.0, (number_free separator r.mem.0 m fits.1, (number_free separator r.opened.0 m fits.2, (number_free separator r.failed.0 m fits.3, tt))))
+each_free separator m format (Closed r) fits = (number_free separator r.seam.0 m fits.0, (number_free separator r.mem.0 m fits.1, (number_free separator r.after.0 m fits.2, tt)))
+each_free separator m format (Into r) fits = (number_free separator r.seam.0 m fits.0, (mode_free separator m.digit r.split, (number_free separator r.mem.0 m fits.1, (number_free separator r.callee.0 m fits.2, tt))))
+each_free separator m format (Back r) fits = (
+  number_free separator r.seam.0 m fits.0,
   (
-    mode_free mark m.digit r.split,
-    (number_free mark r.mem.0 m fits.1, (decimal_free mark r.exit.0 m.digit (omega (arith, fits.2)), (number_free mark r.after.0 m fits.3, tt))),
+    mode_free separator m.digit r.split,
+    (number_free separator r.mem.0 m fits.1, (decimal_free separator r.exit.0 m.digit (omega (arith, fits.2)), (number_free separator r.after.0 m fits.3, tt))),
   ),
 )
 
-pub fields_free : (mark : ℕ) → IsMark mark → (format : ℕ) (row : Row) → Fits format row → All (IsFree mark) (fields_of format row)
-fields_free mark m format row fits = All-from_recursion (IsFree mark) (fields_of format row) (each_free mark m format row fits)
+pub fields_free : (separator : ℕ) → IsSeparator separator → (format : ℕ) (row : Row) → Fits format row → All (IsFree separator) (fields_of format row)
+fields_free separator m format row fits = All-from_recursion (IsFree separator) (fields_of format row) (each_free separator m format row fits)
 
-pub comma : IsMark 44
+pub comma : IsSeparator 44
 unfolding plain
 comma = record { digit = refl; spelling = refl; missing = free_from_test plain 44 (codes "CW_NONE") refl refl }
 
-pub line_feed : IsMark 10
+pub line_feed : IsSeparator 10
 unfolding plain
 line_feed = record { digit = refl; spelling = refl; missing = free_from_test plain 10 (codes "CW_NONE") refl refl }
 
--- the words between the commas are the fields
-pub words_are_fields : (format : ℕ) (row : Row) → Fits format row → words_of 44 (joined 44 (fields_of format row)) ≡ fields_of format row
-words_are_fields format (Memory n m) fits = words-joined 44 _ _ (fields_free 44 comma format (Memory n m) fits)
-words_are_fields format (Live r) fits = words-joined 44 _ _ (fields_free 44 comma format (Live r) fits)
-words_are_fields format (Try r) fits = words-joined 44 _ _ (fields_free 44 comma format (Try r) fits)
-words_are_fields format (At r) fits = words-joined 44 _ _ (fields_free 44 comma format (At r) fits)
-words_are_fields format (Opened r) fits = words-joined 44 _ _ (fields_free 44 comma format (Opened r) fits)
-words_are_fields format (Closed r) fits = words-joined 44 _ _ (fields_free 44 comma format (Closed r) fits)
-words_are_fields format (Into r) fits = words-joined 44 _ _ (fields_free 44 comma format (Into r) fits)
-words_are_fields format (Back r) fits = words-joined 44 _ _ (fields_free 44 comma format (Back r) fits)
+-- what stands between the commas is the fields
+pub row_fields_stay : (format : ℕ) (row : Row) → Fits format row → fields_by 44 (joined 44 (fields_of format row)) ≡ fields_of format row
+row_fields_stay format (Memory n m) fits = fields-joined 44 _ _ (fields_free 44 comma format (Memory n m) fits)
+row_fields_stay format (Live r) fits = fields-joined 44 _ _ (fields_free 44 comma format (Live r) fits)
+row_fields_stay format (Try r) fits = fields-joined 44 _ _ (fields_free 44 comma format (Try r) fits)
+row_fields_stay format (At r) fits = fields-joined 44 _ _ (fields_free 44 comma format (At r) fits)
+row_fields_stay format (Opened r) fits = fields-joined 44 _ _ (fields_free 44 comma format (Opened r) fits)
+row_fields_stay format (Closed r) fits = fields-joined 44 _ _ (fields_free 44 comma format (Closed r) fits)
+row_fields_stay format (Into r) fits = fields-joined 44 _ _ (fields_free 44 comma format (Into r) fits)
+row_fields_stay format (Back r) fits = fields-joined 44 _ _ (fields_free 44 comma format (Back r) fits)
 
--- a line with this name and these words inside is that of the row only where both are its own
-pub row_parts : (format : ℕ) (row : Row) (line name inner : List ℕ) → Fits format row → IsFree 40 name → line ≡ name ++ (40 ∷ (inner ++ 41 ∷ [])) → row_words format row ≡ line
-    → (name ≡ name_of row) × (words_of 44 inner ≡ fields_of format row)
+-- a line with this name and these fields inside is that of the row only where both are its own
+pub row_parts : (format : ℕ) (row : Row) (line name inner : List ℕ) → Fits format row → IsFree 40 name → line ≡ name ++ (40 ∷ (inner ++ 41 ∷ [])) → row_text format row ≡ line
+    → (name ≡ name_of row) × (fields_by 44 inner ≡ fields_of format row)
 row_parts format row line name inner fits free is e =
     let both = one_line 40 name (name_of row) (inner ++ 41 ∷ []) (joined 44 (fields_of format row) ++ 41 ∷ []) free (name_free 40 (omega arith) row) (sym is ∙ sym e ∙ row_line format row) in
     let same : inner ≡ joined 44 (fields_of format row) = append_cancel_right inner (joined 44 (fields_of format row)) (41 ∷ []) both.1 in
-    (both.0, ap (words_of 44) same ∙ words_are_fields format row fits)
+    (both.0, ap (fields_by 44) same ∙ row_fields_stay format row fits)
 
 -- how many fields follow a name, by its fourth letter
 abbrev arity : ℕ → ℕ
@@ -172,11 +172,11 @@ none_left format a b rest name e =
     nil_from_length rest (omega (arith, same, ap length e, length-append (fields_of format a) rest))
 
 -- what the reader of a line answers
-pub no_call : (format : ℕ) (line : List ℕ) → ((name inner : List ℕ) → IsFree 40 name → line ≢ name ++ (40 ∷ (inner ++ 41 ∷ []))) → Reads (Fits format) (row_words format) line None
+pub no_call : (format : ℕ) (line : List ℕ) → ((name inner : List ℕ) → IsFree 40 name → line ≢ name ++ (40 ∷ (inner ++ 41 ∷ []))) → Reads (Fits format) (row_text format) line None
 no_call format line h = record { some = tt; none = λ row fits e. h (name_of row) (joined 44 (fields_of format row)) (name_free 40 (omega arith) row) (sym e ∙ row_line format row) }
 
-pub no_fields : (format : ℕ) (line name inner : List ℕ) (new : List (List ℕ)) → IsFree 40 name → line ≡ name ++ (40 ∷ (inner ++ 41 ∷ [])) → TakesNamed format name (words_of 44 inner) new None
-    → Reads (Fits format) (row_words format) line None
+pub no_fields : (format : ℕ) (line name inner : List ℕ) (new : List (List ℕ)) → IsFree 40 name → line ≡ name ++ (40 ∷ (inner ++ 41 ∷ [])) → TakesNamed format name (fields_by 44 inner) new None
+    → Reads (Fits format) (row_text format) line None
 no_fields format line name inner new free is h = record {
   some = tt;
   none = λ row fits e.
@@ -185,8 +185,8 @@ no_fields format line name inner new free is h = record {
 }
 
 pub more_fields : (format : ℕ) (line name inner : List ℕ) (new : List (List ℕ)) (found : Row) → IsFree 40 name → line ≡ name ++ (40 ∷ (inner ++ 41 ∷ []))
-    → TakesNamed format name (words_of 44 inner) new (Some found)
-    → (new ≡ [] → ⊥) → Reads (Fits format) (row_words format) line None
+    → TakesNamed format name (fields_by 44 inner) new (Some found)
+    → (new ≡ [] → ⊥) → Reads (Fits format) (row_text format) line None
 more_fields format line name inner new found free is h left = record {
   some = tt;
   none = λ row fits e.
@@ -194,12 +194,12 @@ more_fields format line name inner new found free is h left = record {
       left (none_left format found row new (sym h.some.1 ∙ p.0) (sym h.some.2 ∙ p.1));
 }
 
-pub all_fields : (format : ℕ) (line name inner : List ℕ) (new : List (List ℕ)) (found : Row) → line ≡ name ++ (40 ∷ (inner ++ 41 ∷ [])) → TakesNamed format name (words_of 44 inner) new (Some found)
-    → new ≡ [] → Reads (Fits format) (row_words format) line (Some found)
+pub all_fields : (format : ℕ) (line name inner : List ℕ) (new : List (List ℕ)) (found : Row) → line ≡ name ++ (40 ∷ (inner ++ 41 ∷ [])) → TakesNamed format name (fields_by 44 inner) new (Some found)
+    → new ≡ [] → Reads (Fits format) (row_text format) line (Some found)
 all_fields format line name inner new found is h left = record {
   some =
-      let words : words_of 44 inner ≡ fields_of format found = h.some.2 ∙ ap (λ ws. fields_of format found ++ ws) left ∙ append-nil (fields_of format found) in
-      let same : inner ≡ joined 44 (fields_of format found) = sym (joined-words 44 inner) ∙ ap (joined 44) words in
+      let fields : fields_by 44 inner ≡ fields_of format found = h.some.2 ∙ ap (λ ws. fields_of format found ++ ws) left ∙ append-nil (fields_of format found) in
+      let same : inner ≡ joined 44 (fields_of format found) = sym (joined-fields 44 inner) ∙ ap (joined 44) fields in
       (h.some.0, row_line format found ∙ sym (is ∙ ap (λ n. n ++ (40 ∷ (inner ++ 41 ∷ []))) h.some.1 ∙ ap (λ t. name_of found ++ (40 ∷ (t ++ 41 ∷ []))) same));
   none = tt;
 }

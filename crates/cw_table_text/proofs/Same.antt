@@ -23,12 +23,12 @@ use Rattle.cw_text.specs.TableText.{answer, mode}
 use Rattle.cw_table_text.specs.declared.row.Row.{Row}
 use Rattle.cw_table_text.specs.declared.row.Row.TheVariants.{Memory, Live, Try, At, Opened, Closed, Into, Back}
 use Rattle.cw_table_text.specs.Grammar.{IsAnswer, Fits}
-use Rattle.cw_table_text.specs.Rows.{name_of, fields_of, row_words}
+use Rattle.cw_table_text.specs.Rows.{name_of, fields_of, row_text}
 use Rattle.cw_table_text.specs.TablesText.{done}
-use Rattle.cw_table_text.proofs.RowLines.{name_free, row_line, row_parts, words_are_fields}
+use Rattle.cw_table_text.proofs.RowLines.{name_free, row_line, row_parts, row_fields_stay}
 
 nth : ℕ → List (List ℕ) → List ℕ
-nth k words = get_or words k []
+nth k fields = get_or fields k []
 
 number : (k a b : ℕ) (xs ys : List (List ℕ)) → a < 2 ^ 32 → b < 2 ^ 32 → xs ≡ ys → nth k xs ≡ decimal a → nth k ys ≡ decimal b → a ≡ b
 number k a b xs ys small also e f g = decimal_injective a b (omega (arith, small)) (omega (arith, also)) (sym f ∙ ap (nth k) e ∙ g)
@@ -189,13 +189,13 @@ same_row format (Back r) (Back s) p q name e =
     ∙ ap (λ (x : ℕ). Back (back_row s.seam.0 s.split x r.exit.0 r.after.0)) e2 ∙ ap (λ (x : ℕ). Back (back_row s.seam.0 s.split s.mem.0 x r.after.0)) e3
     ∙ ap (λ (x : ℕ). Back (back_row s.seam.0 s.split s.mem.0 s.exit.0 x)) e4
 
-pub one_row : (format : ℕ) (a b : Row) → Fits format a → Fits format b → row_words format a ≡ row_words format b → a ≡ b
+pub one_row : (format : ℕ) (a b : Row) → Fits format a → Fits format b → row_text format a ≡ row_text format b → a ≡ b
 one_row format a b p q e =
-    let h = row_parts format b (row_words format a) (name_of a) (joined 44 (fields_of format a)) q (name_free 40 (omega arith) a) (row_line format a) (sym e) in
-    same_row format a b p q h.0 (sym (words_are_fields format a p) ∙ h.1)
+    let h = row_parts format b (row_text format a) (name_of a) (joined 44 (fields_of format a)) q (name_free 40 (omega arith) a) (row_line format a) (sym e) in
+    same_row format a b p q h.0 (sym (row_fields_stay format a p) ∙ h.1)
 
 -- the end has no parenthesis
-pub not_done : (format : ℕ) (row : Row) → done ≢ row_words format row
+pub not_done : (format : ℕ) (row : Row) → done ≢ row_text format row
 not_done format row e = no_line 40 done (name_of row) (joined 44 (fields_of format row) ++ 41 ∷ []) (free_from_test (λ b. ltb 44 b) 40 done refl refl) (e ∙ row_line format row)
 
 abbrev first : List (List ℕ) → List ℕ
@@ -208,7 +208,7 @@ rest_of (x ∷ xs) = xs
 
 -- rows and the end, told apart
 pub rows_split : (format : ℕ) (rs us : List Row) (row : Row) (more : List (List ℕ)) → AllByRecursion (Fits format) rs → AllByRecursion (Fits format) us → Fits format row
-    → map (row_words format) us ++ done ∷ [] ≡ map (row_words format) rs ++ row_words format row ∷ more → (rest : List Row) × (us ≡ rs ++ row ∷ rest)
+    → map (row_text format) us ++ done ∷ [] ≡ map (row_text format) rs ++ row_text format row ∷ more → (rest : List Row) × (us ≡ rs ++ row ∷ rest)
 rows_split format [] [] row more p q r e = absurd (not_done format row (ap first e))
 rows_split format [] (u ∷ us) row more p q r e = (us, ap (λ x. x ∷ us) (one_row format u row q.0 r (ap first e)))
 rows_split format (x ∷ rs) [] row more p q r e = absurd (not_done format x (ap first e))
@@ -217,7 +217,7 @@ rows_split format (x ∷ rs) (u ∷ us) row more p q r e =
     (h.0, ap (λ y. y ∷ us) (one_row format u x q.0 p.0 (ap first e)) ∙ ap (λ ys. x ∷ ys) h.1)
 
 -- rows alone are no rows with an end
-pub rows_have_no_end : (format : ℕ) (rs : List Row) (ls : List (List ℕ)) → map (row_words format) rs ≡ ls ++ done ∷ [] → ⊥
+pub rows_have_no_end : (format : ℕ) (rs : List Row) (ls : List (List ℕ)) → map (row_text format) rs ≡ ls ++ done ∷ [] → ⊥
 rows_have_no_end format [] [] e = absurd (omega (arith, ap length e))
 rows_have_no_end format [] (l ∷ ls) e = absurd (omega (arith, ap length e))
 rows_have_no_end format (x ∷ rs) [] e = not_done format x (sym (ap first e))
@@ -225,7 +225,7 @@ rows_have_no_end format (x ∷ rs) (l ∷ ls) e = rows_have_no_end format rs ls 
 
 -- rows with an end are the same rows
 pub rows_same : (format : ℕ) (rs us : List Row) → AllByRecursion (Fits format) rs → AllByRecursion (Fits format) us
-    → map (row_words format) us ++ done ∷ [] ≡ map (row_words format) rs ++ done ∷ [] → us ≡ rs
+    → map (row_text format) us ++ done ∷ [] ≡ map (row_text format) rs ++ done ∷ [] → us ≡ rs
 rows_same format [] [] p q e = refl
 rows_same format [] (u ∷ us) p q e = absurd (not_done format u (sym (ap first e)))
 rows_same format (x ∷ rs) [] p q e = absurd (not_done format x (ap first e))

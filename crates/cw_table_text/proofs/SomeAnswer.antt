@@ -17,8 +17,8 @@ use Rattle.cw_text_lines.proofs.Starts.{first_line, line_end}
 use Rattle.cw_table_text.specs.declared.row.Row.{Row}
 use Rattle.cw_table_text.specs.declared.row.Row.TheVariants.{Memory, Live, Try, At, Opened, Closed, Into, Back}
 use Rattle.cw_table_text.specs.Grammar.{IsAnswer, Fits, Spells, IsFault}
-use Rattle.cw_table_text.specs.Rows.{rows_of, row_words}
-use Rattle.cw_table_text.specs.TablesText.{table_words, head_lines, text_of, done}
+use Rattle.cw_table_text.specs.Rows.{rows_of, row_text}
+use Rattle.cw_table_text.specs.TablesText.{table_text, head_lines, text_of, done}
 use Rattle.cw_table_text.specs.Working.{FitsHead, IsGood, IsRowLine, IsWrongRow, AreRead, AreWrong, is_next, with_row, row_lines}
 use Rattle.cw_table_text.proofs.Faults.{goes_on, no_more, empty, is_empty, fault_1, fault_2, fault_3_missing, fault_3_misspelled, head_is, start_good, start_text}
 use Rattle.cw_table_text.proofs.Faults.{next_text, next_good, same_states, same_start, no_row, a_fault, reads_table, behind_fault}
@@ -99,12 +99,12 @@ seek_answer {B} Fit seek f text = by_both (seek (λ b. f (None, b)) text) (seek_
 
 -- a row of one kind with this line, or none
 abbrev Kind : (format : ℕ) {A : Type 0} → (A → Row) → List ℕ → Type 0
-Kind format {A} row l = ((a : A) × Fits format (row a) × (row_words format (row a) ≡ l)) ⊎ ((a : A) → Fits format (row a) → row_words format (row a) ≢ l)
+Kind format {A} row l = ((a : A) × Fits format (row a) × (row_text format (row a) ≡ l)) ⊎ ((a : A) → Fits format (row a) → row_text format (row a) ≢ l)
 
 live_kind : (format : ℕ) (l : List ℕ) → Kind format Live l
-live_kind format l = by_seek ((seek_number (2 ^ 32) (Below (2 ^ 32) FitsLast) (seek_number (2 ^ 32) FitsLast seek_last)) (λ p. row_words format (Live (pos_of p.0, mem_of p.1.0))) l)
+live_kind format l = by_seek ((seek_number (2 ^ 32) (Below (2 ^ 32) FitsLast) (seek_number (2 ^ 32) FitsLast seek_last)) (λ p. row_text format (Live (pos_of p.0, mem_of p.1.0))) l)
   where
-    by_seek : Sought (Below (2 ^ 32) (Below (2 ^ 32) FitsLast)) (λ p. row_words format (Live (pos_of p.0, mem_of p.1.0))) l → Kind format Live l
+    by_seek : Sought (Below (2 ^ 32) (Below (2 ^ 32) FitsLast)) (λ p. row_text format (Live (pos_of p.0, mem_of p.1.0))) l → Kind format Live l
     by_seek (inl q) = let p = q.0 in let fits = q.1 in inl ((pos_of p.0, mem_of p.1.0), (fits.0, fits.1.0), q.2)
     by_seek (inr none) = inr (λ r fit e. none (r.0.0, (r.1.0, tt)) (fit.0, (fit.1, tt)) e)
 
@@ -112,44 +112,44 @@ try_kind : (format : ℕ) (l : List ℕ) → Kind format Try l
 try_kind format l = by_seek ((seek_number (2 ^ 32) (Below (2 ^ 8) (Below (2 ^ 32) (Answered (Answered FitsLast))))
     (seek_number (2 ^ 8) (Below (2 ^ 32) (Answered (Answered FitsLast)))
     (seek_number (2 ^ 32) (Answered (Answered FitsLast)) (seek_answer (Answered FitsLast) (seek_answer FitsLast seek_last)))))
-    (λ p. row_words format (Try (try_row p.0 p.1.0 p.1.1.0 p.1.1.1.0 p.1.1.1.1.0))) l)
+    (λ p. row_text format (Try (try_row p.0 p.1.0 p.1.1.0 p.1.1.1.0 p.1.1.1.1.0))) l)
   where
-    by_seek : Sought (Below (2 ^ 32) (Below (2 ^ 8) (Below (2 ^ 32) (Answered (Answered FitsLast))))) (λ p. row_words format (Try (try_row p.0 p.1.0 p.1.1.0 p.1.1.1.0 p.1.1.1.1.0))) l
+    by_seek : Sought (Below (2 ^ 32) (Below (2 ^ 8) (Below (2 ^ 32) (Answered (Answered FitsLast))))) (λ p. row_text format (Try (try_row p.0 p.1.0 p.1.1.0 p.1.1.1.0 p.1.1.1.1.0))) l
         → Kind format Try l
     by_seek (inl q) = let p = q.0 in let fits = q.1 in inl ((try_row p.0 p.1.0 p.1.1.0 p.1.1.1.0 p.1.1.1.1.0), (fits.0, fits.1.0, fits.1.1.0, fits.1.1.1.0, fits.1.1.1.1.0), q.2)
     by_seek (inr none) = inr (λ r fit e. none (r.seam.0, (r.stage, (r.mem.0, (r.granted, (r.refused, tt))))) (fit.0, (fit.1, (fit.2, (fit.3, (fit.4, tt))))) e)
 
 at_kind : (format : ℕ) (l : List ℕ) → Kind format At l
 at_kind format l = by_seek ((seek_number (2 ^ 32) (Below (2 ^ 32) (Below (2 ^ 32) FitsLast)) (seek_number (2 ^ 32) (Below (2 ^ 32) FitsLast) (seek_number (2 ^ 32) FitsLast seek_last)))
-    (λ p. row_words format (At (at_row p.0 p.1.0 p.1.1.0))) l)
+    (λ p. row_text format (At (at_row p.0 p.1.0 p.1.1.0))) l)
   where
-    by_seek : Sought (Below (2 ^ 32) (Below (2 ^ 32) (Below (2 ^ 32) FitsLast))) (λ p. row_words format (At (at_row p.0 p.1.0 p.1.1.0))) l → Kind format At l
+    by_seek : Sought (Below (2 ^ 32) (Below (2 ^ 32) (Below (2 ^ 32) FitsLast))) (λ p. row_text format (At (at_row p.0 p.1.0 p.1.1.0))) l → Kind format At l
     by_seek (inl q) = let p = q.0 in let fits = q.1 in inl ((at_row p.0 p.1.0 p.1.1.0), (fits.0, fits.1.0, fits.1.1.0), q.2)
     by_seek (inr none) = inr (λ r fit e. none (r.seam.0, (r.mem.0, (r.after.0, tt))) (fit.0, (fit.1, (fit.2, tt))) e)
 
 opened_kind : (format : ℕ) (l : List ℕ) → Kind format Opened l
 opened_kind format l = by_seek ((seek_number (2 ^ 32) (Below (2 ^ 32) (Below (2 ^ 32) (Below (2 ^ 32) FitsLast)))
     (seek_number (2 ^ 32) (Below (2 ^ 32) (Below (2 ^ 32) FitsLast)) (seek_number (2 ^ 32) (Below (2 ^ 32) FitsLast) (seek_number (2 ^ 32) FitsLast seek_last))))
-    (λ p. row_words format (Opened (open_row p.0 p.1.0 p.1.1.0 p.1.1.1.0))) l)
+    (λ p. row_text format (Opened (open_row p.0 p.1.0 p.1.1.0 p.1.1.1.0))) l)
   where
-    by_seek : Sought (Below (2 ^ 32) (Below (2 ^ 32) (Below (2 ^ 32) (Below (2 ^ 32) FitsLast)))) (λ p. row_words format (Opened (open_row p.0 p.1.0 p.1.1.0 p.1.1.1.0))) l → Kind format Opened l
+    by_seek : Sought (Below (2 ^ 32) (Below (2 ^ 32) (Below (2 ^ 32) (Below (2 ^ 32) FitsLast)))) (λ p. row_text format (Opened (open_row p.0 p.1.0 p.1.1.0 p.1.1.1.0))) l → Kind format Opened l
     by_seek (inl q) = let p = q.0 in let fits = q.1 in inl ((open_row p.0 p.1.0 p.1.1.0 p.1.1.1.0), (fits.0, fits.1.0, fits.1.1.0, fits.1.1.1.0), q.2)
     by_seek (inr none) = inr (λ r fit e. none (r.seam.0, (r.mem.0, (r.opened.0, (r.failed.0, tt)))) (fit.0, (fit.1, (fit.2, (fit.3, tt)))) e)
 
 closed_kind : (format : ℕ) (l : List ℕ) → Kind format Closed l
 closed_kind format l = by_seek ((seek_number (2 ^ 32) (Below (2 ^ 32) (Below (2 ^ 32) FitsLast))
-    (seek_number (2 ^ 32) (Below (2 ^ 32) FitsLast) (seek_number (2 ^ 32) FitsLast seek_last))) (λ p. row_words format (Closed (at_row p.0 p.1.0 p.1.1.0))) l)
+    (seek_number (2 ^ 32) (Below (2 ^ 32) FitsLast) (seek_number (2 ^ 32) FitsLast seek_last))) (λ p. row_text format (Closed (at_row p.0 p.1.0 p.1.1.0))) l)
   where
-    by_seek : Sought (Below (2 ^ 32) (Below (2 ^ 32) (Below (2 ^ 32) FitsLast))) (λ p. row_words format (Closed (at_row p.0 p.1.0 p.1.1.0))) l → Kind format Closed l
+    by_seek : Sought (Below (2 ^ 32) (Below (2 ^ 32) (Below (2 ^ 32) FitsLast))) (λ p. row_text format (Closed (at_row p.0 p.1.0 p.1.1.0))) l → Kind format Closed l
     by_seek (inl q) = let p = q.0 in let fits = q.1 in inl ((at_row p.0 p.1.0 p.1.1.0), (fits.0, fits.1.0, fits.1.1.0), q.2)
     by_seek (inr none) = inr (λ r fit e. none (r.seam.0, (r.mem.0, (r.after.0, tt))) (fit.0, (fit.1, (fit.2, tt))) e)
 
 into_kind : (format : ℕ) (l : List ℕ) → Kind format Into l
 into_kind format l = by_seek ((seek_number (2 ^ 32) (Either (Below (2 ^ 32) (Below (2 ^ 32) FitsLast)))
     (seek_mode (Below (2 ^ 32) (Below (2 ^ 32) FitsLast)) (seek_number (2 ^ 32) (Below (2 ^ 32) FitsLast) (seek_number (2 ^ 32) FitsLast seek_last))))
-    (λ p. row_words format (Into (into_row p.0 p.1.0 p.1.1.0 p.1.1.1.0))) l)
+    (λ p. row_text format (Into (into_row p.0 p.1.0 p.1.1.0 p.1.1.1.0))) l)
   where
-    by_seek : Sought (Below (2 ^ 32) (Either (Below (2 ^ 32) (Below (2 ^ 32) FitsLast)))) (λ p. row_words format (Into (into_row p.0 p.1.0 p.1.1.0 p.1.1.1.0))) l → Kind format Into l
+    by_seek : Sought (Below (2 ^ 32) (Either (Below (2 ^ 32) (Below (2 ^ 32) FitsLast)))) (λ p. row_text format (Into (into_row p.0 p.1.0 p.1.1.0 p.1.1.1.0))) l → Kind format Into l
     by_seek (inl q) = let p = q.0 in let fits = q.1 in inl ((into_row p.0 p.1.0 p.1.1.0 p.1.1.1.0), (fits.0, fits.1.0, fits.1.1.0), q.2)
     by_seek (inr none) = inr (λ r fit e. none (r.seam.0, (r.split, (r.mem.0, (r.callee.0, tt)))) (fit.0, (fit.1, (fit.2, tt))) e)
 
@@ -157,10 +157,10 @@ back_kind : (format : ℕ) (l : List ℕ) → Kind format Back l
 back_kind format l = by_seek ((seek_number (2 ^ 32) (Either (Below (2 ^ 32) (Below (2 ^ 16) (Below (2 ^ 32) FitsLast))))
     (seek_mode (Below (2 ^ 32) (Below (2 ^ 16) (Below (2 ^ 32) FitsLast)))
     (seek_number (2 ^ 32) (Below (2 ^ 16) (Below (2 ^ 32) FitsLast)) (seek_number (2 ^ 16) (Below (2 ^ 32) FitsLast) (seek_number (2 ^ 32) FitsLast seek_last)))))
-    (λ p. row_words format (Back (back_row p.0 p.1.0 p.1.1.0 p.1.1.1.0 p.1.1.1.1.0))) l)
+    (λ p. row_text format (Back (back_row p.0 p.1.0 p.1.1.0 p.1.1.1.0 p.1.1.1.1.0))) l)
   where
     by_seek : Sought (Below (2 ^ 32) (Either (Below (2 ^ 32) (Below (2 ^ 16) (Below (2 ^ 32) FitsLast)))))
-        (λ p. row_words format (Back (back_row p.0 p.1.0 p.1.1.0 p.1.1.1.0 p.1.1.1.1.0))) l → Kind format Back l
+        (λ p. row_text format (Back (back_row p.0 p.1.0 p.1.1.0 p.1.1.1.0 p.1.1.1.1.0))) l → Kind format Back l
     by_seek (inl q) = let p = q.0 in let fits = q.1 in inl ((back_row p.0 p.1.0 p.1.1.0 p.1.1.1.0 p.1.1.1.1.0), (fits.0, fits.1.0, fits.1.1.0, fits.1.1.1.0), q.2)
     by_seek (inr none) = inr (λ r fit e. none (r.seam.0, (r.split, (r.mem.0, (r.exit.0, (r.after.0, tt))))) (fit.0, (fit.1, (fit.2, (fit.3, tt)))) e)
 
@@ -170,9 +170,9 @@ memory_row p = Memory p.0 p.1
 memory_of : (format size : ℕ) (l : List ℕ) → ((set : ℕ) → IsBelow size set → IsSetIn format set) → ((set : ℕ) → IsSetIn format set → IsBelow size set) → Kind format memory_row l
 memory_of format size l here there =
     by_seek (seek_number (2 ^ 32) (Below (2 ^ 16) (Below (2 ^ size) FitsLast)) (seek_number (2 ^ 16) (Below (2 ^ size) FitsLast) (seek_number (2 ^ size) FitsLast seek_last))
-    (λ p. row_words format (Memory p.0 (state_of p.1.0, p.1.1.0))) l)
+    (λ p. row_text format (Memory p.0 (state_of p.1.0, p.1.1.0))) l)
   where
-    by_seek : Sought (Below (2 ^ 32) (Below (2 ^ 16) (Below (2 ^ size) FitsLast))) (λ p. row_words format (Memory p.0 (state_of p.1.0, p.1.1.0))) l → Kind format memory_row l
+    by_seek : Sought (Below (2 ^ 32) (Below (2 ^ 16) (Below (2 ^ size) FitsLast))) (λ p. row_text format (Memory p.0 (state_of p.1.0, p.1.1.0))) l → Kind format memory_row l
     by_seek (inl q) = let p = q.0 in let fits = q.1 in inl ((p.0, (state_of p.1.0, p.1.1.0)), (fits.0, fits.1.0, here p.1.1.0 (IsBelow_from_lt size p.1.1.0 fits.1.1.0)), q.2)
     by_seek (inr none) = inr (λ r fit e. none (r.0, (r.1.0.0, (r.1.1, tt))) (fit.0, (fit.1, (IsBelow-lt size r.1.1 (there r.1.1 fit.2), tt))) e)
 
@@ -184,14 +184,14 @@ memory_kind format l = by_format (eqb format 2) refl
     by_format false is = memory_of format 512 l (λ set h. rw is h) (λ set h. rw is at h)
 
 abbrev HasRow : (format : ℕ) → List ℕ → Type 0
-HasRow format l = (row : Row) × Fits format row × (row_words format row ≡ l)
+HasRow format l = (row : Row) × Fits format row × (row_text format row ≡ l)
 
-row_sought : (format : ℕ) (l : List ℕ) → HasRow format l ⊎ ((row : Row) → Fits format row → row_words format row ≢ l)
+row_sought : (format : ℕ) (l : List ℕ) → HasRow format l ⊎ ((row : Row) → Fits format row → row_text format row ≢ l)
 row_sought format l = by_memory (memory_kind format l) (live_kind format l) (try_kind format l) (at_kind format l) (opened_kind format l) (closed_kind format l) (into_kind format l)
     (back_kind format l)
   where
     by_memory : Kind format memory_row l → Kind format Live l → Kind format Try l → Kind format At l → Kind format Opened l → Kind format Closed l → Kind format Into l
-        → Kind format Back l → HasRow format l ⊎ ((row : Row) → Fits format row → row_words format row ≢ l)
+        → Kind format Back l → HasRow format l ⊎ ((row : Row) → Fits format row → row_text format row ≢ l)
     by_memory (inl p) a b c d e f g = inl (Memory p.0.0 p.0.1, p.1, p.2)
     by_memory (inr m) (inl p) b c d e f g = inl (Live p.0, p.1, p.2)
     by_memory (inr m) (inr a) (inl p) c d e f g = inl (Try p.0, p.1, p.2)
@@ -202,7 +202,7 @@ row_sought format l = by_memory (memory_kind format l) (live_kind format l) (try
     by_memory (inr m) (inr a) (inr b) (inr c) (inr d) (inr e) (inr f) (inl p) = inl (Back p.0, p.1, p.2)
     by_memory (inr m) (inr a) (inr b) (inr c) (inr d) (inr e) (inr f) (inr g) = inr by_row
       where
-        by_row : (row : Row) → Fits format row → row_words format row ≢ l
+        by_row : (row : Row) → Fits format row → row_text format row ≢ l
         by_row (Memory n x) fits is = m (n, x) fits is
         by_row (Live r) fits is = a r fits is
         by_row (Try r) fits is = b r fits is
@@ -249,7 +249,7 @@ rows_end : (format : ℕ) (fuel : ℕ) (text : List ℕ) (old t : Table) (rest :
 rows_end format zero text old t rest short s = absurd (omega (arith, short))
 rows_end format (suc fuel) text old t rest short s = by_line (λ u left low so. rows_end format fuel text old u left low so) (first_line rest)
   where
-    by_room : Again fuel format text old → (l after : List ℕ) (row : Row) → rest ≡ l ++ (10 ∷ after) → IsFree 10 l → Fits format row → row_words format row ≡ l → is_next t row ≡ true
+    by_room : Again fuel format text old → (l after : List ℕ) (row : Row) → rest ≡ l ++ (10 ∷ after) → IsFree 10 l → Fits format row → row_text format row ≡ l → is_next t row ≡ true
         → (length (rows_of t) ≡ 65536) ⊎ (length (rows_of t) ≢ 65536) → Outcome format text old
     by_room again l after row cut free fits is next (inl full) =
         fails format text old t rest (Limit (length (rows_of t) + 4)) s (λ e. absurd (cc)) (refl, l, row, goes_on rest l after free cut, fits, is, next, full)
@@ -262,14 +262,14 @@ rows_end format (suc fuel) text old t rest short s = by_line (λ u left low so. 
           start = same_start t row ∙ s.start;
         })
 
-    by_next : Again fuel format text old → (l after : List ℕ) (row : Row) → rest ≡ l ++ (10 ∷ after) → IsFree 10 l → Fits format row → row_words format row ≡ l → (b : Bool)
+    by_next : Again fuel format text old → (l after : List ℕ) (row : Row) → rest ≡ l ++ (10 ∷ after) → IsFree 10 l → Fits format row → row_text format row ≡ l → (b : Bool)
         → is_next t row ≡ b → Outcome format text old
     by_next again l after row cut free fits is true next = by_room again l after row cut free fits is next (cases_eq (length (rows_of t)) 65536)
     by_next again l after row cut free fits is false next =
         fails format text old t rest (Order (length (rows_of t) + 4)) s (λ e. absurd (cc)) (refl, l, row, goes_on rest l after free cut, fits, is, next)
 
     by_row : Again fuel format text old → (l after : List ℕ) → rest ≡ l ++ (10 ∷ after) → IsFree 10 l → l ≢ done
-        → HasRow format l ⊎ ((row : Row) → Fits format row → row_words format row ≢ l) → Outcome format text old
+        → HasRow format l ⊎ ((row : Row) → Fits format row → row_text format row ≢ l) → Outcome format text old
     by_row again l after cut free differs (inl h) = by_next again l after h.0 cut free h.1 h.2 (is_next t h.0) refl
     by_row again l after cut free differs (inr none) =
         fails format text old t rest (Line (length (rows_of t) + 4)) s (λ e. absurd (cc))
@@ -321,17 +321,17 @@ behind_head policy text rest states start head is =
 pub some_answer : (policy : PlainPolicy) (text : List ℕ) → SomeAnswer policy text
 some_answer policy text = by_header (begins_or_not (codes "#include \"capweave.h\"\n") text)
   where
-    by_words : (first rest l after : List ℕ) → text ≡ codes "#include \"capweave.h\"\n" ++ first → first ≡ limits_line policy ++ rest → rest ≡ l ++ (10 ∷ after) → IsFree 10 l
-        → Sought (Below (2 ^ 16) (Below (2 ^ 32) FitsLast)) (λ p. table_words policy.format p.0 (mem_of p.1.0)) l → SomeAnswer policy text
-    by_words first rest l after is limits cut free (inl h) =
+    by_fields : (first rest l after : List ℕ) → text ≡ codes "#include \"capweave.h\"\n" ++ first → first ≡ limits_line policy ++ rest → rest ≡ l ++ (10 ∷ after) → IsFree 10 l
+        → Sought (Below (2 ^ 16) (Below (2 ^ 32) FitsLast)) (λ p. table_text policy.format p.0 (mem_of p.1.0)) l → SomeAnswer policy text
+    by_fields first rest l after is limits cut free (inl h) =
         behind_head policy text after h.0.0 (mem_of h.0.1.0) (h.1.0, h.1.1.0) (head_is policy text first rest l after h.0.0 (mem_of h.0.1.0) is limits cut h.2)
-    by_words first rest l after is limits cut free (inr none) =
+    by_fields first rest l after is limits cut free (inr none) =
         inr (Line 3, fault_3_misspelled policy text first rest l after is limits cut free (λ head fits e. none (head.0, (head.1.0, tt)) (fits.0, (fits.1, tt)) e))
 
     by_line : (first rest : List ℕ) → text ≡ codes "#include \"capweave.h\"\n" ++ first → first ≡ limits_line policy ++ rest
         → ((l : List ℕ) × (after : List ℕ) × (rest ≡ l ++ (10 ∷ after)) × IsFree 10 l) ⊎ IsFree 10 rest → SomeAnswer policy text
     by_line first rest is limits (inl p) =
-        by_words first rest p.0 p.1 is limits p.2 p.3 (seek_number (2 ^ 16) (Below (2 ^ 32) FitsLast) (seek_number (2 ^ 32) FitsLast seek_last) (λ p. table_words policy.format p.0 (mem_of p.1.0)) p.0)
+        by_fields first rest p.0 p.1 is limits p.2 p.3 (seek_number (2 ^ 16) (Below (2 ^ 32) FitsLast) (seek_number (2 ^ 32) FitsLast seek_last) (λ p. table_text policy.format p.0 (mem_of p.1.0)) p.0)
     by_line first rest is limits (inr free) = inr (Line 3, fault_3_missing policy text first rest is limits free)
 
     by_limits : (first : List ℕ) → text ≡ codes "#include \"capweave.h\"\n" ++ first

@@ -17,7 +17,7 @@ use Rattle.cw_text.specs.declared.fault.TextFault.{TextFault}
 use Rattle.cw_text.specs.declared.fault.TextFault.TheVariants.{Line, Order, Limit, NoMemory}
 use Rattle.cw_table_text.specs.declared.row.Row.{Row}
 use Rattle.cw_table_text.specs.declared.row.Row.TheVariants.{Memory, Live, Try, At, Opened, Closed, Into, Back}
-use Rattle.cw_table_text.specs.Rows.{rows_of, row_words}
+use Rattle.cw_table_text.specs.Rows.{rows_of, row_text}
 use Rattle.cw_table_text.specs.TablesText.{head_lines, tables_lines, tables_text, text_of, done}
 
 -- Numbers that their fields can hold: 32 bits, a state 16, a stage 8.
@@ -85,7 +85,7 @@ Begins policy lines = (t : Table) × (rest : List (List ℕ)) × IsTable policy.
 
 -- the lines of the head, and then those of rows
 abbrev pub HasRows : PlainPolicy → List (List ℕ) → List Row → Type 0
-HasRows policy lines rows = (states : ℕ) × (start : MemId) × (lines ≡ head_lines policy states start ++ map (row_words policy.format) rows)
+HasRows policy lines rows = (states : ℕ) × (start : MemId) × (lines ≡ head_lines policy states start ++ map (row_text policy.format) rows)
 
 -- A line is of the form that is due after these: the next of the head; and where rows may come CW_DONE or a row, of
 -- whatever kind, number and key.
@@ -93,7 +93,7 @@ abbrev pub IsHead : PlainPolicy → List (List ℕ) → List ℕ → Type 0
 IsHead policy before l = (states : ℕ) × (start : MemId) × (rest : List (List ℕ)) × (states < 2 ^ 16) × IsMem start × (head_lines policy states start ≡ before ++ l ∷ rest)
 
 abbrev pub IsRow : PlainPolicy → List (List ℕ) → List ℕ → Row → Type 0
-IsRow policy before l row = (rows : List Row) × HasRows policy before rows × Fits policy.format row × (l ≡ row_words policy.format row)
+IsRow policy before l row = (rows : List Row) × HasRows policy before rows × Fits policy.format row × (l ≡ row_text policy.format row)
 
 abbrev pub IsDone : PlainPolicy → List (List ℕ) → List ℕ → Type 0
 IsDone policy before l = (rows : List Row) × HasRows policy before rows × (l ≡ done)

@@ -55,5 +55,5 @@ abbrev pub called : List ℕ → List (List ℕ) → List ℕ
 called name fields = name ++ (codes "(" ++ (joined 44 fields ++ codes ")"))
 
 -- a row's line, without its LF
-unfoldable pub row_words : (format : ℕ) → Row → List ℕ
-row_words format row = called (name_of row) (fields_of format row)
+unfoldable pub row_text : (format : ℕ) → Row → List ℕ
+row_text format row = called (name_of row) (fields_of format row)

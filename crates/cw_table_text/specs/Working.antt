@@ -13,7 +13,7 @@ use Rattle.cw_text.specs.Lines.{line, IsFree}
 use Rattle.cw_text.specs.declared.fault.TextFault.{TextFault}
 use Rattle.cw_text.specs.declared.fault.TextFault.TheVariants.{Line, Order, Limit, NoMemory}
 use Rattle.cw_table_text.specs.Grammar.{Fits, IsMem, GoesOn, Answers}
-use Rattle.cw_table_text.specs.Rows.{name_of, fields_of, row_words, rows_of}
+use Rattle.cw_table_text.specs.Rows.{name_of, fields_of, row_text, rows_of}
 use Rattle.cw_table_text.specs.TablesText.{head_lines, text_of, done}
 use Rattle.cw_table_text.specs.declared.draft.Draft.{Draft}
 use Rattle.cw_table_text.specs.declared.rows.Next.{Next}
@@ -68,7 +68,7 @@ with_row t (Closed r) = record t { closed = t.closed ++ r ∷ [] }
 with_row t (Into r) = record t { into = t.into ++ r ∷ [] }
 with_row t (Back r) = record t { back = t.back ++ r ∷ [] }
 
--- the value whose fields stand first among the words, with what is left; none where no value's do that fits
+-- the value whose fields stand first among these, with what is left; none where no value's do that fits
 pub record TakesRow {A : Type 0} (Fitting : A → Type 0) (fields : A → List (List ℕ)) (old new : List (List ℕ)) (result : Option A) : Type 0 where
   pub some : IfSome result (λ value. Fitting value × (old ≡ fields value ++ new))
   pub none : IfNone result ((value : A) (rest : List (List ℕ)) → Fitting value → old ≢ fields value ++ rest)
@@ -93,7 +93,7 @@ head_fields format p = decimal format ∷ decimal p.0 ∷ decimal p.1.0 ∷ []
 
 -- the lines of rows, without their LF
 abbrev pub row_lines : (format : ℕ) → List Row → List (List ℕ)
-row_lines format rows = map (row_words format) rows
+row_lines format rows = map (row_text format) rows
 
 -- the rows so far: each fits, the lists ascend, and they are at most 65,536
 pub record IsGood (format : ℕ) (t : Table) : Type 0 where
@@ -103,10 +103,10 @@ pub record IsGood (format : ℕ) (t : Table) : Type 0 where
 
 -- what is wrong behind the rows so far
 abbrev pub IsWrongRow : (format : ℕ) → Table → List ℕ → TextFault → Type 0
-IsWrongRow format t rest (Line n) = (n ≡ length (rows_of t) + 4) × ((l : List ℕ) → GoesOn rest l → (l ≢ done) × ((row : Row) → Fits format row → row_words format row ≢ l))
-IsWrongRow format t rest (Order n) = (n ≡ length (rows_of t) + 4) × (l : List ℕ) × (row : Row) × GoesOn rest l × Fits format row × (row_words format row ≡ l) × (is_next t row ≡ false)
+IsWrongRow format t rest (Line n) = (n ≡ length (rows_of t) + 4) × ((l : List ℕ) → GoesOn rest l → (l ≢ done) × ((row : Row) → Fits format row → row_text format row ≢ l))
+IsWrongRow format t rest (Order n) = (n ≡ length (rows_of t) + 4) × (l : List ℕ) × (row : Row) × GoesOn rest l × Fits format row × (row_text format row ≡ l) × (is_next t row ≡ false)
 IsWrongRow format t rest (Limit n) = (n ≡ length (rows_of t) + 4) × (l : List ℕ) × (row : Row) × GoesOn rest l × Fits format
-    row × (row_words format row ≡ l) × (is_next t row ≡ true) × (length (rows_of t) ≡ 65536)
+    row × (row_text format row ≡ l) × (is_next t row ≡ true) × (length (rows_of t) ≡ 65536)
 IsWrongRow format t rest NoMemory = Unit {0}
 
 -- the line that comes next: CW_DONE, a row that is the next, or what is wrong
@@ -114,7 +114,7 @@ abbrev pub IsDoneLine : List ℕ → List ℕ → Type 0
 IsDoneLine rest after = rest ≡ line done ++ after
 
 pub record IsRowLine (format : ℕ) (t : Table) (rest : List ℕ) (row : Row) (after : List ℕ) : Type 0 where
-  pub is : rest ≡ line (row_words format row) ++ after
+  pub is : rest ≡ line (row_text format row) ++ after
   pub fits : Fits format row
   pub next : is_next t row ≡ true
   pub few : length (rows_of t) ≢ 65536

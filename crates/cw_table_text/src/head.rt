@@ -4,7 +4,7 @@ ghost use Rattle.std.specs.Prelude.{◌≡◌, IfOk};
 ghost use Rattle.cw_rights.specs.Policies.{policy_of};
 ghost use Rattle.cw_text.specs.Lines.{line, Reads};
 ghost use Rattle.cw_text.specs.LimitsText.{limits_line};
-ghost use Rattle.cw_table_text.specs.TablesText.{table_words};
+ghost use Rattle.cw_table_text.specs.TablesText.{table_text};
 ghost use Rattle.cw_table_text.specs.Working.{head_fields, table_of, FitsHead, HeadRead, TakesRow, seen};
 
 use crate::draft::Draft;
@@ -13,7 +13,7 @@ use crate::line::name_and_inner;
 use cw_core::{MemId, NoMemory};
 use cw_io::{SureSink, Writer};
 use cw_rights::Policy;
-use cw_text::{TextFault, Words, behind, is_same, next_line, put_limits};
+use cw_text::{Fields, TextFault, behind, is_same, next_line, put_limits};
 use std::alloc::Global;
 
 /// The line of a policy's limits, with its LF, put into a sink in memory.
@@ -30,29 +30,29 @@ fn limits_of(alloc: Global, policy: &Policy) -> Result<SureSink, NoMemory>
 }
 
 /// The fields of the table's own line, for a policy of this format.
-fn take_head(words: &mut Words, format: u8) -> Option<(u16, MemId)>
-    ensures { TakesRow FitsHead (head_fields format) words.old words.new result }
+fn take_head(fields: &mut Fields, format: u8) -> Option<(u16, MemId)>
+    ensures { TakesRow FitsHead (head_fields format) fields.old fields.new result }
 {
-    let version = words.take_u8()?;
+    let version = fields.take_u8()?;
     if version != format {
         return None;
     }
-    let states = words.take_u16()?;
-    let start = take_mem(words)?;
+    let states = fields.take_u16()?;
+    let start = take_mem(fields)?;
     Some((states, start))
 }
 
 /// How many states a table has, and its start, by its own line.
 fn read_table_line(line: &[u8], format: u8) -> Option<(u16, MemId)>
-    ensures { Reads FitsHead (λ head. table_words format head.0 head.1) line.now result }
+    ensures { Reads FitsHead (λ head. table_text format head.0 head.1) line.now result }
 {
     let (name, inner) = name_and_inner(line)?;
     if !is_same(name, b"CW_TABLE") {
         return None;
     }
-    let mut words = Words::of(inner, b',');
-    let head = take_head(&mut words, format)?;
-    if !words.is_done() {
+    let mut fields = Fields::of(inner, b',');
+    let head = take_head(&mut fields, format)?;
+    if !fields.is_done() {
         return None;
     }
     Some(head)

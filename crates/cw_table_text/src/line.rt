@@ -3,14 +3,14 @@
 ghost use Rattle.std.specs.Prelude.{codes, option_map};
 ghost use Rattle.cw_text.specs.Lines.{Reads};
 ghost use Rattle.cw_table_text.specs.Grammar.{Fits};
-ghost use Rattle.cw_table_text.specs.Rows.{row_words};
+ghost use Rattle.cw_table_text.specs.Rows.{row_text};
 ghost use Rattle.cw_table_text.specs.Working.{IsCalled, TakesNamed};
 
 use crate::fields::{
     take_after, take_back, take_into, take_live, take_memory, take_opened, take_try,
 };
 use crate::row::Row;
-use cw_text::{Words, cut};
+use cw_text::{Fields, cut};
 
 /// The name before the first `(` of a line, and what stands between that and a `)` at its end.
 pub(crate) fn name_and_inner(line: &[u8]) -> Option<(&[u8], &[u8])>
@@ -24,102 +24,102 @@ pub(crate) fn name_and_inner(line: &[u8]) -> Option<(&[u8], &[u8])>
     Some((name, inner))
 }
 
-/// The row whose fields stand first among the words.
-fn take_row(name: &[u8], words: &mut Words, format: u8) -> Option<Row>
-    ensures { TakesNamed format name.now words.old words.new result }
+/// The row whose fields stand first among these.
+fn take_row(name: &[u8], fields: &mut Fields, format: u8) -> Option<Row>
+    ensures { TakesNamed format name.now fields.old fields.new result }
 {
     if name == b"CW_MEM".as_slice() {
-        return memory_row(words, format);
+        return memory_row(fields, format);
     }
     if name == b"CW_LIVE".as_slice() {
-        return live_row(words, format);
+        return live_row(fields, format);
     }
     if name == b"CW_TRY".as_slice() {
-        return try_row(words, format);
+        return try_row(fields, format);
     }
     if name == b"CW_AT".as_slice() {
-        return at_row(words, format);
+        return at_row(fields, format);
     }
     if name == b"CW_OPENED".as_slice() {
-        return opened_row(words, format);
+        return opened_row(fields, format);
     }
     if name == b"CW_CLOSED".as_slice() {
-        return closed_row(words, format);
+        return closed_row(fields, format);
     }
     if name == b"CW_INTO".as_slice() {
-        return into_row(words, format);
+        return into_row(fields, format);
     }
     if name == b"CW_BACK".as_slice() {
-        return back_row(words, format);
+        return back_row(fields, format);
     }
     None
 }
 
 /// A row of `CW_MEM` behind its name.
-fn memory_row(words: &mut Words, format: u8) -> Option<Row>
-    ensures { TakesNamed format (codes "CW_MEM") words.old words.new result }
+fn memory_row(fields: &mut Fields, format: u8) -> Option<Row>
+    ensures { TakesNamed format (codes "CW_MEM") fields.old fields.new result }
 {
-    let (number, memory) = take_memory(words, format)?;
+    let (number, memory) = take_memory(fields, format)?;
     Some(Row::Memory(number, memory))
 }
 
 /// A row of `CW_LIVE` behind its name.
-fn live_row(words: &mut Words, _format: u8) -> Option<Row>
-    ensures { TakesNamed _format (codes "CW_LIVE") words.old words.new result }
+fn live_row(fields: &mut Fields, _format: u8) -> Option<Row>
+    ensures { TakesNamed _format (codes "CW_LIVE") fields.old fields.new result }
 {
-    Some(Row::Live(take_live(words)?))
+    Some(Row::Live(take_live(fields)?))
 }
 
 /// A row of `CW_TRY` behind its name.
-fn try_row(words: &mut Words, _format: u8) -> Option<Row>
-    ensures { TakesNamed _format (codes "CW_TRY") words.old words.new result }
+fn try_row(fields: &mut Fields, _format: u8) -> Option<Row>
+    ensures { TakesNamed _format (codes "CW_TRY") fields.old fields.new result }
 {
-    Some(Row::Try(take_try(words)?))
+    Some(Row::Try(take_try(fields)?))
 }
 
 /// A row of `CW_AT` behind its name.
-fn at_row(words: &mut Words, _format: u8) -> Option<Row>
-    ensures { TakesNamed _format (codes "CW_AT") words.old words.new result }
+fn at_row(fields: &mut Fields, _format: u8) -> Option<Row>
+    ensures { TakesNamed _format (codes "CW_AT") fields.old fields.new result }
 {
-    Some(Row::At(take_after(words)?))
+    Some(Row::At(take_after(fields)?))
 }
 
 /// A row of `CW_OPENED` behind its name.
-fn opened_row(words: &mut Words, _format: u8) -> Option<Row>
-    ensures { TakesNamed _format (codes "CW_OPENED") words.old words.new result }
+fn opened_row(fields: &mut Fields, _format: u8) -> Option<Row>
+    ensures { TakesNamed _format (codes "CW_OPENED") fields.old fields.new result }
 {
-    Some(Row::Opened(take_opened(words)?))
+    Some(Row::Opened(take_opened(fields)?))
 }
 
 /// A row of `CW_CLOSED` behind its name.
-fn closed_row(words: &mut Words, _format: u8) -> Option<Row>
-    ensures { TakesNamed _format (codes "CW_CLOSED") words.old words.new result }
+fn closed_row(fields: &mut Fields, _format: u8) -> Option<Row>
+    ensures { TakesNamed _format (codes "CW_CLOSED") fields.old fields.new result }
 {
-    Some(Row::Closed(take_after(words)?))
+    Some(Row::Closed(take_after(fields)?))
 }
 
 /// A row of `CW_INTO` behind its name.
-fn into_row(words: &mut Words, _format: u8) -> Option<Row>
-    ensures { TakesNamed _format (codes "CW_INTO") words.old words.new result }
+fn into_row(fields: &mut Fields, _format: u8) -> Option<Row>
+    ensures { TakesNamed _format (codes "CW_INTO") fields.old fields.new result }
 {
-    Some(Row::Into(take_into(words)?))
+    Some(Row::Into(take_into(fields)?))
 }
 
 /// A row of `CW_BACK` behind its name.
-fn back_row(words: &mut Words, _format: u8) -> Option<Row>
-    ensures { TakesNamed _format (codes "CW_BACK") words.old words.new result }
+fn back_row(fields: &mut Fields, _format: u8) -> Option<Row>
+    ensures { TakesNamed _format (codes "CW_BACK") fields.old fields.new result }
 {
-    Some(Row::Back(take_back(words)?))
+    Some(Row::Back(take_back(fields)?))
 }
 
 /// The row of a line; none where the line is that of no row.
 pub(crate) fn read_row(line: &[u8], format: u8) -> Option<Row>
-    ensures { Reads (Fits format) (row_words format) line.now result }
+    ensures { Reads (Fits format) (row_text format) line.now result }
 {
     let (name, inner) = name_and_inner(line)?;
-    let mut words = Words::of(inner, b',');
-    let row = take_row(name, &mut words, format)?;
-    if !words.is_done() {
+    let mut fields = Fields::of(inner, b',');
+    let row = take_row(name, &mut fields, format)?;
+    if !fields.is_done() {
         return None;
     }
     Some(row)

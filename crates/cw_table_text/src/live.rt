@@ -14,16 +14,16 @@ use crate::rows::MOST_ROWS;
 use cw_core::{MemId, PosId, read_dec};
 use cw_text::behind;
 
-/// The number of 32 bits with which a text begins, before a mark, and what stands behind the mark.
-fn number_before(text: &[u8], mark: u8) -> Option<(u32, &[u8])>
-    ensures { IfSome result (λ (number, rest). (number < 2 ^ 32) × (text.now ≡ decimal number ++ (mark ∷ rest.now))) }
+/// The number of 32 bits with which a text begins, before a separator, and what stands behind the separator.
+fn number_before(text: &[u8], separator: u8) -> Option<(u32, &[u8])>
+    ensures { IfSome result (λ (number, rest). (number < 2 ^ 32) × (text.now ≡ decimal number ++ (separator ∷ rest.now))) }
 {
     let (number, end) = read_dec(text, 0)?;
     if number > u64::from(u32::MAX) {
         return None;
     }
     let (first, rest) = text[end..].split_first()?;
-    if *first != mark {
+    if *first != separator {
         return None;
     }
     Some((number as u32, rest))

@@ -10,7 +10,7 @@ ghost use Rattle.cw_rights.specs.Policies.{policy_of};
 ghost use Rattle.cw_text.specs.Lines.{line};
 ghost use Rattle.cw_text.specs.TableText.{answer, mode, live_fields, try_fields, after_fields, opened_fields, into_fields, back_fields};
 ghost use Rattle.cw_table_text.specs.Rows.{called, memories, memory_fields};
-ghost use Rattle.cw_table_text.specs.TablesText.{table_words, tables_text, text_of};
+ghost use Rattle.cw_table_text.specs.TablesText.{table_text, tables_text, text_of};
 ghost use Rattle.cw_table_text.specs.Working.{row_lines};
 
 use cw_certs::{AtRow, BackRow, IntoRow, OpenRow, TryRow, WeaverCert};
@@ -19,25 +19,25 @@ use cw_io::{Sink, SinkFault, Writer};
 use cw_rights::Policy;
 use cw_text::{put_limits, put_set};
 
-/// Appends a number and a mark.
-fn put_number<S: Sink>(number: u64, mark: u8, writer: &mut Writer<S>, out: &mut S)
+/// Appends a number and a separator.
+fn put_number<S: Sink>(number: u64, separator: u8, writer: &mut Writer<S>, out: &mut S)
     requires follows { Follows S.taken S.faults S.refused writer.old out.old }
-    ensures text { writer.new.text ≡ writer.old.text ++ (decimal number ++ mark ∷ []) }
+    ensures text { writer.new.text ≡ writer.old.text ++ (decimal number ++ separator ∷ []) }
     ensures begun { writer.new.begun ≡ writer.old.begun }
     ensures follows { Follows S.taken S.faults S.refused writer.new out.new }
 {
     writer.put_number(number, out);
-    writer.put(&[mark], out);
+    writer.put(&[separator], out);
 }
 
-/// Appends a number of 32 bits and a mark.
-fn put_field<S: Sink>(number: u32, mark: u8, writer: &mut Writer<S>, out: &mut S)
+/// Appends a number of 32 bits and a separator.
+fn put_field<S: Sink>(number: u32, separator: u8, writer: &mut Writer<S>, out: &mut S)
     requires follows { Follows S.taken S.faults S.refused writer.old out.old }
-    ensures text { writer.new.text ≡ writer.old.text ++ (decimal number ++ mark ∷ []) }
+    ensures text { writer.new.text ≡ writer.old.text ++ (decimal number ++ separator ∷ []) }
     ensures begun { writer.new.begun ≡ writer.old.begun }
     ensures follows { Follows S.taken S.faults S.refused writer.new out.new }
 {
-    put_number(u64::from(number), mark, writer, out);
+    put_number(u64::from(number), separator, writer, out);
 }
 
 /// Appends a memory, or `CW_NONE` for an answer that never comes.
@@ -53,25 +53,25 @@ fn put_memory_or_none<S: Sink>(after: Option<MemId>, writer: &mut Writer<S>, out
     }
 }
 
-/// Appends a memory, or `CW_NONE` for an answer that never comes, and a mark.
-fn put_answer<S: Sink>(after: Option<MemId>, mark: u8, writer: &mut Writer<S>, out: &mut S)
+/// Appends a memory, or `CW_NONE` for an answer that never comes, and a separator.
+fn put_answer<S: Sink>(after: Option<MemId>, separator: u8, writer: &mut Writer<S>, out: &mut S)
     requires follows { Follows S.taken S.faults S.refused writer.old out.old }
-    ensures text { writer.new.text ≡ writer.old.text ++ (answer after ++ mark ∷ []) }
+    ensures text { writer.new.text ≡ writer.old.text ++ (answer after ++ separator ∷ []) }
     ensures begun { writer.new.begun ≡ writer.old.begun }
     ensures follows { Follows S.taken S.faults S.refused writer.new out.new }
 {
     put_memory_or_none(after, writer, out);
-    writer.put(&[mark], out);
+    writer.put(&[separator], out);
 }
 
-/// Appends 1 for a split call, 0 for a plain one, and a mark.
-fn put_mode<S: Sink>(split: bool, mark: u8, writer: &mut Writer<S>, out: &mut S)
+/// Appends 1 for a split call, 0 for a plain one, and a separator.
+fn put_mode<S: Sink>(split: bool, separator: u8, writer: &mut Writer<S>, out: &mut S)
     requires follows { Follows S.taken S.faults S.refused writer.old out.old }
-    ensures text { writer.new.text ≡ writer.old.text ++ (mode split ++ mark ∷ []) }
+    ensures text { writer.new.text ≡ writer.old.text ++ (mode split ++ separator ∷ []) }
     ensures begun { writer.new.begun ≡ writer.old.begun }
     ensures follows { Follows S.taken S.faults S.refused writer.new out.new }
 {
-    put_number(u64::from(split), mark, writer, out);
+    put_number(u64::from(split), separator, writer, out);
 }
 
 /// Appends the name of a line and `(`.
@@ -226,7 +226,7 @@ fn put_memories<S: Sink>(
 /// Appends the table's own line.
 fn put_head<S: Sink>(cert: &WeaverCert, format: u8, writer: &mut Writer<S>, out: &mut S)
     requires follows { Follows S.taken S.faults S.refused writer.old out.old }
-    ensures text { writer.new.text ≡ writer.old.text ++ line (table_words format cert.now.states cert.now.start) }
+    ensures text { writer.new.text ≡ writer.old.text ++ line (table_text format cert.now.states cert.now.start) }
     ensures begun { writer.new.begun ≡ writer.old.begun }
     ensures follows { Follows S.taken S.faults S.refused writer.new out.new }
 {

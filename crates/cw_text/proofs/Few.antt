@@ -6,7 +6,7 @@ use Rattle.std.proofs.lemmas.List.{length-map}
 use Rattle.std.proofs.lemmas.List.Sums.{length-filter, count_by-le-length}
 use Rattle.cw_certs.specs.declared.moves.Move.{Move}
 use Rattle.cw_text.specs.Moves.{move_name}
-use Rattle.cw_text.specs.Tapes.{is_white, lines, words, IsTape}
+use Rattle.cw_text.specs.Tapes.{is_white, lines, fields, IsTape}
 
 -- the bytes of these parts, and one for each
 abbrev room : List (List ℕ) → ℕ
@@ -29,12 +29,12 @@ parts_few (part ∷ parts) = omega (arith, parts_few parts)
 filter_few : (p : List ℕ → Bool) (parts : List (List ℕ)) → length (filter p parts) ≤ length parts
 filter_few p parts = omega (arith, length-filter p parts, count_by-le-length p parts)
 
-words_few : (line : List ℕ) → length (words line) ≤ length line + 1
-words_few line = omega (arith, filter_few (λ word. not (length word == 0)) (slice_split is_white line), parts_few (slice_split is_white line), room_split is_white line)
+fields_few : (line : List ℕ) → length (fields line) ≤ length line + 1
+fields_few line = omega (arith, filter_few (λ field. not (length field == 0)) (slice_split is_white line), parts_few (slice_split is_white line), room_split is_white line)
 
-all_few : (ls : List (List ℕ)) → length (flat_map words ls) ≤ room ls
+all_few : (ls : List (List ℕ)) → length (flat_map fields ls) ≤ room ls
 all_few [] = omega arith
-all_few (line ∷ ls) = omega (arith, length-append (words line) (flat_map words ls), words_few line, all_few ls)
+all_few (line ∷ ls) = omega (arith, length-append (fields line) (flat_map fields ls), fields_few line, all_few ls)
 
 pub moves_few : (play : Bool) (text : List ℕ) (moves : List Move) → IsTape play text moves → length moves ≤ length text + 1
 moves_few play text moves h = omega (arith, length-map moves move_name, ap length h.named, all_few (lines text), room_split (λ b. b == 10) text)

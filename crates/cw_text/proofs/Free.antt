@@ -1,4 +1,4 @@
--- Words without a mark.
+-- Fields without a separator.
 use Rattle.std.proofs.Common.{◌≡◌, ℕ, ◌^◌, ◌<◌, ◌&&◌, ◌||◌, Bool, true, false, cond, eqb, leb, List, [], ◌∷◌, ◌++◌, drop, refl, sym, ap, ◌∙◌, arith, subst}
 use Rattle.std.specs.Char.{is_ascii_digit}
 use Rattle.std.specs.Fmt.{decimal}
@@ -17,34 +17,34 @@ use Rattle.cw_lemmas.proofs.Lists.{all_taken as passing}
 use Rattle.std.proofs.lemmas.Bool.{and_parts as both_pass}
 use Rattle.cw_core.proofs.SetTexts.{digits_spell, letters}
 
--- bytes that pass a test are free of a mark that doesn't
-pub free_from_test : (p : ℕ → Bool) (mark : ℕ) (bytes : List ℕ) → p mark ≡ false → list_all p bytes ≡ true → IsFree mark bytes
-free_from_test p mark [] differs all = All-nil (λ (b : ℕ). eqb b mark ≡ false)
-free_from_test p mark (b ∷ bytes) differs all = All-cons (λ (x : ℕ). eqb x mark ≡ false) b bytes
-    (ne_eqb b mark (λ e. false≢true (sym differs ∙ ap p (sym e) ∙ (both_pass (p b) (list_all p bytes) all).0)))
-    (free_from_test p mark bytes differs ((both_pass (p b) (list_all p bytes) all).1))
+-- bytes that pass a test are free of a separator that doesn't
+pub free_from_test : (p : ℕ → Bool) (separator : ℕ) (bytes : List ℕ) → p separator ≡ false → list_all p bytes ≡ true → IsFree separator bytes
+free_from_test p separator [] differs all = All-nil (λ (b : ℕ). eqb b separator ≡ false)
+free_from_test p separator (b ∷ bytes) differs all = All-cons (λ (x : ℕ). eqb x separator ≡ false) b bytes
+    (ne_eqb b separator (λ e. false≢true (sym differs ∙ ap p (sym e) ∙ (both_pass (p b) (list_all p bytes) all).0)))
+    (free_from_test p separator bytes differs ((both_pass (p b) (list_all p bytes) all).1))
 
 -- two texts that begin with a line each, and are one text
-pub one_line : (mark : ℕ) (a b rest more : List ℕ) → IsFree mark a → IsFree mark b → a ++ (mark ∷ rest) ≡ b ++ (mark ∷ more) → (a ≡ b) × (rest ≡ more)
-one_line mark [] [] rest more f g e = (refl, ap tail_of e)
+pub one_line : (separator : ℕ) (a b rest more : List ℕ) → IsFree separator a → IsFree separator b → a ++ (separator ∷ rest) ≡ b ++ (separator ∷ more) → (a ≡ b) × (rest ≡ more)
+one_line separator [] [] rest more f g e = (refl, ap tail_of e)
   where
     tail_of : List ℕ → List ℕ
     tail_of [] = []
     tail_of (x ∷ xs) = xs
-one_line mark [] (y ∷ b) rest more f g e = absurd (eqb-false y mark (All-head (λ (x : ℕ). eqb x mark ≡ false) y b g) (sym (ap (λ (t : List ℕ). first_of_bytes t) e)))
+one_line separator [] (y ∷ b) rest more f g e = absurd (eqb-false y separator (All-head (λ (x : ℕ). eqb x separator ≡ false) y b g) (sym (ap (λ (t : List ℕ). first_of_bytes t) e)))
   where
     first_of_bytes : List ℕ → ℕ
     first_of_bytes [] = 0
     first_of_bytes (x ∷ xs) = x
-one_line mark (x ∷ a) [] rest more f g e = absurd (eqb-false x mark (All-head (λ (x : ℕ). eqb x mark ≡ false) x a f) (ap (λ (t : List ℕ). first_of_bytes t) e))
+one_line separator (x ∷ a) [] rest more f g e = absurd (eqb-false x separator (All-head (λ (x : ℕ). eqb x separator ≡ false) x a f) (ap (λ (t : List ℕ). first_of_bytes t) e))
   where
     first_of_bytes : List ℕ → ℕ
     first_of_bytes [] = 0
     first_of_bytes (x ∷ xs) = x
-one_line mark (x ∷ a) (y ∷ b) rest more f g e =
+one_line separator (x ∷ a) (y ∷ b) rest more f g e =
     let heads : x ≡ y = ap first_byte e in
-    let tails : a ++ (mark ∷ rest) ≡ b ++ (mark ∷ more) = ap other_bytes e in
-    let p = one_line mark a b rest more (All-tail (λ (z : ℕ). eqb z mark ≡ false) x a f) (All-tail (λ (z : ℕ). eqb z mark ≡ false) y b g) tails in
+    let tails : a ++ (separator ∷ rest) ≡ b ++ (separator ∷ more) = ap other_bytes e in
+    let p = one_line separator a b rest more (All-tail (λ (z : ℕ). eqb z separator ≡ false) x a f) (All-tail (λ (z : ℕ). eqb z separator ≡ false) y b g) tails in
     (rw (heads, p.0) refl, p.1)
   where
     first_byte : List ℕ → ℕ
@@ -56,12 +56,12 @@ one_line mark (x ∷ a) (y ∷ b) rest more f g e =
     other_bytes (z ∷ zs) = zs
 
 -- a text without LF begins with no line
-pub no_line : (mark : ℕ) (text a rest : List ℕ) → IsFree mark text → text ≡ a ++ (mark ∷ rest) → ⊥
-no_line mark text [] rest free e = eqb-false mark mark (All-head (λ (b : ℕ). eqb b mark ≡ false) mark rest (subst (IsFree mark) e free)) refl
-no_line mark text (x ∷ a) rest free e = no_line mark (a ++ (mark ∷ rest)) a rest (All-tail (λ (b : ℕ). eqb b mark ≡ false) x (a ++ (mark ∷ rest)) (subst (IsFree mark) e free)) refl
+pub no_line : (separator : ℕ) (text a rest : List ℕ) → IsFree separator text → text ≡ a ++ (separator ∷ rest) → ⊥
+no_line separator text [] rest free e = eqb-false separator separator (All-head (λ (b : ℕ). eqb b separator ≡ false) separator rest (subst (IsFree separator) e free)) refl
+no_line separator text (x ∷ a) rest free e = no_line separator (a ++ (separator ∷ rest)) a rest (All-tail (λ (b : ℕ). eqb b separator ≡ false) x (a ++ (separator ∷ rest)) (subst (IsFree separator) e free)) refl
 
-pub decimal_free : (mark n : ℕ) → is_ascii_digit mark ≡ false → n < 2 ^ 64 → IsFree mark (decimal n)
-decimal_free mark n differs small = free_from_test is_ascii_digit mark (decimal n) differs (decimal_has_digits n small)
+pub decimal_free : (separator n : ℕ) → is_ascii_digit separator ≡ false → n < 2 ^ 64 → IsFree separator (decimal n)
+decimal_free separator n differs small = free_from_test is_ascii_digit separator (decimal n) differs (decimal_has_digits n small)
 
 mask_bytes : (set : ℕ) → IsBelow 1024 set → list_all is_spelling_byte (hexadecimal set) ≡ true
 unfolding hexadecimal
@@ -70,21 +70,21 @@ mask_bytes set below =
     let digits : hexadecimal_digits set ≡ take_while is_hexadecimal_digit (hexadecimal_digits set ++ []) = ap (drop 2) stands.spelled in
     digits_spell (hexadecimal_digits set) (rw (sym digits) at (passing is_hexadecimal_digit (hexadecimal_digits set ++ [])))
 
--- a mark that is no digit, no letter, no `+` and no `-` isn't in the text of a set
-pub set_text_free : (mark format set : ℕ) → is_spelling_byte mark ≡ false → IsSetIn format set → IsFree mark (set_text format set)
+-- a separator that is no digit, no letter, no `+` and no `-` isn't in the text of a set
+pub set_text_free : (separator format set : ℕ) → is_spelling_byte separator ≡ false → IsSetIn format set → IsFree separator (set_text format set)
 unfolding set_text
-set_text_free mark format set differs fits = by_format (eqb format 2) refl
+set_text_free separator format set differs fits = by_format (eqb format 2) refl
   where
-    by_format : (t : Bool) → eqb format 2 ≡ t → IsFree mark (set_text format set)
-    by_format true is = rw is (free_from_test is_spelling_byte mark (set_spelling set) differs (spelling_bytes set (rw is at fits)))
+    by_format : (t : Bool) → eqb format 2 ≡ t → IsFree separator (set_text format set)
+    by_format true is = rw is (free_from_test is_spelling_byte separator (set_spelling set) differs (spelling_bytes set (rw is at fits)))
     by_format false is =
         let narrow : IsBelow 512 set = rw is at fits in
-        rw is (free_from_test is_spelling_byte mark (hexadecimal set) differs (mask_bytes set (λ s member. let p = narrow s member in omega (arith, p))))
+        rw is (free_from_test is_spelling_byte separator (hexadecimal set) differs (mask_bytes set (λ s member. let p = narrow s member in omega (arith, p))))
 
--- words without a byte, joined by another
-pub joined_free : (mark other : ℕ) → eqb mark other ≡ false → (words : List (List ℕ)) → All (IsFree other) words → IsFree other (joined mark words)
-joined_free mark other differs [] free = All-nil (λ (b : ℕ). eqb b other ≡ false)
-joined_free mark other differs (word ∷ []) free = All-head (IsFree other) word [] free
-joined_free mark other differs (word ∷ next ∷ words) free =
-    All-append (λ (b : ℕ). eqb b other ≡ false) word (mark ∷ joined mark (next ∷ words)) (All-head (IsFree other) word (next ∷ words) free)
-    (All-cons (λ (b : ℕ). eqb b other ≡ false) mark (joined mark (next ∷ words)) differs (joined_free mark other differs (next ∷ words) (All-tail (IsFree other) word (next ∷ words) free)))
+-- fields without a byte, joined by another
+pub joined_free : (separator other : ℕ) → eqb separator other ≡ false → (fields : List (List ℕ)) → All (IsFree other) fields → IsFree other (joined separator fields)
+joined_free separator other differs [] free = All-nil (λ (b : ℕ). eqb b other ≡ false)
+joined_free separator other differs (field ∷ []) free = All-head (IsFree other) field [] free
+joined_free separator other differs (field ∷ next ∷ fields) free =
+    All-append (λ (b : ℕ). eqb b other ≡ false) field (separator ∷ joined separator (next ∷ fields)) (All-head (IsFree other) field (next ∷ fields) free)
+    (All-cons (λ (b : ℕ). eqb b other ≡ false) separator (joined separator (next ∷ fields)) differs (joined_free separator other differs (next ∷ fields) (All-tail (IsFree other) field (next ∷ fields) free)))

@@ -1,5 +1,5 @@
 pub mod Cuts
-pub mod Fields
+pub mod FieldTexts
 mod Finding
 pub mod Free
 pub mod Names

@@ -14,9 +14,9 @@ use Rattle.cw_core.specs.StateSet.{has, IsBelow}
 use Rattle.cw_core.proofs.SetTexts.{spelled_as_mask, spelled_as_runs}
 use Rattle.cw_core.proofs.Sets.{same_from_members}
 use Rattle.cw_core.proofs.Spellings.{one_set}
-use Rattle.cw_text.specs.Lines.{IsFree, words_of, set_text, IsSetIn}
-use Rattle.cw_text.proofs.Cuts.{words_first, words_last, words-joined}
-use Rattle.cw_text.proofs.Fields.{mask_stands}
+use Rattle.cw_text.specs.Lines.{IsFree, fields_by, set_text, IsSetIn}
+use Rattle.cw_text.proofs.Cuts.{fields_first, fields_last, fields-joined}
+use Rattle.cw_text.proofs.FieldTexts.{mask_stands}
 use Rattle.cw_text.proofs.Free.{decimal_free}
 use Rattle.cw_core.proofs.RunTexts.{some_text}
 
@@ -125,20 +125,20 @@ numbers_back (n ∷ ns) small = numbers_in_front n (runs_of ns) (good_runs ns sm
 
 -- ---- texts of runs
 
-run_words : Run → List (List ℕ)
-run_words run = cond (eqb run.least run.greatest) (decimal run.least ∷ []) (decimal run.least ∷ decimal run.greatest ∷ [])
+run_fields : Run → List (List ℕ)
+run_fields run = cond (eqb run.least run.greatest) (decimal run.least ∷ []) (decimal run.least ∷ decimal run.greatest ∷ [])
 
-words_of_run : (run : Run) → run.least ≤ run.greatest → run.greatest < 1024 → words_of 45 (run_text run) ≡ run_words run
-unfolding run_text run_words
-words_of_run run up small =
+fields_of_run : (run : Run) → run.least ≤ run.greatest → run.greatest < 1024 → fields_by 45 (run_text run) ≡ run_fields run
+unfolding run_text run_fields
+fields_of_run run up small =
     let first : IsFree 45 (decimal run.least) = decimal_free 45 run.least refl (omega (arith, up, small)) in
     let second : IsFree 45 (decimal run.greatest) = decimal_free 45 run.greatest refl (omega (arith, small)) in
     elim (cases_eq run.least run.greatest) [
-      | inl e ↦ rw (eq-eqb run.least run.greatest e) (words_last 45 (decimal run.least) first)
+      | inl e ↦ rw (eq-eqb run.least run.greatest e) (fields_last 45 (decimal run.least) first)
       | inr differs ↦
           rw (ne_eqb run.least run.greatest differs)
-          (words_first 45 (decimal run.least ++ (codes "-" ++ decimal run.greatest)) (decimal run.least) (decimal run.greatest) refl first
-          ∙ ap (λ (ws : List (List ℕ)). decimal run.least ∷ ws) (words_last 45 (decimal run.greatest) second))
+          (fields_first 45 (decimal run.least ++ (codes "-" ++ decimal run.greatest)) (decimal run.least) (decimal run.greatest) refl first
+          ∙ ap (λ (ws : List (List ℕ)). decimal run.least ∷ ws) (fields_last 45 (decimal run.greatest) second))
     ]
 
 first : List (List ℕ) → List ℕ
@@ -150,25 +150,25 @@ others [] = []
 others (x ∷ xs) = xs
 
 one_run : (r s : Run) → r.least ≤ r.greatest → r.greatest < 1024 → s.least ≤ s.greatest → s.greatest < 1024 → run_text r ≡ run_text s → r ≡ s
-unfolding run_words first others
+unfolding run_fields first others
 one_run r s up small also low e =
-    let words : run_words r ≡ run_words s = sym (words_of_run r up small) ∙ ap (words_of 45) e ∙ words_of_run s also low in
+    let fields : run_fields r ≡ run_fields s = sym (fields_of_run r up small) ∙ ap (fields_by 45) e ∙ fields_of_run s also low in
     elim (cases_eq r.least r.greatest) [
       | inl p ↦ elim (cases_eq s.least s.greatest) [
         | inl q ↦
-            let both : decimal r.least ∷ [] ≡ decimal s.least ∷ [] = rw (eq-eqb r.least r.greatest p, eq-eqb s.least s.greatest q) at words in
+            let both : decimal r.least ∷ [] ≡ decimal s.least ∷ [] = rw (eq-eqb r.least r.greatest p, eq-eqb s.least s.greatest q) at fields in
             let least : r.least ≡ s.least = decimal_injective r.least s.least (omega (arith, up, small)) (omega (arith, also, low)) (ap first both) in
             same r s least (sym p ∙ least ∙ q)
         | inr q ↦
-            let both : decimal r.least ∷ [] ≡ decimal s.least ∷ decimal s.greatest ∷ [] = rw (eq-eqb r.least r.greatest p, ne_eqb s.least s.greatest q) at words in
+            let both : decimal r.least ∷ [] ≡ decimal s.least ∷ decimal s.greatest ∷ [] = rw (eq-eqb r.least r.greatest p, ne_eqb s.least s.greatest q) at fields in
             absurd (omega (arith, ap length both))
       ]
       | inr p ↦ elim (cases_eq s.least s.greatest) [
         | inl q ↦
-            let both : decimal r.least ∷ decimal r.greatest ∷ [] ≡ decimal s.least ∷ [] = rw (ne_eqb r.least r.greatest p, eq-eqb s.least s.greatest q) at words in
+            let both : decimal r.least ∷ decimal r.greatest ∷ [] ≡ decimal s.least ∷ [] = rw (ne_eqb r.least r.greatest p, eq-eqb s.least s.greatest q) at fields in
             absurd (omega (arith, ap length both))
         | inr q ↦
-            let both : decimal r.least ∷ decimal r.greatest ∷ [] ≡ decimal s.least ∷ decimal s.greatest ∷ [] = rw (ne_eqb r.least r.greatest p, ne_eqb s.least s.greatest q) at words in
+            let both : decimal r.least ∷ decimal r.greatest ∷ [] ≡ decimal s.least ∷ decimal s.greatest ∷ [] = rw (ne_eqb r.least r.greatest p, ne_eqb s.least s.greatest q) at fields in
             same r s (decimal_injective r.least s.least (omega (arith, up, small)) (omega (arith, also, low)) (ap first both))
             (decimal_injective r.greatest s.greatest (omega (arith, small)) (omega (arith, low)) (ap (λ ws. first (others ws)) both))
       ]
@@ -219,7 +219,7 @@ one_runs_text [] (s ∷ ss) good also e = absurd (no_text s ss also (sym e))
 one_runs_text (r ∷ rs) [] good also e = absurd (no_text r rs good e)
 one_runs_text (r ∷ rs) (s ∷ ss) good also e =
     same_runs (r ∷ rs) (s ∷ ss) good also
-    (sym (words-joined 43 (run_text r) (map run_text rs) (runs_free (r ∷ rs) good)) ∙ ap (words_of 43) e ∙ words-joined 43 (run_text s) (map run_text ss) (runs_free (s ∷ ss) also))
+    (sym (fields-joined 43 (run_text r) (map run_text rs) (runs_free (r ∷ rs) good)) ∙ ap (fields_by 43) e ∙ fields-joined 43 (run_text s) (map run_text ss) (runs_free (s ∷ ss) also))
 
 one_ranges : (a b : ℕ) → IsBelow 1024 a → IsBelow 1024 b → ranges a ≡ ranges b → a ≡ b
 unfolding ranges members
@@ -235,14 +235,14 @@ one_mask : (a b : ℕ) → IsBelow 1024 a → IsBelow 1024 b → hexadecimal a �
 one_mask a b below also e = one_set (hexadecimal b) 0 a b (mask_stands (hexadecimal b) a below e) (mask_stands (hexadecimal b) b also refl)
 
 pub one_spelling : (a b : ℕ) → IsBelow 1024 a → IsBelow 1024 b → set_spelling a ≡ set_spelling b → a ≡ b
-one_spelling a b below also e = by_mark (bytes_eq (take 2 (set_spelling b)) (codes "0x")) refl
+one_spelling a b below also e = by_separator (bytes_eq (take 2 (set_spelling b)) (codes "0x")) refl
   where
-    by_mark : (t : Bool) → bytes_eq (take 2 (set_spelling b)) (codes "0x") ≡ t → a ≡ b
-    by_mark true is =
-        let mark : take 2 (set_spelling b) ≡ codes "0x" = (bytes_eq-Decides (take 2 (set_spelling b)) (codes "0x")).0 is in
-        one_mask a b below also (sym (spelled_as_mask a (set_spelling b) below e mark) ∙ spelled_as_mask b (set_spelling b) also refl mark)
-    by_mark false is =
-        let none : take 2 (set_spelling b) ≢ codes "0x" = λ mark. false≢true (sym is ∙ (bytes_eq-Decides (take 2 (set_spelling b)) (codes "0x")).1 mark) in
+    by_separator : (t : Bool) → bytes_eq (take 2 (set_spelling b)) (codes "0x") ≡ t → a ≡ b
+    by_separator true is =
+        let separator : take 2 (set_spelling b) ≡ codes "0x" = (bytes_eq-Decides (take 2 (set_spelling b)) (codes "0x")).0 is in
+        one_mask a b below also (sym (spelled_as_mask a (set_spelling b) below e separator) ∙ spelled_as_mask b (set_spelling b) also refl separator)
+    by_separator false is =
+        let none : take 2 (set_spelling b) ≢ codes "0x" = λ separator. false≢true (sym is ∙ (bytes_eq-Decides (take 2 (set_spelling b)) (codes "0x")).1 separator) in
         one_ranges a b below also ((spelled_as_runs a (set_spelling b) below e none).1 ∙ sym (spelled_as_runs b (set_spelling b) also refl none).1)
 
 pub one_set_text : (format a b : ℕ) → IsSetIn format a → IsSetIn format b → set_text format a ≡ set_text format b → a ≡ b

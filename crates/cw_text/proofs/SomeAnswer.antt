@@ -1,4 +1,4 @@
--- Each text is the tape of some moves, or has a first line with a word that names none.
+-- Each text is the tape of some moves, or has a first line with a field that names none.
 use Rattle.std.proofs.Common.{◌≡◌, ◌⊎◌, ℕ, suc, ◌+◌, List, [], ◌∷◌, ◌++◌, length, Bool, true, false, Result, Ok, Err, refl, sym, ap, ap₂, ◌∙◌, subst, inl, inr, arith, append_assoc, append-nil}
 use Rattle.std.specs.Prelude.{Contains}
 use Rattle.std.specs.List.{flat_map}
@@ -13,7 +13,7 @@ use Rattle.cw_certs.specs.declared.moves.Move.TheVariants.{Skip, Try, Stop}
 use Rattle.cw_text.specs.declared.fault.TextFault.{TextFault}
 use Rattle.cw_text.specs.declared.fault.TextFault.TheVariants as fault
 use Rattle.cw_text.specs.Moves.{move_name, IsWeavers, IsEnvironments}
-use Rattle.cw_text.specs.Tapes.{words, lines, IsIn, AreNames, IsOther, IsAnswer}
+use Rattle.cw_text.specs.Tapes.{fields, lines, IsIn, AreNames, IsOther, IsAnswer}
 use Rattle.cw_text.proofs.Names.{move_of, told}
 
 weavers_or_not : (by : Move) → IsWeavers by ⊎ (IsWeavers by → ⊥)
@@ -36,28 +36,28 @@ module _ (play : Bool) where
       go false = environments_or_not by
 
   abbrev Named : List ℕ → Type 0
-  Named word = (by : Move) × IsIn play by × (move_name by ≡ word)
+  Named field = (by : Move) × IsIn play by × (move_name by ≡ field)
 
-  -- a word names a move of such a tape, or none
-  word_names : (word : List ℕ) → Named word ⊎ IsOther play word
-  word_names word = go (in_or_not (move_of word)) (bytes_eq (move_name (move_of word)) word) refl
+  -- a field names a move of such a tape, or none
+  field_names : (field : List ℕ) → Named field ⊎ IsOther play field
+  field_names field = go (in_or_not (move_of field)) (bytes_eq (move_name (move_of field)) field) refl
     where
-      -- a move with this name is the one that the word gives
-      only : (by : Move) → move_name by ≡ word → move_of word ≡ by
+      -- a move with this name is the one that the field gives
+      only : (by : Move) → move_name by ≡ field → move_of field ≡ by
       only by e = ap move_of (sym e) ∙ told by
 
-      go : IsIn play (move_of word) ⊎ (IsIn play (move_of word) → ⊥) → (b : Bool) → bytes_eq (move_name (move_of word)) word ≡ b → Named word ⊎ IsOther play word
-      go (inl may) true e = inl (move_of word, may, (bytes_eq-Decides (move_name (move_of word)) word).0 e)
-      go (inl may) false e = inr (λ by m named. not_both (bytes_eq (move_name (move_of word)) word)
-          ((bytes_eq-Decides (move_name (move_of word)) word).1 (ap move_name (only by named) ∙ named)) e)
+      go : IsIn play (move_of field) ⊎ (IsIn play (move_of field) → ⊥) → (b : Bool) → bytes_eq (move_name (move_of field)) field ≡ b → Named field ⊎ IsOther play field
+      go (inl may) true e = inl (move_of field, may, (bytes_eq-Decides (move_name (move_of field)) field).0 e)
+      go (inl may) false e = inr (λ by m named. not_both (bytes_eq (move_name (move_of field)) field)
+          ((bytes_eq-Decides (move_name (move_of field)) field).1 (ap move_name (only by named) ∙ named)) e)
       go (inr never) b e = inr (λ by m named. never (subst (IsIn play) (sym (only by named)) m))
 
-  words_name : (names : List (List ℕ)) → ((moves : List Move) × AreNames play names moves) ⊎ ((word : List ℕ) × Contains names word × IsOther play word)
-  words_name [] = inl ([], record { may = All-nil (IsIn play); named = refl })
-  words_name (w ∷ ws) = go (word_names w) (words_name ws)
+  fields_name : (names : List (List ℕ)) → ((moves : List Move) × AreNames play names moves) ⊎ ((field : List ℕ) × Contains names field × IsOther play field)
+  fields_name [] = inl ([], record { may = All-nil (IsIn play); named = refl })
+  fields_name (w ∷ ws) = go (field_names w) (fields_name ws)
     where
-      go : Named w ⊎ IsOther play w → ((moves : List Move) × AreNames play ws moves) ⊎ ((word : List ℕ) × Contains ws word × IsOther play word)
-          → ((moves : List Move) × AreNames play (w ∷ ws) moves) ⊎ ((word : List ℕ) × Contains (w ∷ ws) word × IsOther play word)
+      go : Named w ⊎ IsOther play w → ((moves : List Move) × AreNames play ws moves) ⊎ ((field : List ℕ) × Contains ws field × IsOther play field)
+          → ((moves : List Move) × AreNames play (w ∷ ws) moves) ⊎ ((field : List ℕ) × Contains (w ∷ ws) field × IsOther play field)
       go (inr other) rest = inr (w, (0, omega arith, refl), other)
       go (inl one) (inl rest) =
           inl (one.0 ∷ rest.0, record { may = All-cons (IsIn play) one.0 rest.0 one.1 rest.1.may; named = ap₂ (λ (x : List ℕ) (xs : List (List ℕ)). x ∷ xs) (sym one.2) rest.1.named })
@@ -71,21 +71,21 @@ module _ (play : Bool) where
 
   -- what the lines of a text are, from one of them on
   abbrev LinesAre : List (List ℕ) → Type 0
-  LinesAre all = ((moves : List Move) × AreNames play (flat_map words all) moves)
+  LinesAre all = ((moves : List Move) × AreNames play (flat_map fields all) moves)
       ⊎ ((before : List (List ℕ)) × (line : List ℕ) × (after : List (List ℕ)) × (all ≡ before ++ line ∷ after)
-      × ((moves : List Move) × AreNames play (flat_map words before) moves) × ((word : List ℕ) × Contains (words line) word × IsOther play word))
+      × ((moves : List Move) × AreNames play (flat_map fields before) moves) × ((field : List ℕ) × Contains (fields line) field × IsOther play field))
 
-  lines_name : (before after : List (List ℕ)) (moves : List Move) → AreNames play (flat_map words before) moves → LinesAre (before ++ after)
-  lines_name before [] moves h = inl (moves, subst (λ (l : List (List ℕ)). AreNames play (flat_map words l) moves) (sym (append-nil before)) h)
-  lines_name before (line ∷ after) moves h = go (words_name (words line)) (lines_name (before ++ line ∷ []) after)
+  lines_name : (before after : List (List ℕ)) (moves : List Move) → AreNames play (flat_map fields before) moves → LinesAre (before ++ after)
+  lines_name before [] moves h = inl (moves, subst (λ (l : List (List ℕ)). AreNames play (flat_map fields l) moves) (sym (append-nil before)) h)
+  lines_name before (line ∷ after) moves h = go (fields_name (fields line)) (lines_name (before ++ line ∷ []) after)
     where
-      go : ((ms : List Move) × AreNames play (words line) ms) ⊎ ((word : List ℕ) × Contains (words line) word × IsOther play word)
-          → ((ms : List Move) → AreNames play (flat_map words (before ++ line ∷ [])) ms → LinesAre ((before ++ line ∷ []) ++ after)) → LinesAre (before ++ line ∷ after)
+      go : ((ms : List Move) × AreNames play (fields line) ms) ⊎ ((field : List ℕ) × Contains (fields line) field × IsOther play field)
+          → ((ms : List Move) → AreNames play (flat_map fields (before ++ line ∷ [])) ms → LinesAre ((before ++ line ∷ []) ++ after)) → LinesAre (before ++ line ∷ after)
       go (inr other) on = inr (before, line, after, refl, (moves, h), other)
       go (inl more) on =
-          let one : flat_map words (line ∷ []) ≡ words line = append-nil (words line) in
-          let all = subst (λ (l : List (List ℕ)). AreNames play l (moves ++ more.0)) (ap (λ l. flat_map words before ++ l) (sym one) ∙ sym (flat_map-append words before (line ∷ [])))
-          (joined (flat_map words before) (words line) moves more.0 h more.1) in
+          let one : flat_map fields (line ∷ []) ≡ fields line = append-nil (fields line) in
+          let all = subst (λ (l : List (List ℕ)). AreNames play l (moves ++ more.0)) (ap (λ l. flat_map fields before ++ l) (sym one) ∙ sym (flat_map-append fields before (line ∷ [])))
+          (joined (flat_map fields before) (fields line) moves more.0 h more.1) in
           subst LinesAre (append_assoc before (line ∷ []) after) (on (moves ++ more.0) all)
 
   answer_of : (text : List ℕ) → LinesAre (lines text) → (answer : Result (List Move) TextFault) × IsAnswer play text answer
@@ -100,7 +100,7 @@ module _ (play : Bool) where
       counted = refl;
       moves = earlier.0;
       earlier = earlier.1;
-      word = other.0;
+      field = other.0;
       has = other.1;
       other = other.2;
     },

@@ -16,8 +16,8 @@ abbrev pub descriptor_name : PlainPolicy → ℕ → List ℕ
 descriptor_name policy descriptor = name_if (slice_get policy.descriptors descriptor)
 
 -- ` X(INDEX,DESCRIPTOR,MASK)`
-abbrev pub limit_word : PlainPolicy → ℕ → Limit → List ℕ
-limit_word policy index limit = codes " " ++ with_fields (codes "X") (decimal index ∷ descriptor_name policy limit.descriptor ∷ hexadecimal limit.keep.0 ∷ [])
+abbrev pub limit_text : PlainPolicy → ℕ → Limit → List ℕ
+limit_text policy index limit = codes " " ++ with_fields (codes "X") (decimal index ∷ descriptor_name policy limit.descriptor ∷ hexadecimal limit.keep.0 ∷ [])
 
 unfoldable pub limits_line : PlainPolicy → List ℕ
-limits_line policy = line (codes "#define CW_LIMITS(X)" ++ numbered (limit_word policy) policy.limits)
+limits_line policy = line (codes "#define CW_LIMITS(X)" ++ numbered (limit_text policy) policy.limits)

@@ -1,10 +1,10 @@
--- What lines are made of: words, a name with its fields, the end of a line.
+-- What lines are made of: fields, a name with its fields, the end of a line.
 use Rattle.std.specs.Prelude.{ℕ, List, ◌++◌, codes}
 use Rattle.std.specs.List.{flat_map, join_by, enumerate_from}
 
--- the words in a row, with a mark between each two
+-- the fields in a row, with a separator between each two
 abbrev pub joined : List ℕ → List (List ℕ) → List ℕ
-joined mark words = join_by (λ word. word) mark words
+joined separator fields = join_by (λ field. field) separator fields
 
 -- a name with its fields: `NAME(A,B)`
 abbrev pub with_fields : List ℕ → List (List ℕ) → List ℕ

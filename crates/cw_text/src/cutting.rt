@@ -27,13 +27,13 @@ pub fn behind<'t>(text: &'t [u8], front: &[u8]) -> Option<&'t [u8]>
     Some(rest)
 }
 
-/// What stands before the first mark of a text, and what stands after it; none where the text has no mark.
-pub fn cut(text: &[u8], mark: u8) -> Option<(&[u8], &[u8])>
-    ensures parts { IfSome result (λ (front, rest). text.now ≡ front.now ++ (mark ∷ rest.now)) }
-    ensures first { IfSome result (λ (front, _). IsFree mark front.now) }
-    ensures none { IfNone result (IsFree mark text.now) }
+/// What stands before the first separator of a text, and what stands after it; none where the text has no separator.
+pub fn cut(text: &[u8], separator: u8) -> Option<(&[u8], &[u8])>
+    ensures parts { IfSome result (λ (front, rest). text.now ≡ front.now ++ (separator ∷ rest.now)) }
+    ensures first { IfSome result (λ (front, _). IsFree separator front.now) }
+    ensures none { IfNone result (IsFree separator text.now) }
 {
-    let at = text.iter().position(|byte| *byte == mark)?;
+    let at = text.iter().position(|byte| *byte == separator)?;
     Some((&text[..at], &text[at + 1..]))
 }
 
@@ -43,7 +43,7 @@ pub fn next_line(text: &[u8]) -> Option<(&[u8], &[u8])>
     ensures first { IfSome result (λ (line, _). IsFree 10 line.now) }
     ensures none { IfNone result (IsFree 10 text.now) }
 {
-    // Lines are long beside words, so their end is searched many bytes at a time.
+    // Lines are long beside fields, so their end is searched many bytes at a time.
     let at = memchr(b'\n', text)?;
     Some((&text[..at], &text[at + 1..]))
 }

@@ -4,7 +4,7 @@ ghost use Rattle.std.specs.Prelude.{◌≡◌, ◌++◌};
 ghost use Rattle.cw_io.specs.Written.{Follows};
 ghost use Rattle.cw_rights.specs.Policies.{policy_of};
 ghost use Rattle.cw_text.specs.RowLines.{numbered};
-ghost use Rattle.cw_text.specs.LimitsText.{descriptor_name, limit_word, limits_line};
+ghost use Rattle.cw_text.specs.LimitsText.{descriptor_name, limit_text, limits_line};
 
 use cw_core::StateSet;
 use cw_io::{Sink, Writer};
@@ -27,7 +27,7 @@ pub fn put_limits<S: Sink>(policy: &Policy, writer: &mut Writer<S>, out: &mut S)
 /// Puts all limits, each with its number.
 fn put_each_limit<S: Sink>(policy: &Policy, limits: &[Limit], writer: &mut Writer<S>, out: &mut S)
     requires follows { Follows S.taken S.faults S.refused writer.old out.old }
-    ensures text { writer.new.text ≡ writer.old.text ++ numbered (limit_word (policy_of policy.now)) limits.now }
+    ensures text { writer.new.text ≡ writer.old.text ++ numbered (limit_text (policy_of policy.now)) limits.now }
     ensures begun { writer.new.begun ≡ writer.old.begun }
     ensures follows { Follows S.taken S.faults S.refused writer.new out.new }
 {
@@ -45,7 +45,7 @@ fn put_limit<S: Sink>(
     out: &mut S,
 )
     requires follows { Follows S.taken S.faults S.refused writer.old out.old }
-    ensures text { writer.new.text ≡ writer.old.text ++ limit_word (policy_of policy.now) index limit.now }
+    ensures text { writer.new.text ≡ writer.old.text ++ limit_text (policy_of policy.now) index limit.now }
     ensures begun { writer.new.begun ≡ writer.old.begun }
     ensures follows { Follows S.taken S.faults S.refused writer.new out.new }
 {

@@ -25,41 +25,41 @@ pub fn move_name(by: Move) -> &'static str
 }
 
 /// The move of the weaver whose name this is.
-pub fn weavers_move(word: &[u8]) -> Option<Move>
-    ensures { Reads IsWeavers move_name word.now result }
+pub fn weavers_move(field: &[u8]) -> Option<Move>
+    ensures { Reads IsWeavers move_name field.now result }
 {
-    if word == b"skip".as_slice() {
+    if field == b"skip".as_slice() {
         return Some(Move::Skip);
     }
-    if word == b"try".as_slice() {
+    if field == b"try".as_slice() {
         return Some(Move::Try);
     }
     None
 }
 
 /// The move of the environment whose name this is.
-pub fn environments_move(word: &[u8]) -> Option<Move>
-    ensures { Reads IsEnvironments move_name word.now result }
+pub fn environments_move(field: &[u8]) -> Option<Move>
+    ensures { Reads IsEnvironments move_name field.now result }
 {
-    if word == b"grant".as_slice() {
+    if field == b"grant".as_slice() {
         return Some(Move::Grant);
     }
-    if word == b"refuse".as_slice() {
+    if field == b"refuse".as_slice() {
         return Some(Move::Refuse);
     }
-    if word == b"on".as_slice() {
+    if field == b"on".as_slice() {
         return Some(Move::On);
     }
-    if word == b"left".as_slice() {
+    if field == b"left".as_slice() {
         return Some(Move::Left);
     }
-    if word == b"right".as_slice() {
+    if field == b"right".as_slice() {
         return Some(Move::Right);
     }
-    if word == b"opened".as_slice() {
+    if field == b"opened".as_slice() {
         return Some(Move::Opened);
     }
-    if word == b"failed".as_slice() {
+    if field == b"failed".as_slice() {
         return Some(Move::Failed);
     }
     None

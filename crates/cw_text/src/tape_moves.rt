@@ -16,12 +16,12 @@ pub(crate) fn is_white(byte: u8) -> bool
 }
 
 /// The move of a play's tape, or of a run's, whose name this is.
-pub(crate) fn move_of(word: &[u8], play: bool) -> Option<Move>
-    ensures { Reads (IsIn play) move_name word.now result }
+pub(crate) fn move_of(field: &[u8], play: bool) -> Option<Move>
+    ensures { Reads (IsIn play) move_name field.now result }
 {
     if play {
-        weavers_move(word)
+        weavers_move(field)
     } else {
-        environments_move(word)
+        environments_move(field)
     }
 }

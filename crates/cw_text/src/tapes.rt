@@ -1,7 +1,7 @@
 //! Tapes read.
 
 ghost use Rattle.std.specs.Prelude.{◌≤◌, length, IfErr, IfOk, OnOk};
-ghost use Rattle.cw_text.specs.Tapes.{words, IsTape, IsFault};
+ghost use Rattle.cw_text.specs.Tapes.{fields, IsTape, IsFault};
 ghost use Rattle.cw_text.specs.TapeLines.{Adds, IsLineFault};
 
 use crate::TextFault;
@@ -9,8 +9,8 @@ use crate::tape_moves::{is_white, move_of};
 use cw_certs::Move;
 use std::alloc::Global;
 
-/// The moves of a tape, a play's or a run's: words with white space between, each the name of a move. Otherwise Line with the number
-/// of the first line that has another word, counted from 1 by LF. A text has at most 33,554,432 bytes.
+/// The moves of a tape, a play's or a run's: fields with white space between, each the name of a move. Otherwise Line with the number
+/// of the first line that has another field, counted from 1 by LF. A text has at most 33,554,432 bytes.
 pub fn read_tape(alloc: Global, text: &[u8], play: bool) -> Result<Vec<Move>, TextFault>
     requires { length text.now ≤ 33554432 }
     ensures moves { IfOk result (λ moves. IsTape play text.now moves.items) }
@@ -25,14 +25,14 @@ pub fn read_tape(alloc: Global, text: &[u8], play: bool) -> Result<Vec<Move>, Te
     Ok(moves)
 }
 
-/// Appends the moves of the line with a number. Where it has another word, or memory is wanting, what was appended is left.
+/// Appends the moves of the line with a number. Where it has another field, or memory is wanting, what was appended is left.
 fn read_line(line: &[u8], number: u32, play: bool, moves: &mut Vec<Move>) -> Result<(), TextFault>
-    ensures moves { OnOk result (Adds play (words line.now) moves.old.items moves.new.items) }
+    ensures moves { OnOk result (Adds play (fields line.now) moves.old.items moves.new.items) }
     ensures fault { IfErr result (λ fault. IsLineFault play line.now number fault) }
 {
     let pieces = line.split(|byte| is_white(*byte));
-    for word in pieces.filter(|piece| !piece.is_empty()) {
-        let Some(by) = move_of(word, play) else {
+    for field in pieces.filter(|piece| !piece.is_empty()) {
+        let Some(by) = move_of(field, play) else {
             return Err(TextFault::Line(number));
         };
         moves.push(by)?;

@@ -5,20 +5,20 @@ use Rattle.std.specs.List.{All}
 use Rattle.std.proofs.lemmas.Grind.{flat_map-append}
 use Rattle.std.proofs.lemmas.List.Elements.{All-nil, All-cons, All-head, All-tail}
 use Rattle.cw_text.specs.Lines.{joined}
-use Rattle.cw_text_lines.specs.Lines.{whole_line, whole_lines, StartsWith, StartsWithNone, IsFront, IsFirstOther, Tell, AreTold}
+use Rattle.cw_text_lines.specs.Lines.{whole_line, whole_lines, StartsWith, StartsWithNone, IsFront, IsFirstOther, Tell, AreDecided}
 use Rattle.cw_text_lines.proofs.Starts.{one_start, shorter, start_or_none}
 
-module _ {A : Type 0} (Fits : A → Type 0) (words_in : A → List (List ℕ)) (tell : Tell Fits words_in) where
+module _ {A : Type 0} (Fits : A → Type 0) (fields_in : A → List (List ℕ)) (tell : Tell Fits fields_in) where
   abbrev Lines : List A → List ℕ
-  Lines ls = whole_lines words_in ls
+  Lines ls = whole_lines fields_in ls
 
   pub lines-append : (xs ys : List A) → Lines (xs ++ ys) ≡ Lines xs ++ Lines ys
-  lines-append xs ys = flat_map-append (whole_line words_in) xs ys
+  lines-append xs ys = flat_map-append (whole_line fields_in) xs ys
 
   -- one line more
-  pub line_more : (text rest more : List ℕ) (ls : List A) (l : A) → text ≡ Lines ls ++ rest → StartsWith Fits words_in rest l more → text ≡ Lines (ls ++ l ∷ []) ++ more
+  pub line_more : (text rest more : List ℕ) (ls : List A) (l : A) → text ≡ Lines ls ++ rest → StartsWith Fits fields_in rest l more → text ≡ Lines (ls ++ l ∷ []) ++ more
   line_more text rest more ls l e s =
-      e ∙ ap (λ t. Lines ls ++ t) (s.spelled ∙ ap (λ t. t ++ more) (sym (append-nil (whole_line words_in l))))
+      e ∙ ap (λ t. Lines ls ++ t) (s.spelled ∙ ap (λ t. t ++ more) (sym (append-nil (whole_line fields_in l))))
       ∙ sym (append_assoc (Lines ls) (Lines (l ∷ [])) more) ∙ ap (λ t. t ++ more) (sym (lines-append ls (l ∷ [])))
 
   -- lines more
@@ -26,17 +26,17 @@ module _ {A : Type 0} (Fits : A → Type 0) (words_in : A → List (List ℕ)) (
   lines_behind text rest more ls ms e s =
       e ∙ ap (λ t. Lines ls ++ t) s ∙ sym (append_assoc (Lines ls) (Lines ms) more) ∙ ap (λ t. t ++ more) (sym (lines-append ls ms))
 
-  line_has : (l : A) (rest : List ℕ) → length rest < length (whole_line words_in l ++ rest)
+  line_has : (l : A) (rest : List ℕ) → length rest < length (whole_line fields_in l ++ rest)
   line_has l rest =
-      let a = length-append (whole_line words_in l) rest in
-      let b = length-append (joined 32 (words_in l)) (codes "\n") in
+      let a = length-append (whole_line fields_in l) rest in
+      let b = length-append (joined 32 (fields_in l)) (codes "\n") in
       omega (arith, a, b)
 
   -- as many bytes as lines at least
   pub lines_short : (ls : List A) (rest : List ℕ) → length ls + length rest ≤ length (Lines ls ++ rest)
   lines_short [] rest = omega arith
   lines_short (l ∷ ls) rest =
-      let a = ap length (append_assoc (whole_line words_in l) (Lines ls) rest) in
+      let a = ap length (append_assoc (whole_line fields_in l) (Lines ls) rest) in
       let b = line_has l (Lines ls ++ rest) in
       let d = lines_short ls rest in
       omega (arith, a, b, d)
@@ -50,9 +50,9 @@ module _ {A : Type 0} (Fits : A → Type 0) (words_in : A → List (List ℕ)) (
   along [] ys rest more f g e = inl (ys, refl, e)
   along (x ∷ xs) [] rest more f g e = inr (x, xs, refl, sym e)
   along (x ∷ xs) (y ∷ ys) rest more f g e =
-      let o = one_start Fits words_in tell (Lines (x ∷ xs) ++ rest) (Lines xs ++ rest) (Lines ys ++ more) x y
-      (record { fits = All-head Fits x xs f; spelled = append_assoc (whole_line words_in x) (Lines xs) rest })
-      (record { fits = All-head Fits y ys g; spelled = e ∙ append_assoc (whole_line words_in y) (Lines ys) more }) in
+      let o = one_start Fits fields_in tell (Lines (x ∷ xs) ++ rest) (Lines xs ++ rest) (Lines ys ++ more) x y
+      (record { fits = All-head Fits x xs f; spelled = append_assoc (whole_line fields_in x) (Lines xs) rest })
+      (record { fits = All-head Fits y ys g; spelled = e ∙ append_assoc (whole_line fields_in y) (Lines ys) more }) in
       go o.0 (along xs ys rest more (All-tail Fits x xs f) (All-tail Fits y ys g) o.1)
     where
       go : x ≡ y → ((zs : List A) × (ys ≡ xs ++ zs) × (rest ≡ Lines zs ++ more)) ⊎ ((z : A) × (zs : List A) × (xs ≡ ys ++ z ∷ zs) × (more ≡ Lines (z ∷ zs) ++ rest))
@@ -80,8 +80,8 @@ module _ {A : Type 0} (Fits : A → Type 0) (words_in : A → List (List ℕ)) (
     next_fits before z h = all_last before z [] (front_fits (before ++ z ∷ []) h)
 
     -- where no line goes on at all
-    pub first_other : (text : List ℕ) (before : List A) (rest : List ℕ) (number : ℕ) → IsFront IsWhole before → text ≡ Lines before ++ rest → number ≡ length before + 1 → StartsWithNone Fits words_in rest
-        → (IsWhole before → rest ≢ []) → IsFirstOther IsWhole words_in text number
+    pub first_other : (text : List ℕ) (before : List A) (rest : List ℕ) (number : ℕ) → IsFront IsWhole before → text ≡ Lines before ++ rest → number ≡ length before + 1 → StartsWithNone Fits fields_in rest
+        → (IsWhole before → rest ≢ []) → IsFirstOther IsWhole fields_in text number
     first_other text before rest number front e n none more = record {
       before = before;
       rest = rest;
@@ -102,10 +102,10 @@ module _ {A : Type 0} (Fits : A → Type 0) (words_in : A → List (List ℕ)) (
         go (inl (z ∷ zs, e, n)) = absurd (no_end z zs [] n)
         go (inr (z, zs, e, n)) = absurd (no_end z zs [] n)
 
-    goes_nowhere : (text : List ℕ) (n : ℕ) (f : IsFirstOther IsWhole words_in text n) (z : A) (zs more : List A) (after : List ℕ) → IsWhole (f.before ++ z ∷ (zs ++ more)) → f.rest ≡ Lines (z ∷ zs) ++ after → ⊥
-    goes_nowhere text n f z zs more after w e = f.other z (Lines zs ++ after) (next_front f.before z zs more w) (e ∙ append_assoc (whole_line words_in z) (Lines zs) after)
+    goes_nowhere : (text : List ℕ) (n : ℕ) (f : IsFirstOther IsWhole fields_in text n) (z : A) (zs more : List A) (after : List ℕ) → IsWhole (f.before ++ z ∷ (zs ++ more)) → f.rest ≡ Lines (z ∷ zs) ++ after → ⊥
+    goes_nowhere text n f z zs more after w e = f.other z (Lines zs ++ after) (next_front f.before z zs more w) (e ∙ append_assoc (whole_line fields_in z) (Lines zs) after)
 
-    pub not_both : (text : List ℕ) (xs : List A) (n : ℕ) → IsWhole xs → text ≡ Lines xs → IsFirstOther IsWhole words_in text n → ⊥
+    pub not_both : (text : List ℕ) (xs : List A) (n : ℕ) → IsWhole xs → text ≡ Lines xs → IsFirstOther IsWhole fields_in text n → ⊥
     not_both text xs n w e f = go (along f.before xs f.rest [] (front_fits f.before f.front) (fit xs w) (sym f.stands ∙ e ∙ sym (append-nil (Lines xs))))
       where
         go : ((zs : List A) × (xs ≡ f.before ++ zs) × (f.rest ≡ Lines zs ++ [])) ⊎ ((z : A) × (zs : List A) × (f.before ≡ xs ++ z ∷ zs) × ([] ≡ Lines (z ∷ zs) ++ f.rest)) → ⊥
@@ -113,7 +113,7 @@ module _ {A : Type 0} (Fits : A → Type 0) (words_in : A → List (List ℕ)) (
         go (inl (z ∷ zs, is, r)) = goes_nowhere text n f z zs [] [] (subst IsWhole (is ∙ ap (λ ls. f.before ++ z ∷ ls) (sym (append-nil zs))) w) r
         go (inr (z, zs, is, r)) = no_end z zs f.rest r
 
-    pub one_other : (text : List ℕ) (m n : ℕ) → IsFirstOther IsWhole words_in text m → IsFirstOther IsWhole words_in text n → m ≡ n
+    pub one_other : (text : List ℕ) (m n : ℕ) → IsFirstOther IsWhole fields_in text m → IsFirstOther IsWhole fields_in text n → m ≡ n
     one_other text m n f h = go (along f.before h.before f.rest h.rest (front_fits f.before f.front) (front_fits h.before h.front) (sym f.stands ∙ h.stands))
       where
         onward : (a b : List A) (z : A) (zs : List A) → b ≡ a ++ z ∷ zs → (w : IsFront IsWhole b) → IsWhole (a ++ z ∷ (zs ++ w.0))
@@ -127,29 +127,29 @@ module _ {A : Type 0} (Fits : A → Type 0) (words_in : A → List (List ℕ)) (
     -- ---- some answer
 
     abbrev pub HasAnswer : List ℕ → Type 0
-    HasAnswer text = ((ls : List A) × IsWhole ls × (text ≡ Lines ls)) ⊎ ((n : ℕ) × IsFirstOther IsWhole words_in text n)
+    HasAnswer text = ((ls : List A) × IsWhole ls × (text ≡ Lines ls)) ⊎ ((n : ℕ) × IsFirstOther IsWhole fields_in text n)
 
-    module _ (told : AreTold Fits words_in) (goes : (before : List A) (next : A) → IsFront IsWhole before → Fits next → IsFront IsWhole (before ++ next ∷ []) ⊎ (IsFront IsWhole (before ++ next ∷ []) → ⊥))
+    module _ (decided : AreDecided Fits fields_in) (goes : (before : List A) (next : A) → IsFront IsWhole before → Fits next → IsFront IsWhole (before ++ next ∷ []) ⊎ (IsFront IsWhole (before ++ next ∷ []) → ⊥))
         (ends : (before : List A) → IsFront IsWhole before → IsWhole before ⊎ (IsWhole before → ⊥)) (text : List ℕ) where
       -- no line goes on
-      at_end : (before : List A) (rest : List ℕ) → IsFront IsWhole before → text ≡ Lines before ++ rest → StartsWithNone Fits words_in rest → HasAnswer text
+      at_end : (before : List A) (rest : List ℕ) → IsFront IsWhole before → text ≡ Lines before ++ rest → StartsWithNone Fits fields_in rest → HasAnswer text
       at_end before rest front e none = by_end (ends before front) rest e none
         where
-          fault : (rest : List ℕ) → text ≡ Lines before ++ rest → StartsWithNone Fits words_in rest → (IsWhole before → rest ≢ []) → HasAnswer text
+          fault : (rest : List ℕ) → text ≡ Lines before ++ rest → StartsWithNone Fits fields_in rest → (IsWhole before → rest ≢ []) → HasAnswer text
           fault rest e none more = inr (length before + 1, first_other text before rest (length before + 1) front e refl none more)
 
-          by_end : IsWhole before ⊎ (IsWhole before → ⊥) → (rest : List ℕ) → text ≡ Lines before ++ rest → StartsWithNone Fits words_in rest → HasAnswer text
+          by_end : IsWhole before ⊎ (IsWhole before → ⊥) → (rest : List ℕ) → text ≡ Lines before ++ rest → StartsWithNone Fits fields_in rest → HasAnswer text
           by_end (inl whole) [] e none = inl (before, whole, e ∙ append-nil (Lines before))
           by_end (inl whole) (b ∷ rest) e none = fault (b ∷ rest) e none (λ w is. omega (arith, ap length is))
           by_end (inr never) rest e none = fault rest e none (λ w. absurd (never w))
 
       from_front : (fuel : ℕ) (before : List A) (rest : List ℕ) → length rest ≤ fuel → IsFront IsWhole before → text ≡ Lines before ++ rest → HasAnswer text
-      from_front zero before rest few front e = at_end before rest front e (λ said more s. let lt = shorter Fits words_in tell rest more said s in omega (arith, lt, few))
-      from_front (suc fuel) before rest few front e = by_start (start_or_none Fits words_in tell told rest) (from_front fuel)
+      from_front zero before rest few front e = at_end before rest front e (λ said more s. let lt = shorter Fits fields_in tell rest more said s in omega (arith, lt, few))
+      from_front (suc fuel) before rest few front e = by_start (start_or_none Fits fields_in tell decided rest) (from_front fuel)
         where
-          by_next : (said : A) (after : List ℕ) → StartsWith Fits words_in rest said after → IsFront IsWhole (before ++ said ∷ []) ⊎ (IsFront IsWhole (before ++ said ∷ []) → ⊥)
+          by_next : (said : A) (after : List ℕ) → StartsWith Fits fields_in rest said after → IsFront IsWhole (before ++ said ∷ []) ⊎ (IsFront IsWhole (before ++ said ∷ []) → ⊥)
               → ((b : List A) (r : List ℕ) → length r ≤ fuel → IsFront IsWhole b → text ≡ Lines b ++ r → HasAnswer text) → HasAnswer text
-          by_next said after s (inl on) next = next (before ++ said ∷ []) after (let lt = shorter Fits words_in tell rest after said s in omega (arith, lt, few)) on (line_more text rest after before said e s)
+          by_next said after s (inl on) next = next (before ++ said ∷ []) after (let lt = shorter Fits fields_in tell rest after said s in omega (arith, lt, few)) on (line_more text rest after before said e s)
           by_next said after s (inr never) next = inr (
             length before + 1,
             record {
@@ -159,12 +159,12 @@ module _ {A : Type 0} (Fits : A → Type 0) (words_in : A → List (List ℕ)) (
               stands = e;
               counted = refl;
               other = λ other more h is. never (subst (λ l. IsFront IsWhole (before ++ l ∷ []))
-                  (one_start Fits words_in tell rest more after other said (record { fits = next_fits before other h; spelled = is }) s).0 h);
-              goes_on = λ w is. let lt = shorter Fits words_in tell rest after said s in omega (arith, lt, ap length is);
+                  (one_start Fits fields_in tell rest more after other said (record { fits = next_fits before other h; spelled = is }) s).0 h);
+              goes_on = λ w is. let lt = shorter Fits fields_in tell rest after said s in omega (arith, lt, ap length is);
             },
           )
 
-          by_start : ((said : A) × (after : List ℕ) × StartsWith Fits words_in rest said after) ⊎ StartsWithNone Fits words_in rest
+          by_start : ((said : A) × (after : List ℕ) × StartsWith Fits fields_in rest said after) ⊎ StartsWithNone Fits fields_in rest
               → ((b : List A) (r : List ℕ) → length r ≤ fuel → IsFront IsWhole b → text ≡ Lines b ++ r → HasAnswer text) → HasAnswer text
           by_start (inl h) next = by_next h.0 h.1 h.2 (goes before h.0 front h.2.fits) next
           by_start (inr none) next = at_end before rest front e none

@@ -1,14 +1,14 @@
--- Words from which what they say can be computed: two values that fit differ in their words, and of any words it can be told whether they are those of one.
+-- Fields from which what they say can be computed: two values that fit differ in their fields, and of any fields it can be told whether they are those of one.
 use Rattle.std.proofs.Common.{◌≡◌, ◌≢◌, ◌⊎◌, ℕ, ◌<◌, ◌≤◌, List, [], ◌∷◌, length, Option, Some, None, refl, sym, ap, ap₂, ◌∙◌, subst, inl, inr, arith}
 use Rattle.std.proofs.lemmas.Bool.{cases_lt}
 use Rattle.cw_lemmas.proofs.Texts.{bytes_or_not}
 use Rattle.cw_text.specs.Lines.{Reads}
 
-pub words_or_not : (a b : List (List ℕ)) → (a ≡ b) ⊎ (a ≢ b)
-words_or_not [] [] = inl refl
-words_or_not [] (y ∷ b) = inr (λ e. omega (arith, ap length e))
-words_or_not (x ∷ a) [] = inr (λ e. omega (arith, ap length e))
-words_or_not (x ∷ a) (y ∷ b) = go (bytes_or_not x y) (words_or_not a b)
+pub fields_or_not : (a b : List (List ℕ)) → (a ≡ b) ⊎ (a ≢ b)
+fields_or_not [] [] = inl refl
+fields_or_not [] (y ∷ b) = inr (λ e. omega (arith, ap length e))
+fields_or_not (x ∷ a) [] = inr (λ e. omega (arith, ap length e))
+fields_or_not (x ∷ a) (y ∷ b) = go (bytes_or_not x y) (fields_or_not a b)
   where
     first : List (List ℕ) → List ℕ
     first [] = []
@@ -34,13 +34,13 @@ module _ {B W : Type 0} (Fits : B → Type 0) (text_of : B → W) (back : W → 
   pub same_by : (a b : B) → Fits a → Fits b → text_of a ≡ text_of b → a ≡ b
   same_by a b f g e = sym (is_back a f) ∙ ap back e ∙ is_back b g
 
-  only : (word : W) (b : B) → Fits b → text_of b ≡ word → back word ≡ b
-  only word b f is = ap back (sym is) ∙ is_back b f
+  only : (field : W) (b : B) → Fits b → text_of b ≡ field → back field ≡ b
+  only field b f is = ap back (sym is) ∙ is_back b f
 
-  pub told_by : ((a b : W) → (a ≡ b) ⊎ (a ≢ b)) → ((b : B) → Fits b ⊎ (Fits b → ⊥)) → (word : W) → (read : Option B) × Reads Fits text_of word read
-  told_by equal fits word = go (fits (back word)) (equal (text_of (back word)) word)
+  pub decided_by : ((a b : W) → (a ≡ b) ⊎ (a ≢ b)) → ((b : B) → Fits b ⊎ (Fits b → ⊥)) → (field : W) → (read : Option B) × Reads Fits text_of field read
+  decided_by equal fits field = go (fits (back field)) (equal (text_of (back field)) field)
     where
-      go : Fits (back word) ⊎ (Fits (back word) → ⊥) → (text_of (back word) ≡ word) ⊎ (text_of (back word) ≢ word) → (read : Option B) × Reads Fits text_of word read
-      go (inl f) (inl e) = (Some (back word), record { some = (f, e); none = tt })
-      go (inl f) (inr differs) = (None, record { some = tt; none = λ b g is. differs (ap text_of (only word b g is) ∙ is) })
-      go (inr never) e = (None, record { some = tt; none = λ b g is. never (subst Fits (sym (only word b g is)) g) })
+      go : Fits (back field) ⊎ (Fits (back field) → ⊥) → (text_of (back field) ≡ field) ⊎ (text_of (back field) ≢ field) → (read : Option B) × Reads Fits text_of field read
+      go (inl f) (inl e) = (Some (back field), record { some = (f, e); none = tt })
+      go (inl f) (inr differs) = (None, record { some = tt; none = λ b g is. differs (ap text_of (only field b g is) ∙ is) })
+      go (inr never) e = (None, record { some = tt; none = λ b g is. never (subst Fits (sym (only field b g is)) g) })

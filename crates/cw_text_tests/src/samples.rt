@@ -38,16 +38,16 @@ fn there_is_no_sample_of_none_or_of_more_than_400(rt: HostRuntime) {
     is_out_of_range(&rt, rt.alloc(), 401);
 }
 
-/// Asserts which number of a sample each of these words is, if any.
-fn all_words(rt: &impl Abort, words: &[(&str, Option<u32>)]) {
-    for (word, number) in words {
-        assert!(rt; sample_number(word.as_bytes()) == *number, "{word}");
+/// Asserts which number of a sample each of these arguments is, if any.
+fn all_arguments(rt: &impl Abort, arguments: &[(&str, Option<u32>)]) {
+    for (argument, number) in arguments {
+        assert!(rt; sample_number(argument.as_bytes()) == *number, "{argument}");
     }
 }
 
 #[test]
-fn words_that_are_numbers_of_samples(rt: HostRuntime) {
-    all_words(
+fn arguments_that_are_numbers_of_samples(rt: HostRuntime) {
+    all_arguments(
         &rt,
         &[
             ("1", Some(1)),

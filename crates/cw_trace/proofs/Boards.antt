@@ -5,7 +5,7 @@ use Rattle.cw_rights.specs.declared.capabilities.Caps.{Caps}
 use Rattle.cw_rights.specs.Words.{Word}
 use Rattle.cw_certs.specs.declared.moves.Move.{Move}
 use Rattle.cw_syntax.specs.Plans.{Plain, Break, Continue, Return, Open, Close, Call, Group, Label, If, While, Do, For, Stm, Plan}
-use Rattle.cw_syntax.specs.Frames.{Entry, Todo, Test, After, Mark, End, Frame, settled}
+use Rattle.cw_syntax.specs.Frames.{Entry, Todo, Test, After, LoopEnd, End, Frame, settled}
 use Rattle.cw_model.specs.Boards.{Problem, Phase, Visit, Asked, Refused, Free, FreeSplit, Over, Board}
 use Rattle.cw_game.specs.declared.spots.Spot.{Spot}
 use Rattle.cw_game.specs.declared.spots.Spot.TheVariants.{Visit as VisitSpot, Asked as AskedSpot, Step, Branch, Label as LabelSpot, Open as OpenSpot, Close as CloseSpot}
@@ -51,7 +51,7 @@ module _ (Means : Meaning) (g : Game) (plan : Plan) (main : plan.main ≡ g.main
   front_told x pos (Todo (For at init decided stepped s) ∷ is) frames h e = cc
   front_told x pos (Test at decided stepped s ∷ is) frames h e = test_told pos h.2.1.0 h.2.1.2 at decided stepped s is frames h.2.1.3
   front_told x pos (After at ∷ is) frames h e = record { spot = Step h.2.1.0; stands = h.2.1.1; moved = λ by. refl; reached = λ caps. refl }
-  front_told x pos (Mark ∷ is) frames h e = cc
+  front_told x pos (LoopEnd ∷ is) frames h e = cc
   front_told x pos (End f ∷ is) frames h e = record {
     spot = Exit f;
     stands = subst (λ n. slice_get g.spots n ≡ Some (Exit f)) (sym h.2.2) h.2.3;

@@ -4,7 +4,7 @@ use Rattle.cw_certs.specs.Tables.{Table}
 use Rattle.cw_model.specs.Boards.{Problem, Board, turn_of}
 use Rattle.cw_model.specs.Runs.{State, WovenStep}
 use Rattle.cw_trace.specs.Traces.{Names, Taken, step_lines, lines_from, board_after}
-use Rattle.cw_trace.specs.Steps.{Step, Follows, state_after, word_by, words_of}
+use Rattle.cw_trace.specs.Steps.{Step, Follows, state_after, entry_by, entries_of}
 
 pub lines_grown : (names : Names) (p : Problem) (b : Board) (before : List Taken) (last : Taken)
     → lines_from names p b (before ++ last ∷ []) ≡ lines_from names p b before ++ step_lines names p (board_after b before) last.by last.next
@@ -26,9 +26,9 @@ pub state_grown : (s : State) (before : List Step) (last : Step) → state_after
 state_grown s [] last = refl
 state_grown s (one ∷ before) last = state_grown one.next before last
 
-pub words_grown : (s : State) (before : List Step) (last : Step)
-    → words_of s (before ++ last ∷ []) ≡ words_of s before ++ word_by (turn_of (state_after s before).board.phase) last.by
-words_grown s [] last = append-nil (word_by (turn_of s.board.phase) last.by)
-words_grown s (one ∷ before) last =
-    ap (λ l. word_by (turn_of s.board.phase) one.by ++ l) (words_grown one.next before last)
-    ∙ sym (append_assoc (word_by (turn_of s.board.phase) one.by) (words_of one.next before) (word_by (turn_of (state_after one.next before).board.phase) last.by))
+pub entries_grown : (s : State) (before : List Step) (last : Step)
+    → entries_of s (before ++ last ∷ []) ≡ entries_of s before ++ entry_by (turn_of (state_after s before).board.phase) last.by
+entries_grown s [] last = append-nil (entry_by (turn_of s.board.phase) last.by)
+entries_grown s (one ∷ before) last =
+    ap (λ l. entry_by (turn_of s.board.phase) one.by ++ l) (entries_grown one.next before last)
+    ∙ sym (append_assoc (entry_by (turn_of s.board.phase) one.by) (entries_of one.next before) (entry_by (turn_of (state_after one.next before).board.phase) last.by))

@@ -11,7 +11,7 @@ use Rattle.cw_certs.specs.Tables.{Table}
 use Rattle.cw_model.specs.Boards.{Problem, Phase, Visit, Asked, Refused, Free, FreeSplit, Over, Board, Party, Weaver, Environment, Moves, moved, turn_of, IsWeavers}
 use Rattle.cw_model.specs.Runs.{try_of, mem_in, stays_where, stays_unless, refused_with, stops, memories, State, start_state, WovenStep}
 use Rattle.cw_trace.proofs.Lists.{cons_head, cons_tail}
-use Rattle.cw_trace.specs.Steps.{Step, Follows, state_after, word_by, words_of, End, Ended, TapeSpent, BadMove, EndsBy, OneRunByATape}
+use Rattle.cw_trace.specs.Steps.{Step, Follows, state_after, entry_by, entries_of, End, Ended, TapeSpent, BadMove, EndsBy, OneRunByATape}
 
 abbrev at_state : Board → List ℕ → State
 at_state b ms = record { board = b; mems = ms }
@@ -19,7 +19,7 @@ at_state b ms = record { board = b; mems = ms }
 abbrev step_to : Move → State → Step
 step_to by next = record { by = by; next = next }
 
--- the end, where it is counted from a word before
+-- the end, where it is counted from an entry before
 abbrev later_end : End → End
 later_end Ended = Ended
 later_end TapeSpent = TapeSpent
@@ -89,21 +89,21 @@ module _ (p : Problem) (t : Table) where
   over_ends b next Free by e m = none-some Environment (sym e)
   over_ends b next FreeSplit by e m = none-some Environment (sym e)
 
-  -- What the end says of the words that are left.
-  none_left : (end : End) (b : Board) (word : Move) (words : List Move) → EndsBy p [] end b (word ∷ words) → ⊥
-  none_left Ended b word words h = let e = h.0 in cc
-  none_left TapeSpent b word words h = let e = h.0 in cc
-  none_left (BadMove i) b word words h = none-some h.1.0 h.1.1
+  -- What the end says of the entries that are left.
+  none_left : (end : End) (b : Board) (entry : Move) (entries : List Move) → EndsBy p [] end b (entry ∷ entries) → ⊥
+  none_left Ended b entry entries h = let e = h.0 in cc
+  none_left TapeSpent b entry entries h = let e = h.0 in cc
+  none_left (BadMove i) b entry entries h = none-some h.1.0 h.1.1
 
-  first_word : (end : End) (b : Board) (word first : Move) (words rest : List Move) → EndsBy p (first ∷ rest) end b (word ∷ words)
-      → (word ≡ first) × ((end2 : End) × (end ≡ later_end end2) × EndsBy p rest end2 b words)
-  first_word Ended b word first words rest h = (cons_head word first words rest h.0, (Ended, refl, (cons_tail word first words rest h.0, h.1)))
-  first_word TapeSpent b word first words rest h = (cons_head word first words rest h.0, (TapeSpent, refl, (cons_tail word first words rest h.0, h.1)))
-  first_word (BadMove zero) b word first words rest h = let e = h.0 in cc
-  first_word (BadMove (suc i)) b word first words rest h =
-      (cons_head word first words (take i rest) h.0, (BadMove i, refl, (cons_tail word first words (take i rest) h.0, h.1)))
+  first_entry : (end : End) (b : Board) (entry first : Move) (entries rest : List Move) → EndsBy p (first ∷ rest) end b (entry ∷ entries)
+      → (entry ≡ first) × ((end2 : End) × (end ≡ later_end end2) × EndsBy p rest end2 b entries)
+  first_entry Ended b entry first entries rest h = (cons_head entry first entries rest h.0, (Ended, refl, (cons_tail entry first entries rest h.0, h.1)))
+  first_entry TapeSpent b entry first entries rest h = (cons_head entry first entries rest h.0, (TapeSpent, refl, (cons_tail entry first entries rest h.0, h.1)))
+  first_entry (BadMove zero) b entry first entries rest h = let e = h.0 in cc
+  first_entry (BadMove (suc i)) b entry first entries rest h =
+      (cons_head entry first entries (take i rest) h.0, (BadMove i, refl, (cons_tail entry first entries (take i rest) h.0, h.1)))
 
-  -- where nothing was read the end comes of the first word
+  -- where nothing was read the end comes of the first entry
   not_read : (i : ℕ) (tape : List Move) (by : Move) → [] ≡ take i tape → slice_get tape i ≡ Some by → i ≡ 0
   not_read zero tape by e h = refl
   not_read (suc i) [] by e h = absurd (none-some by h)
@@ -120,29 +120,29 @@ module _ (p : Problem) (t : Table) where
   one_end tape b (BadMove i) TapeSpent h k = absurd (none-some h.1.0 (subst (λ l. slice_get l i ≡ Some h.1.0) (sym k.0) h.1.1))
   one_end tape b (BadMove i) (BadMove j) h k = ap BadMove (not_read i tape h.1.0 h.0 h.1.1 ∙ sym (not_read j tape k.1.0 k.0 k.1.1))
 
-  -- a run that ends before a word that can be played is no run by this tape
-  must_play : (tape : List Move) (one other : End) (b far next : Board) (by : Move) (words : List Move) → EndsBy p tape one b [] → EndsBy p tape other far (by ∷ words) → Moves p b by next → ⊥
-  must_play [] one other b far next by words h k m = none_left other far by words k
-  must_play (w ∷ tape) Ended other b far next by words h k m = let e = h.0 in cc
-  must_play (w ∷ tape) TapeSpent other b far next by words h k m = let e = h.0 in cc
-  must_play (w ∷ tape) (BadMove zero) other b far next by words h k m =
-      let f = first_word other far by w words tape k in
+  -- a run that ends before an entry that can be played is no run by this tape
+  must_play : (tape : List Move) (one other : End) (b far next : Board) (by : Move) (entries : List Move) → EndsBy p tape one b [] → EndsBy p tape other far (by ∷ entries) → Moves p b by next → ⊥
+  must_play [] one other b far next by entries h k m = none_left other far by entries k
+  must_play (w ∷ tape) Ended other b far next by entries h k m = let e = h.0 in cc
+  must_play (w ∷ tape) TapeSpent other b far next by entries h k m = let e = h.0 in cc
+  must_play (w ∷ tape) (BadMove zero) other b far next by entries h k m =
+      let f = first_entry other far by w entries tape k in
       h.1.2 next (subst (λ z. Moves p b z next) (f.0 ∙ same_Some w h.1.0 h.1.1) m)
-  must_play (w ∷ tape) (BadMove (suc i)) other b far next by words h k m = let e = h.0 in cc
+  must_play (w ∷ tape) (BadMove (suc i)) other b far next by entries h k m = let e = h.0 in cc
 
   abbrev Same : End → End → List Step → List Step → Type 0
   Same one other steps others = (one ≡ other) × (steps ≡ others)
 
   abbrev IsRest : State → List Move → End → List Step → Type 0
-  IsRest s tape end steps = Follows p t s steps × (IsWeavers (state_after s steps).board → ⊥) × EndsBy p tape end (state_after s steps).board (words_of s steps)
+  IsRest s tape end steps = Follows p t s steps × (IsWeavers (state_after s steps).board → ⊥) × EndsBy p tape end (state_after s steps).board (entries_of s steps)
 
   -- a step from where a run has ended
   ended_here : (s : State) (tape : List Move) (one other : End) (step : Step) (later : List Step) (turn : Option Party) → turn_of s.board.phase ≡ turn → IsRest s tape one []
-      → WovenStep p t s step.by step.next → EndsBy p tape other (state_after step.next later).board (word_by turn step.by ++ words_of step.next later) → ⊥
+      → WovenStep p t s step.by step.next → EndsBy p tape other (state_after step.next later).board (entry_by turn step.by ++ entries_of step.next later) → ⊥
   ended_here s tape one other step later (Some Weaver) e h k l = h.1 e
   ended_here s tape one other step later None e h k l = over_ends s.board step.next.board s.board.phase step.by e k.0.1
   ended_here s tape one other step later (Some Environment) e h k l =
-      must_play tape one other s.board (state_after step.next later).board step.next.board step.by (words_of step.next later) h.2 l k.0
+      must_play tape one other s.board (state_after step.next later).board step.next.board step.by (entries_of step.next later) h.2 l k.0
 
   -- what is still to be shown of the steps after this one
   abbrev Later : State → List Step → List Step → Type 0
@@ -154,8 +154,8 @@ module _ (p : Problem) (t : Table) where
   one_turn : (s : State) (tape : List Move) (one other : End) (a b : Step) (later others : List Step) (turn : Option Party) → Later a.next later others → turn_of s.board.phase ≡ turn
       → WovenStep p t s a.by a.next → WovenStep p t s b.by b.next → Follows p t a.next later → Follows p t b.next others
       → (IsWeavers (state_after a.next later).board → ⊥) → (IsWeavers (state_after b.next others).board → ⊥)
-      → EndsBy p tape one (state_after a.next later).board (word_by turn a.by ++ words_of a.next later)
-      → EndsBy p tape other (state_after b.next others).board (word_by turn b.by ++ words_of b.next others) → Same one other (a ∷ later) (b ∷ others)
+      → EndsBy p tape one (state_after a.next later).board (entry_by turn a.by ++ entries_of a.next later)
+      → EndsBy p tape other (state_after b.next others).board (entry_by turn b.by ++ entries_of b.next others) → Same one other (a ∷ later) (b ∷ others)
   one_turn s tape one other a b later others None go e u v f g r q h k = absurd (over_ends s.board a.next.board s.board.phase a.by e u.0.1)
   one_turn s tape one other a b later others (Some Weaver) go e u v f g r q h k =
       let moves =
@@ -164,10 +164,10 @@ module _ (p : Problem) (t : Table) where
       let same = same_taken s a b moves u v in
       joined one other a b later others same
       (go tape one other (f, r, h) (subst (λ (y : Step). IsRest y.next tape other others) (sym same) (g, q, k)))
-  one_turn s [] one other a b later others (Some Environment) go e u v f g r q h k = absurd (none_left one (state_after a.next later).board a.by (words_of a.next later) h)
+  one_turn s [] one other a b later others (Some Environment) go e u v f g r q h k = absurd (none_left one (state_after a.next later).board a.by (entries_of a.next later) h)
   one_turn s (w ∷ tape) one other a b later others (Some Environment) go e u v f g r q h k =
-      let x = first_word one (state_after a.next later).board a.by w (words_of a.next later) tape h in
-      let y = first_word other (state_after b.next others).board b.by w (words_of b.next others) tape k in
+      let x = first_entry one (state_after a.next later).board a.by w (entries_of a.next later) tape h in
+      let y = first_entry other (state_after b.next others).board b.by w (entries_of b.next others) tape k in
       let same = same_taken s a b (x.0 ∙ sym y.0) u v in
       let z = joined x.1.0 y.1.0 a b later others same
       (go tape x.1.0 y.1.0 (f, r, x.1.2) (subst (λ (y2 : Step). IsRest y2.next tape y.1.0 others) (sym same) (g, q, y.1.2))) in

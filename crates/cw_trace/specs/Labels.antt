@@ -24,5 +24,5 @@ abbrev pub names_of : List ℕ → File → Plan → Names
 names_of source file plan = record { functions = function_names source file; labels = seam_names source file plan }
 
 -- what the program's data stand for
-abbrev pub told : NamesData → Names
-told names = record { functions = lists names.functions.items; labels = lists names.labels.items }
+abbrev pub name_lists : NamesData → Names
+name_lists names = record { functions = lists names.functions.items; labels = lists names.labels.items }

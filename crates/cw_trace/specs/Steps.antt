@@ -21,17 +21,17 @@ state_after s [] = s
 state_after s (step ∷ later) = state_after step.next later
 
 -- the move, where it is the environment's turn
-abbrev pub word_by : Option Party → Move → List Move
-word_by (Some Environment) by = by ∷ []
-word_by (Some Weaver) by = []
-word_by None by = []
+abbrev pub entry_by : Option Party → Move → List Move
+entry_by (Some Environment) by = by ∷ []
+entry_by (Some Weaver) by = []
+entry_by None by = []
 
 -- the moves that the environment makes, in order
-abbrev pub words_of : State → List Step → List Move
-words_of s [] = []
-words_of s (step ∷ later) = word_by (turn_of s.board.phase) step.by ++ words_of step.next later
+abbrev pub entries_of : State → List Step → List Move
+entries_of s [] = []
+entries_of s (step ∷ later) = entry_by (turn_of s.board.phase) step.by ++ entries_of step.next later
 
--- How a run by a tape ends: all is over as the tape ends; the tape ends before; the word with this number, from 0, is no move of the board.
+-- How a run by a tape ends: all is over as the tape ends; the tape ends before; the entry with this number, from 0, is no move of the board.
 pub data End : Type 0 where
   Ended : End
   TapeSpent : End
@@ -42,16 +42,16 @@ IsNoMove p b by = (next : Board) → Moves p b by next → ⊥
 
 -- what has been read of the tape, and what holds where the run ends
 abbrev pub EndsBy : Problem → List Move → End → Board → List Move → Type 0
-EndsBy p tape Ended b words = (words ≡ tape) × (b.phase ≡ Over)
-EndsBy p tape TapeSpent b words = (words ≡ tape) × (b.phase ≡ Over → ⊥)
-EndsBy p tape (BadMove i) b words = (words ≡ take i tape) × ((by : Move) × (slice_get tape i ≡ Some by) × IsNoMove p b by)
+EndsBy p tape Ended b entries = (entries ≡ tape) × (b.phase ≡ Over)
+EndsBy p tape TapeSpent b entries = (entries ≡ tape) × (b.phase ≡ Over → ⊥)
+EndsBy p tape (BadMove i) b entries = (entries ≡ take i tape) × ((by : Move) × (slice_get tape i ≡ Some by) × IsNoMove p b by)
 
 -- These are the steps of the woven run by the tape, from this state on.
 pub record Runs (p : Problem) (t : Table) (s : State) (tape : List Move) (end : End) (steps : List Step) : Type 0 where
   pub follows : Follows p t s steps
-  -- the weaver has made its moves, after the last word too
+  -- the weaver has made its moves, after the last entry too
   pub rests : IsWeavers (state_after s steps).board → ⊥
-  pub ends : EndsBy p tape end (state_after s steps).board (words_of s steps)
+  pub ends : EndsBy p tape end (state_after s steps).board (entries_of s steps)
 
 -- The woven run by a tape, from the start.
 abbrev pub IsRunBy : Problem → Table → List Move → End → List Step → Type 0

@@ -13,7 +13,7 @@ use cw_io::{Sink, Writer};
 use cw_rights::policy::Descriptor;
 use cw_rights::{Caps, Hold, Primitive, Rights};
 
-/// Puts the words for a primitive; a limit has its stage behind it.
+/// Puts the names for a primitive; a limit has its stage behind it.
 fn put_primitive<S: Sink>(stage: u8, prim: Primitive, writer: &mut Writer<S>, out: &mut S)
     requires follows { Follows S.taken S.faults S.refused writer.old out.old }
     ensures text { writer.new.text ≡ writer.old.text ++ primitive_text stage prim }
@@ -30,8 +30,8 @@ fn put_primitive<S: Sink>(stage: u8, prim: Primitive, writer: &mut Writer<S>, ou
     }
 }
 
-/// The word for an answer.
-fn answer_word(granted: bool) -> &'static [u8]
+/// The name of an answer.
+fn answer_name(granted: bool) -> &'static [u8]
     ensures { result.now ≡ answer_text granted }
 {
     if granted { b"granted" } else { b"refused" }
@@ -58,7 +58,7 @@ pub fn put_try<S: Sink>(
     writer.put(b" ", out);
     put_primitive(stage, prim, writer, out);
     writer.put(b" ", out);
-    writer.put(answer_word(granted), out);
+    writer.put(answer_name(granted), out);
     writer.put(b"\n", out);
 }
 
@@ -75,8 +75,8 @@ pub fn put_stop<S: Sink>(seam: SeamId, writer: &mut Writer<S>, out: &mut S)
     writer.put(b"\n", out);
 }
 
-/// The word for how an open ended.
-fn success_words(opened: bool) -> &'static [u8]
+/// The name of how an open ended.
+fn success_name(opened: bool) -> &'static [u8]
     ensures { result.now ≡ success_text opened }
 {
     if opened { b" opened" } else { b" failed" }
@@ -92,7 +92,7 @@ pub fn put_open<S: Sink>(name: &[u8], opened: bool, writer: &mut Writer<S>, out:
 {
     writer.put(b"open ", out);
     writer.put(name, out);
-    writer.put(success_words(opened), out);
+    writer.put(success_name(opened), out);
     writer.put(b"\n", out);
 }
 
@@ -109,8 +109,8 @@ pub fn put_close<S: Sink>(name: &[u8], writer: &mut Writer<S>, out: &mut S)
     writer.put(b"\n", out);
 }
 
-/// The word for a call in a process of its own, nothing for another.
-fn mode_words(split: bool) -> &'static [u8]
+/// The name of a call in a process of its own, nothing for another.
+fn mode_name(split: bool) -> &'static [u8]
     ensures { result.now ≡ mode_text split }
 {
     if split { b" split" } else { b"" }
@@ -126,7 +126,7 @@ pub fn put_call<S: Sink>(name: &[u8], split: bool, writer: &mut Writer<S>, out: 
 {
     writer.put(b"call ", out);
     writer.put(name, out);
-    writer.put(mode_words(split), out);
+    writer.put(mode_name(split), out);
     writer.put(b"\n", out);
 }
 
@@ -235,8 +235,8 @@ fn put_all_held<S: Sink>(
     }
 }
 
-/// The word for ambient or capability mode.
-fn authority_word(amb: bool) -> &'static [u8]
+/// The name of ambient or capability mode.
+fn authority_name(amb: bool) -> &'static [u8]
     ensures { result.now ≡ authority_text amb }
 {
     if amb { b"amb" } else { b"cap" }
@@ -250,7 +250,7 @@ fn put_caps<S: Sink>(caps: &Caps, descriptors: &[Descriptor], writer: &mut Write
     ensures begun { writer.new.begun ≡ writer.old.begun }
     ensures follows { Follows S.taken S.faults S.refused writer.new out.new }
 {
-    writer.put(authority_word(caps.amb), out);
+    writer.put(authority_name(caps.amb), out);
     put_all_held(caps, descriptors, writer, out);
 }
 

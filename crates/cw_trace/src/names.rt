@@ -6,7 +6,7 @@ ghost use Rattle.cw_syntax.specs.Trees.{file_of};
 ghost use Rattle.cw_syntax.specs.Plans.{plan_of};
 ghost use Rattle.cw_points.specs.Graphs.{IsGraph};
 ghost use Rattle.cw_resolve.specs.Held.{lists, name_in};
-ghost use Rattle.cw_trace.specs.Labels.{label_at, names_of, told};
+ghost use Rattle.cw_trace.specs.Labels.{label_at, names_of, name_lists};
 
 use cw_core::{NoMemory, SeamId};
 use cw_points::{Graph, Seam};
@@ -26,14 +26,14 @@ pub struct Names {
 impl Names {
     /// The name of the function with this number.
     pub fn function(&self, number: u32) -> &[u8]
-        ensures name { result.now ≡ name_in (told self.now).functions number }
+        ensures name { result.now ≡ name_in (name_lists self.now).functions number }
     {
         name_in(&self.functions, number as usize)
     }
 
     /// The name of the label at a seam.
     pub fn label(&self, seam: SeamId) -> &[u8]
-        ensures name { result.now ≡ name_in (told self.now).labels seam.0 }
+        ensures name { result.now ≡ name_in (name_lists self.now).labels seam.0 }
     {
         name_in(&self.labels, seam.0 as usize)
     }
@@ -71,7 +71,7 @@ fn seam_names(
 pub fn trace_names(alloc: Global, checked: &Checked, graph: &Graph) -> Result<Names, NoMemory>
     ensures names { IfOk result (λ names. (given : PolicyNames)
         → IsGraph given checked.now.source.now (file_of checked.now.program) graph.now
-        → told names ≡ names_of checked.now.source.now (file_of checked.now.program) (plan_of given checked.now.source.now (file_of checked.now.program))) }
+        → name_lists names ≡ names_of checked.now.source.now (file_of checked.now.program) (plan_of given checked.now.source.now (file_of checked.now.program))) }
 {
     let functions = function_names(alloc, checked.source, &checked.program)?;
     let labelled = labels_in(alloc, &checked.program)?;

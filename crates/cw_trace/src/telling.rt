@@ -7,7 +7,7 @@ ghost use Rattle.cw_states.specs.States.{caps_at, lists_of};
 ghost use Rattle.cw_product.specs.Moves.{IsPosition, IsState};
 ghost use Rattle.cw_product.specs.Product.{game_of};
 ghost use Rattle.cw_trace.specs.Traces.{answered_lines, opened_lines, returned_lines};
-ghost use Rattle.cw_trace.specs.Labels.{told};
+ghost use Rattle.cw_trace.specs.Labels.{name_lists};
 ghost use Rattle.cw_trace.specs.Told.{spot_lines, label_lines, lines_at, label_at};
 
 use crate::{Names, put_call, put_close, put_label, put_open, put_return, put_try};
@@ -63,7 +63,7 @@ fn put_returned<S: Sink>(
     out: &mut S,
 )
     requires follows { Follows S.taken S.faults S.refused writer.old out.old }
-    ensures text { writer.new.text ≡ writer.old.text ++ returned_lines (told names.now) main function }
+    ensures text { writer.new.text ≡ writer.old.text ++ returned_lines (name_lists names.now) main function }
     ensures begun { writer.new.begun ≡ writer.old.begun }
     ensures follows { Follows S.taken S.faults S.refused writer.new out.new }
 {
@@ -83,7 +83,7 @@ pub fn put_move<S: Sink>(
     out: &mut S,
 )
     requires follows { Follows S.taken S.faults S.refused writer.old out.old }
-    ensures text { writer.new.text ≡ writer.old.text ++ spot_lines (told names.now) (policy_of policy.now) main spot by }
+    ensures text { writer.new.text ≡ writer.old.text ++ spot_lines (name_lists names.now) (policy_of policy.now) main spot by }
     ensures begun { writer.new.begun ≡ writer.old.begun }
     ensures follows { Follows S.taken S.faults S.refused writer.new out.new }
 {
@@ -108,7 +108,7 @@ pub fn put_reached<S: Sink>(
     out: &mut S,
 )
     requires follows { Follows S.taken S.faults S.refused writer.old out.old }
-    ensures text { writer.new.text ≡ writer.old.text ++ label_lines (told names.now) (policy_of policy.now) caps.now spot }
+    ensures text { writer.new.text ≡ writer.old.text ++ label_lines (name_lists names.now) (policy_of policy.now) caps.now spot }
     ensures begun { writer.new.begun ≡ writer.old.begun }
     ensures follows { Follows S.taken S.faults S.refused writer.new out.new }
 {
@@ -140,8 +140,8 @@ pub fn put_step<S: Sink>(
     requires follows { Follows S.taken S.faults S.refused writer.old out.old }
     ensures told { let g = game_of game.now in
         writer.new.text ≡ writer.old.text
-        ++ (lines_at (told names.now) g.policy g.main (slice_get g.spots pos.0) by
-        ++ label_at (told names.now) g.policy (caps_at (lists_of game.now.states) next.1.0) (slice_get g.spots next.0.0)) }
+        ++ (lines_at (name_lists names.now) g.policy g.main (slice_get g.spots pos.0) by
+        ++ label_at (name_lists names.now) g.policy (caps_at (lists_of game.now.states) next.1.0) (slice_get g.spots next.0.0)) }
     ensures begun { writer.new.begun ≡ writer.old.begun }
     ensures follows { Follows S.taken S.faults S.refused writer.new out.new }
 {

@@ -64,26 +64,26 @@ to_of (Node op parts from to) = to
 -- ---- names
 
 -- Where the value of a name is kept, by its number: of the function or of the file, apart by whether it is an array; or nowhere.
-pub data Place : Type 0 where
-  Own : ℕ → Place
-  OwnArray : ℕ → Place
-  Shared : ℕ → Place
-  SharedArray : ℕ → Place
-  Nowhere : Place
+pub data Location : Type 0 where
+  Own : ℕ → Location
+  OwnArray : ℕ → Location
+  Shared : ℕ → Location
+  SharedArray : ℕ → Location
+  Nowhere : Location
 
-abbrev pub shared_by : Option ℕ → Option ℕ → Place
+abbrev pub shared_by : Option ℕ → Option ℕ → Location
 shared_by (Some n) plain = SharedArray n
 shared_by None (Some n) = Shared n
 shared_by None None = Nowhere
 
-abbrev pub own_by : Option ℕ → Option ℕ → Place → Place
+abbrev pub own_by : Option ℕ → Option ℕ → Location → Location
 own_by (Some n) plain other = OwnArray n
 own_by None (Some n) other = Own n
 own_by None None other = other
 
 -- a name of the function hides one at file scope
-abbrev pub place_of : Scope → List ℕ → Place
-place_of s name =
+abbrev pub location_of : Scope → List ℕ → Location
+location_of s name =
     own_by (number_in s.own.arrays name) (number_in s.own.plain name)
     (shared_by (number_in s.shared.arrays name) (number_in s.shared.plain name))
 
@@ -124,37 +124,37 @@ abbrev pub given_for : Scope → List ℕ → Option ℤ
 given_for s name = option_map (λ g. g.1) (find (λ g. bytes_eq name g.0) s.given)
 
 -- A name: its value. An undeclared one has the value that was handed in, and a bare array has none.
-abbrev pub name_read : Scope → List ℕ → ℕ → Memory → Place → Outcome ℤ
+abbrev pub name_read : Scope → List ℕ → ℕ → Memory → Location → Outcome ℤ
 name_read s name at m (Own n) = cell_read at m (cell_of m.own (Plain n))
 name_read s name at m (Shared n) = cell_read at m (cell_of m.shared (Plain n))
 name_read s name at m Nowhere = given_read at m (given_for s name)
 name_read s name at m _ = stops (Form at) m
 
 abbrev pub read_name : Scope → ℕ → ℕ → Memory → Outcome ℤ
-read_name s from to m = name_read s (slice s.source from to) from m (place_of s (slice s.source from to))
+read_name s from to m = name_read s (slice s.source from to) from m (location_of s (slice s.source from to))
 
 -- a name can be changed where it is declared and no array
-abbrev pub target_at : Place → Target
+abbrev pub target_at : Location → Target
 target_at (Own n) = OwnSpot (Plain n)
 target_at (Shared n) = SharedSpot (Plain n)
 target_at _ = Nothing
 
 abbrev pub name_target : Scope → ℕ → ℕ → Target
-name_target s from to = target_at (place_of s (slice s.source from to))
+name_target s from to = target_at (location_of s (slice s.source from to))
 
--- the place of an expression that is a bare name
-abbrev pub bare_at : Scope → Op → ℕ → ℕ → Place
-bare_at s NameOp from to = place_of s (slice s.source from to)
+-- the location of an expression that is a bare name
+abbrev pub bare_at : Scope → Op → ℕ → ℕ → Location
+bare_at s NameOp from to = location_of s (slice s.source from to)
 bare_at s _ from to = Nowhere
 
-abbrev pub bare_place : Scope → Tree → Place
-bare_place s (Node op parts from to) = bare_at s op from to
+abbrev pub bare_location : Scope → Tree → Location
+bare_location s (Node op parts from to) = bare_at s op from to
 
-abbrev pub first_place : Scope → Trees → Place
-first_place s none = Nowhere
-first_place s (more t ts) = bare_place s t
+abbrev pub first_location : Scope → Trees → Location
+first_location s none = Nowhere
+first_location s (more t ts) = bare_location s t
 
-abbrev pub is_array : Place → Bool
+abbrev pub is_array : Location → Bool
 is_array (OwnArray n) = true
 is_array (SharedArray n) = true
 is_array _ = false
@@ -168,20 +168,20 @@ abbrev pub indexed : ℕ → Memory → (Spot → Target) → Option Spot → Ou
 indexed at m made None = stops (Index at) m
 indexed at m made (Some p) = gives (made p) m
 
-abbrev pub element_in : ℕ → Place → ℤ → Memory → Outcome Target
+abbrev pub element_in : ℕ → Location → ℤ → Memory → Outcome Target
 element_in at (OwnArray n) i m = indexed at m OwnSpot (spot_if (array_of m.own n) i n)
 element_in at (SharedArray n) i m = indexed at m SharedSpot (spot_if (array_of m.shared n) i n)
 element_in at _ i m = stops (Form at) m
 
 -- what an argument that is a whole string, a whole `&` expression, a bare array or an undeclared name without a value is passed as
-abbrev pub is_undeclared : Scope → List ℕ → Place → Bool
+abbrev pub is_undeclared : Scope → List ℕ → Location → Bool
 is_undeclared s name Nowhere = not (is_some (given_for s name))
 is_undeclared s name p = false
 
 abbrev pub is_span : Scope → Op → ℕ → ℕ → Bool
 is_span s TextOp from to = true
 is_span s (Prefix n) from to = nat_eq n 5
-is_span s NameOp from to = is_array (place_of s (slice s.source from to)) || is_undeclared s (slice s.source from to) (place_of s (slice s.source from to))
+is_span s NameOp from to = is_array (location_of s (slice s.source from to)) || is_undeclared s (slice s.source from to) (location_of s (slice s.source from to))
 is_span s _ from to = false
 
 -- an external call takes the next answer, and has it as its value
@@ -248,7 +248,7 @@ abbrev pub by_one : ℕ → ℤ
 by_one n = cond (nat_eq n 0) (pos 1) (negsuc 0)
 
 -- the element of an index; a base that is no array is an operand like others, and has no elements
-abbrev pub element : ℕ → Place → Part → Part → Memory → Outcome Target
+abbrev pub element : ℕ → Location → Part → Part → Memory → Outcome Target
 element at p base index m =
     cond (is_array p) (index m and element_in at p)
     (base m and (λ b k. index k and (λ i l. stops (Form at) l)))
@@ -257,7 +257,7 @@ abbrev pub element_read : ℕ → Target → Memory → Outcome ℤ
 element_read at t m = cell_read at m (cell_at m t)
 
 -- what a target is that is a name, an index, or another operand, which is evaluated
-abbrev pub target_of : Scope → Op → ℕ → ℕ → Place → Part → Part → Part → Memory → Outcome Target
+abbrev pub target_of : Scope → Op → ℕ → ℕ → Location → Part → Part → Part → Memory → Outcome Target
 target_of s NameOp from to array base index operand m = gives (name_target s from to) m
 target_of s IndexOp from to array base index operand m = element from array base index m
 target_of s _ from to array base index operand m = operand m and (λ z k. gives Nothing k)
@@ -309,7 +309,7 @@ module _ (s : Scope) where
     value (Node (Char n) parts from to) m = gives (pos n) m
     value (Node TextOp parts from to) m = stops (Form from) m
     value (Node (CallOp f) parts from to) m = arguments parts m and (λ args k. answered f from args k k.calls)
-    value (Node IndexOp parts from to) m = element from (first_place s parts) (first parts) (second parts) m and element_read from
+    value (Node IndexOp parts from to) m = element from (first_location s parts) (first parts) (second parts) m and element_read from
     value (Node (Prefix n) parts from to) m = prefixed n from (before_first s parts) (target parts) (first parts) m
     value (Node (Suffix n) parts from to) m = target parts m and stepped false from (by_one n) (before_first s parts)
     value (Node (Binary n) parts from to) m = binary n from (first parts) (second parts) m
@@ -330,7 +330,7 @@ module _ (s : Scope) where
     -- what the first part is as a target
     pub target : Trees → Memory → Outcome Target
     target none m = stops (Form 0) m
-    target (more t ts) m = target_of s (op_of t) (from_of t) (to_of t) (first_place s (parts_of t)) (base t) (index t) (value t) m
+    target (more t ts) m = target_of s (op_of t) (from_of t) (to_of t) (first_location s (parts_of t)) (base t) (index t) (value t) m
 
     -- the parts of an index that is a target
     pub base : Tree → Memory → Outcome ℤ

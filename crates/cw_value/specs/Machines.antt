@@ -10,7 +10,7 @@ use Rattle.cw_syntax.specs.Frames.{Item, Todo, End, Frame, Way, On}
 use Rattle.cw_value.specs.declared.values.Stop.{Stop}
 use Rattle.cw_value.specs.declared.values.Stop.TheVariants.{Form as FormStop}
 use Rattle.cw_value.specs.Stores.{Cell, Store}
-use Rattle.cw_value.specs.Expressions.{Made, Named, Scope, Memory, Outcome, gives, stops, place_of, Target, Nothing, stored, target_at, from_of}
+use Rattle.cw_value.specs.Expressions.{Made, Named, Scope, Memory, Outcome, gives, stops, location_of, Target, Nothing, stored, target_at, from_of}
 use Rattle.cw_value.specs.Deeds.{said_all, form_at, deed_of, Passing, does}
 
 -- A source with its program, and the values that are handed in for names.
@@ -154,7 +154,7 @@ taken_by at t z caller rest m = goes On (settled_in (stored (memory m caller) t 
 abbrev pub taken_over : Source → ℕ → Name → Cell → Locals → List Locals → Machine → Step
 taken_over s at x None caller rest m = halts (FormStop (call_from at (form_in (function s caller.function) at))) m
 taken_over s at x (Some z) caller rest m =
-    taken_by (whole_from at (form_in (function s caller.function) at)) (target_at (place_of (scope_in s (function s caller.function)) (text s.bytes x))) z caller rest m
+    taken_by (whole_from at (form_in (function s caller.function) at)) (target_at (location_of (scope_in s (function s caller.function)) (text s.bytes x))) z caller rest m
 
 abbrev pub result_by : Source → ℕ → Option Name → Cell → Locals → List Locals → Machine → Step
 result_by s at None answer caller rest m = goes On m

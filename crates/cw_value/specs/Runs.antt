@@ -52,8 +52,8 @@ counted Try n = n + 1
 counted _ n = n
 
 -- the run ends here, so
-abbrev pub told : Going → Stop → Values
-told s stop = record { made = s.machine.made; tried = s.tried; stop = stop }
+abbrev pub ended_values : Going → Stop → Values
+ended_values s stop = record { made = s.machine.made; tried = s.tried; stop = stop }
 
 abbrev pub is_split : Phase → Bool
 is_split FreeSplit = true
@@ -85,13 +85,13 @@ module _ (source : Source) (p : Problem) where
   module _ (weaver : Option Table) where
     -- From this state, with so many steps of the program left, the run ends so. A step of the program that isn't the last comes before the next visit's move.
     pub data Ends : ℕ → Going → Values → Type 0 where
-      over : (n : ℕ) (s : Going) → s.woven.board.phase ≡ Over → Ends n s (told s Ended)
-      spent : (s : Going) → s.woven.board.phase ≢ Over → Ends zero s (told s Steps)
+      over : (n : ℕ) (s : Going) → s.woven.board.phase ≡ Over → Ends n s (ended_values s Ended)
+      spent : (s : Going) → s.woven.board.phase ≢ Over → Ends zero s (ended_values s Steps)
       weaves : (n : ℕ) (s : Going) (m : Move) (next : State) (v : Values) → IsWeaving s.woven.board.phase → Chooses weaver m → m ≢ StopMove
           → Leads weaver s.woven m next
           → Ends (suc n) (record s { woven = next; tried = counted m s.tried }) v → Ends (suc n) s v
       quits : (n : ℕ) (s : Going) (next : State) (seam : SeamId) → IsWeaving s.woven.board.phase → Chooses weaver StopMove
-          → Leads weaver s.woven StopMove next → front_seam s.woven.board.stack ≡ Some seam.0 → Ends (suc n) s (told s (Refused seam))
+          → Leads weaver s.woven StopMove next → front_seam s.woven.board.stack ≡ Some seam.0 → Ends (suc n) s (ended_values s (Refused seam))
       asks : (n : ℕ) (s : Going) (stage : ℕ) (a : Primitive) (later : List Primitive) (next : State) (v : Values)
           → s.woven.board.phase ≡ Asked stage a later → Leads weaver s.woven (answer p s.woven.board a s.tries).0 next
           → Ends (suc n) (record s { woven = next; tries = (answer p s.woven.board a s.tries).1 }) v → Ends (suc n) s v

@@ -8,7 +8,7 @@ use Rattle.cw_syntax.specs.declared.program.Name.{Name}
 use Rattle.cw_syntax.specs.Names.{text}
 use Rattle.cw_syntax.specs.Trees.{Tree, Trees, none, more, Declared, Statement, Stated, Form, Declares, Definition, File}
 use Rattle.cw_value.specs.Stores.{Cell, Store}
-use Rattle.cw_value.specs.Expressions.{Scope, Memory, Outcome, gives, stops, ◌and◌, Place, Shared, SharedArray, place_of, given_for}
+use Rattle.cw_value.specs.Expressions.{Scope, Memory, Outcome, gives, stops, ◌and◌, Location, Shared, SharedArray, location_of, given_for}
 use Rattle.cw_value.specs.Declarations.{Done, done, listed, size_in, sized, made_array, new_plain, new_array}
 use Rattle.cw_value.specs.Deeds.{said_all}
 use Rattle.cw_value.specs.Machines.{Source, Machine, no_names, shared_names, scope_in, globals, parameters, new_locals, function}
@@ -44,16 +44,16 @@ module _ (s : Source) where
   known_size None false init = None
   known_size (Some e) braces init = number_of (sized (blank s.bytes) (Some e) braces init no_memory)
 
-  abbrev pub told : List ℕ → Declared → Option ℕ
-  told name i = cond (is_named name i) (known_size (size_in i.array) i.braces i.init) None
+  abbrev pub stated : List ℕ → Declared → Option ℕ
+  stated name i = cond (is_named name i) (known_size (size_in i.array) i.braces i.init) None
 
-  abbrev pub first_told : List ℕ → List Declared → Option ℕ
-  first_told name [] = None
-  first_told name (i ∷ is) = option_or (told name i) (first_told name is)
+  abbrev pub first_stated : List ℕ → List Declared → Option ℕ
+  first_stated name [] = None
+  first_stated name (i ∷ is) = option_or (stated name i) (first_stated name is)
 
   -- an array has its elements from the beginning where that is told
   abbrev pub start_array : List ℕ → List Cell
-  start_array name = replicate (unwrap_or (first_told name (globals s.file)) 0) (start_cell name)
+  start_array name = replicate (unwrap_or (first_stated name (globals s.file)) 0) (start_cell name)
 
   abbrev pub start_store : Store
   start_store = let names = shared_names s.bytes s.file in record { cells = map start_cell names.plain; arrays = map start_array names.arrays }
@@ -64,20 +64,20 @@ module _ (s : Source) where
   has_size i = is_some (size_in i.array) || i.braces
 
   -- without an initialiser an array is made of its size, unless an earlier declaration has told one
-  abbrev pub made_once : Bool → Place → Cell → ℕ → Memory → Outcome Done
+  abbrev pub made_once : Bool → Location → Cell → ℕ → Memory → Outcome Done
   made_once true p c n m = gives done m
   made_once false p c n m = gives done (made_array m p (replicate n c))
 
-  abbrev pub array_turn : List Declared → Place → List ℕ → Declared → Trees → Memory → Outcome Done
+  abbrev pub array_turn : List Declared → Location → List ℕ → Declared → Trees → Memory → Outcome Done
   array_turn earlier p name i none m =
       sized (scope_in s None) (size_in i.array) i.braces i.init m and (λ n k. made_once (list_any (λ e. is_named name e && has_size e) earlier) p (start_cell name) n k)
   array_turn earlier p name i (more e es) m = new_array (scope_in s None) p (size_in i.array) i.braces i.init m
 
-  abbrev pub plain_turn : Place → Trees → Memory → Outcome Done
+  abbrev pub plain_turn : Location → Trees → Memory → Outcome Done
   plain_turn p none m = gives done m
   plain_turn p (more e es) m = new_plain (scope_in s None) p (more e es) m
 
-  abbrev pub turn_at : List Declared → List ℕ → Declared → Place → Memory → Outcome Done
+  abbrev pub turn_at : List Declared → List ℕ → Declared → Location → Memory → Outcome Done
   turn_at earlier name i (Shared n) m = plain_turn (Shared n) i.init m
   turn_at earlier name i (SharedArray n) m = array_turn earlier (SharedArray n) name i i.init m
   turn_at earlier name i _ m = gives done m
@@ -85,7 +85,7 @@ module _ (s : Source) where
   abbrev pub turns : List Declared → List Declared → Memory → Outcome Done
   turns earlier [] m = gives done m
   turns earlier (i ∷ is) m =
-      turn_at earlier (text s.bytes i.name) i (place_of (scope_in s None) (text s.bytes i.name)) m and (λ d k. turns (earlier ++ i ∷ []) is k)
+      turn_at earlier (text s.bytes i.name) i (location_of (scope_in s None) (text s.bytes i.name)) m and (λ d k. turns (earlier ++ i ∷ []) is k)
 
   abbrev pub begun : List ℤ → Outcome Done
   begun calls = turns [] (globals s.file) (record { own = no_store; shared = start_store; calls = calls; made = [] })

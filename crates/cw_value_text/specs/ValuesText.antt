@@ -29,12 +29,12 @@ unfoldable pub tries_line : ℕ → List ℕ
 tries_line n = line (codes "tries " ++ decimal n)
 
 -- `LINE:COLUMN`
-unfoldable pub place_words : (source : List ℕ) → (at : ℕ) → List ℕ
-place_words source at = decimal (line_of source at) ++ (codes ":" ++ decimal (column_of source at))
+unfoldable pub place_text : (source : List ℕ) → (at : ℕ) → List ℕ
+place_text source at = decimal (line_of source at) ++ (codes ":" ++ decimal (column_of source at))
 
 -- `stop WORD LINE:COLUMN`
 unfoldable pub stopped : (source word : List ℕ) → (at : ℕ) → List ℕ
-stopped source word at = line (codes "stop " ++ (word ++ (codes " " ++ place_words source at)))
+stopped source word at = line (codes "stop " ++ (word ++ (codes " " ++ place_text source at)))
 
 -- `ended`, or why and where it stopped; `stop steps`; `stop refused SEAM`
 unfoldable pub stop_line : (source : List ℕ) → Stop → List ℕ

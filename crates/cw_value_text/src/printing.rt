@@ -5,7 +5,7 @@ ghost use Rattle.std.specs.List.{flat_map};
 ghost use Rattle.std.specs.Fmt.{signed_decimal};
 ghost use Rattle.cw_io.specs.Written.{Follows};
 ghost use Rattle.cw_value.specs.Shown.{made_of, values_of};
-ghost use Rattle.cw_value_text.specs.ValuesText.{arg_text, args_text, call_line, place_words, stop_line, stopped, values_text};
+ghost use Rattle.cw_value_text.specs.ValuesText.{arg_text, args_text, call_line, place_text, stop_line, stopped, values_text};
 ghost use Rattle.cw_value_text.specs.Working.{behind};
 
 use cw_io::{Sink, Writer};
@@ -163,10 +163,10 @@ fn put_stopped<S: Sink>(source: &[u8], word: &[u8], at: u32, writer: &mut Writer
 }
 
 /// Appends a place as people count it.
-#[tactic(auto, unfolding(crate::specs::ValuesText::place_words))]
+#[tactic(auto, unfolding(crate::specs::ValuesText::place_text))]
 fn put_place<S: Sink>(source: &[u8], at: u32, writer: &mut Writer<S>, out: &mut S)
     requires follows { Follows S.taken S.faults S.refused writer.old out.old }
-    ensures text { writer.new.text ≡ writer.old.text ++ place_words source.now at }
+    ensures text { writer.new.text ≡ writer.old.text ++ place_text source.now at }
     ensures begun { writer.new.begun ≡ writer.old.begun }
     ensures follows { Follows S.taken S.faults S.refused writer.new out.new }
 {

@@ -13,7 +13,7 @@ use Rattle.cw_points.specs.declared.graph.Part.{Part}
 use Rattle.cw_points.specs.Graphs.{nodes}
 use Rattle.cw_points.specs.Points.{points}
 use Rattle.cw_points.specs.Walks.{Stand, stand, parts_of}
-use Rattle.cw_points.proofs.Laying.{placed_program}
+use Rattle.cw_points.proofs.Laying.{situated_program}
 use Rattle.cw_points.proofs.Ways.{StackAt}
 use Rattle.cw_points.proofs.Walking.{starts}
 use Rattle.cw_model.specs.Boards.{problem_of}
@@ -60,7 +60,7 @@ module _ (policy : PlainPolicy) (run : Run) (is_run : IsRunOf policy run) (runs 
       let ok = start_ok policy s runs tries mem in
       let parts = parts_of (names_of policy) s.bytes s.file in
       let stack : StackAt (nodes p) (points p) (start_stack p) (option_map (λ part. stand [] part.entry.0) (slice_get parts p.main)) =
-      starts (nodes p) (points p) p parts (placed_program (names_of policy) s.bytes s.file)
+      starts (nodes p) (points p) p parts (situated_program (names_of policy) s.bytes s.file)
       in
       let same : slice_get parts p.main ≡ slice_get run.graph.now.parts.items run.graph.now.main =
       ap (λ (n : ℕ). slice_get parts n) (sym is_run.graph.main) ∙ ap (λ (ps : List Part). slice_get ps run.graph.now.main) (sym is_run.graph.parts)

@@ -13,7 +13,7 @@ use Rattle.cw_points.specs.declared.graph.Part.{Part}
 use Rattle.cw_points.specs.Graphs.{nodes}
 use Rattle.cw_points.specs.Points.{points}
 use Rattle.cw_points.specs.Walks.{Stand, leads, goes as goes_to, parts_of}
-use Rattle.cw_points.proofs.Laying.{placed_program}
+use Rattle.cw_points.proofs.Laying.{situated_program}
 use Rattle.cw_points.proofs.Ways.{StackAt, Tied}
 use Rattle.cw_points.proofs.Walking.{tied}
 use Rattle.cw_model.specs.Boards.{Problem, problem_of, Phase, Free, begin, onward, moved, landed, passed_by, primitives_in}
@@ -104,7 +104,7 @@ module _ (policy : PlainPolicy) (s : Source) where
   by_progress runs frame frames st way k x e at (going a m next q ps r t) =
       let same = same_way a way m k (sym q ∙ e) in
       let passes = subst (λ w. pass (plan policy s) (frame ∷ frames) w ≡ Some next) same ps in
-      let t2 = tied all_nodes all_items (plan policy s) all_parts (placed_program (names_of policy) s.bytes s.file) frame frames st way at in
+      let t2 = tied all_nodes all_items (plan policy s) all_parts (situated_program (names_of policy) s.bytes s.file) frame frames st way at in
       let to = of_stack next (goes_to all_nodes all_parts st way) (subst (λ o. Tied all_nodes all_items o (goes_to all_nodes all_parts st way)) passes t2) in
       record {
         next = next;

@@ -4,14 +4,14 @@ use Rattle.std.specs.Prelude.{slice_get, option_and_then}
 use Rattle.std.proofs.lemmas.Option.{none-some, same_Some}
 use Rattle.cw_core.specs.declared.ids.PointId.{PointId}
 use Rattle.cw_syntax.specs.Plans.{Stm, Plain, Break, Continue, Return, Open, Close, Call, Group, Label, If, While, Do, For}
-use Rattle.cw_syntax.specs.Frames.{Item, Entry, Todo, Test, After, Mark, End, Frame, Way, On, Left, Right, Opened, Failed, settled}
+use Rattle.cw_syntax.specs.Frames.{Item, Entry, Todo, Test, After, LoopEnd, End, Frame, Way, On, Left, Right, Opened, Failed, settled}
 use Rattle.cw_points.specs.declared.graph.Point.{Point}
 use Rattle.cw_points.specs.declared.graph.Point.TheVariants as point
 use Rattle.cw_points.specs.declared.graph.Node.{Node}
 use Rattle.cw_points.specs.declared.graph.Part.{Part}
 use Rattle.cw_points.specs.Graphs.{node, test_node}
 use Rattle.cw_points.specs.Walks.{Stand, stand, number_of, first_of, second_of, called, returned, leads}
-use Rattle.cw_points.proofs.Placed.{Here, AtIn}
+use Rattle.cw_points.proofs.Situated.{Here, AtIn}
 use Rattle.cw_values.specs.Running.{first, second, next_by}
 
 abbrev pub IsInnerPoint : Point → Type 0
@@ -52,7 +52,7 @@ module _ (ns : List Node) (its : List Item) (f x : ℕ) where
   suited (Todo (For at init d u s)) is b c p h e = cc
   suited (Test at d u s) is b c p h e = record { what = _; here = h.1.4; suits = test_suits d u at f h.1.0 h.1.2 s }
   suited (After at) is b c p h e = record { what = _; here = h.1.2; suits = tt }
-  suited Mark is b c p h e = cc
+  suited LoopEnd is b c p h e = cc
   suited (End g) is b c p h e = record { what = _; here = subst (λ n. Here ns its n (node point.Exit f None None) (End g)) (sym h.2) h.3; suits = refl }
 
 -- ---- where the ways lead

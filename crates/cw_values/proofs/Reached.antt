@@ -6,12 +6,12 @@ use Rattle.cw_core.specs.declared.ids.PointId.{PointId}
 use Rattle.cw_rights.specs.Policies.{PlainPolicy}
 use Rattle.cw_syntax.specs.declared.program.Name.{Name}
 use Rattle.cw_syntax.specs.Plans.{Callee, Plain, Break, Continue, Return, Open, Close, Call, Group, Label, If, While, Do, For, Plan}
-use Rattle.cw_syntax.specs.Frames.{Item, Entry, Todo, Test, After, Mark, End, Frame, Way, On, Left, Right, Opened, Failed, after, settle, popped, pass, frame_of, new_frame}
+use Rattle.cw_syntax.specs.Frames.{Item, Entry, Todo, Test, After, LoopEnd, End, Frame, Way, On, Left, Right, Opened, Failed, after, settle, popped, pass, frame_of, new_frame}
 use Rattle.cw_points.specs.declared.graph.Point.{Point}
 use Rattle.cw_points.specs.declared.graph.Point.TheVariants as point
 use Rattle.cw_points.specs.declared.graph.Part.{Part}
 use Rattle.cw_points.specs.Walks.{Stand, stand, returned, goes as goes_to}
-use Rattle.cw_points.proofs.Laying.{placed_program}
+use Rattle.cw_points.proofs.Laying.{situated_program}
 use Rattle.cw_points.proofs.Ways.{StackAt, Tied}
 use Rattle.cw_points.proofs.Walking.{tied}
 use Rattle.cw_resolve.specs.Scenes.{names_of}
@@ -33,7 +33,7 @@ suits_inner : (i : Item) (n : Point) → IsInnerRow (row_of i) → Suits i n →
 suits_inner (Entry g j) n r h = h
 suits_inner (Test at d u s) n r h = h
 suits_inner (After at) n r h = h
-suits_inner Mark n r h = h
+suits_inner LoopEnd n r h = h
 suits_inner (End g) n r h = absurd r
 suits_inner (Todo (Plain at)) n r h = h
 suits_inner (Todo (Break at)) n r h = h
@@ -62,7 +62,7 @@ a_call (Entry g j) at n x e = absurd (cc)
 a_call (Test at' true u b) at n x e = absurd (cc)
 a_call (Test at' false u b) at n x e = absurd (cc)
 a_call (After at') at n x e = absurd (cc)
-a_call Mark at n x e = absurd (cc)
+a_call LoopEnd at n x e = absurd (cc)
 a_call (End g) at n x e = absurd (cc)
 a_call (Todo (Plain at')) at n x e = absurd (cc)
 a_call (Todo (Break at')) at n x e = absurd (cc)
@@ -93,7 +93,7 @@ module _ (p : Plan) where
   inner_below (Entry g j) is frames next way r e = mapped_below frames next (after (Entry g j) way is) e
   inner_below (Test at d u s) is frames next way r e = mapped_below frames next (after (Test at d u s) way is) e
   inner_below (After at) is frames next way r e = mapped_below frames next (after (After at) way is) e
-  inner_below Mark is frames next way r e = mapped_below frames next (after Mark way is) e
+  inner_below LoopEnd is frames next way r e = mapped_below frames next (after LoopEnd way is) e
   inner_below (End g) is frames next way r e = absurd r
   inner_below (Todo (Plain at)) is frames next way r e = mapped_below frames next (after (Todo (Plain at)) way is) e
   inner_below (Todo (Break at)) is frames next way r e = mapped_below frames next (after (Todo (Break at)) way is) e
@@ -191,7 +191,7 @@ module _ (policy : PlainPolicy) (s : Source) where
           let front : g.woven.board.stack ≡ stack = f.front ∙ ap (λ (i : Item). (i ∷ f.rest) ∷ f.frames) c.item in
           let stands = subst (λ (x : List Frame). StackAt (all_nodes policy s) (all_items policy s) x (Some st)) front h.stack in
           let there = callee_there c g.machine.frames (subst (λ (x : List Frame). Ready policy s h.runs x g.machine.frames) front h.ready) in
-          let both = tied (all_nodes policy s) (all_items policy s) (plan policy s) (all_parts policy s) (placed_program (names_of policy) s.bytes s.file)
+          let both = tied (all_nodes policy s) (all_items policy s) (plan policy s) (all_parts policy s) (situated_program (names_of policy) s.bytes s.file)
           (Todo (Call at c.seam c.callee) ∷ f.rest) f.frames st On stands in
           let to = of_stack policy s there.0 (goes_to (all_nodes policy s) (all_parts policy s) st On)
           (subst (λ o. Tied (all_nodes policy s) (all_items policy s) o (goes_to (all_nodes policy s) (all_parts policy s) st On)) there.1 both) in

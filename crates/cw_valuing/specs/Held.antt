@@ -6,7 +6,7 @@ use Rattle.cw_certs.specs.Tables.{Table}
 use Rattle.cw_game.specs.Games.{Game}
 use Rattle.cw_game.specs.Conditions.{table_fault, IsGoodTable}
 use Rattle.cw_wcheck.specs.declared.fault.BadRow.{BadRow}
-use Rattle.cw_wcheck.specs.Checking.{told as told_of}
+use Rattle.cw_wcheck.specs.Checking.{numbered as told_of}
 use Rattle.cw_value.specs.Shown.{Answers}
 use Rattle.cw_commands.specs.declared.outcome.Reply.TheVariants.{No}
 use Rattle.cw_commands.specs.Outcomes.{Due, Told}

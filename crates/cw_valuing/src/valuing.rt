@@ -13,7 +13,7 @@ ghost use Rattle.cw_states.specs.States.{AreLists, lists_of};
 ghost use Rattle.cw_product.specs.Product.{game_of};
 ghost use Rattle.cw_product.specs.Uses.{uses_of};
 ghost use Rattle.cw_wcheck.specs.Checking.{HasFewRows};
-ghost use Rattle.cw_woven.specs.Held.{IsOpened};
+ghost use Rattle.cw_woven.specs.Held.{IsUnwoven};
 ghost use Rattle.cw_value.specs.Shown.{answers_of, values_of, AreInOrder};
 ghost use Rattle.cw_value.specs.Starts.{shape};
 ghost use Rattle.cw_commands.specs.Outcomes.{due_of};
@@ -43,7 +43,7 @@ use cw_syntax::checked::Checked;
 use cw_value::{Answers, Stop as End, ValueFault, Values};
 use cw_value_text::put_values;
 use cw_wcheck::check_weaver;
-use cw_woven::Opened;
+use cw_woven::Unwoven;
 use cw_woven_values::values_woven;
 use std::alloc::Global;
 
@@ -240,13 +240,13 @@ fn answered<O: Sink, N: Sink>(
 fn accepted<O: Sink, N: Sink>(
     alloc: Global,
     policy: &Policy,
-    parts: &Opened,
+    parts: &Unwoven,
     answers: &[u8],
     out: &mut O,
     note: &mut N,
 ) -> Result<Outcome<O, N>, NoMemory>
     requires valid { IsValid (policy_of policy.now) }
-    requires opened { IsOpened (policy_of policy.now) parts.now }
+    requires unwoven { IsUnwoven (policy_of policy.now) parts.now }
     requires short { length answers.now ≤ 33554432 }
     ensures due { IfOk result (λ outcome. AfterPolicy parts.now.text.now answers.now (policy_of policy.now) (due_of outcome)) }
     ensures puts { Starts O.taken O.faults O.refused out.old out.new result }
@@ -259,7 +259,7 @@ fn accepted<O: Sink, N: Sink>(
 }
 
 /// That a text is no woven text, or what is due for the source and the table that it is read as.
-fn opened<O: Sink, N: Sink>(
+fn unwoven<O: Sink, N: Sink>(
     alloc: Global,
     policy: &Policy,
     text: &[u8],
@@ -296,7 +296,7 @@ pub fn values_due<O: Sink, N: Sink>(
     ensures notes { StartsLine N.taken N.faults N.refused note.old note.new result }
 {
     match read_policy(alloc, policy) {
-        Ok(whole) => opened(alloc, &whole, text, answers, out, note),
+        Ok(whole) => unwoven(alloc, &whole, text, answers, out, note),
         Err(fault) => policy_refusal(&fault, note),
     }
 }

@@ -12,7 +12,7 @@ use Rattle.cw_game.specs.Games.{Game}
 use Rattle.cw_game.specs.Conditions.{first_failing, Part, TableFault, fault_at, in_range, is_mem_row}
 use Rattle.cw_game.proofs.Failing.{first_append}
 use Rattle.cw_wcheck.specs.declared.fault.BadRow.{BadRow}
-use Rattle.cw_wcheck.specs.Checking.{table_of, told}
+use Rattle.cw_wcheck.specs.Checking.{table_of, numbered}
 use Rattle.cw_wcheck.specs.Working.{MeanStates}
 use Rattle.cw_lemmas.proofs.Truths.{and_first as first_part, and_second as second_part}
 
@@ -56,32 +56,32 @@ first-in_range part test n (r ∷ rows) =
 abbrev pub out_of : ℕ → Option ℕ → Option BadRow
 out_of table number = option_map (λ n. record { table = table; number = n; condition = 1 }) number
 
-pub told_range : {A : Type 0} (part : Part) (test : A → Bool) (rows : List A) (found : Option ℕ) (row : Option BadRow)
-    → row ≡ out_of (table_of part) found → found ≡ position (λ r. not (test r)) rows → row ≡ option_map told (first_failing (in_range part test rows))
-told_range part test rows found row e f = e ∙ ap (out_of (table_of part)) f ∙ same (position (λ r. not (test r)) rows) ∙ sym (ap (option_map told) (first-in_range part test 0 rows))
+pub numbered_range : {A : Type 0} (part : Part) (test : A → Bool) (rows : List A) (found : Option ℕ) (row : Option BadRow)
+    → row ≡ out_of (table_of part) found → found ≡ position (λ r. not (test r)) rows → row ≡ option_map numbered (first_failing (in_range part test rows))
+numbered_range part test rows found row e f = e ∙ ap (out_of (table_of part)) f ∙ same (position (λ r. not (test r)) rows) ∙ sym (ap (option_map numbered) (first-in_range part test 0 rows))
   where
-    same : (o : Option ℕ) → out_of (table_of part) o ≡ option_map told (option_map (λ i. fault_at part (0 + i) 1) o)
+    same : (o : Option ℕ) → out_of (table_of part) o ≡ option_map numbered (option_map (λ i. fault_at part (0 + i) 1) o)
     same None = refl
-    same (Some i) = let z : i ≡ 0 + i = omega arith in ap (λ n. Some (told (fault_at part n 1))) z
+    same (Some i) = let z : i ≡ 0 + i = omega arith in ap (λ n. Some (numbered (fault_at part n 1))) z
 
-told-append : (xs ys : List (TableFault × Bool)) (o p : Option BadRow) → o ≡ option_map told (first_failing xs) → p ≡ option_map told (first_failing ys)
-    → option_or o p ≡ option_map told (first_failing (xs ++ ys))
-told-append xs ys o p e f = ap₂ option_or e f ∙ sym (map_or told (first_failing xs) (first_failing ys)) ∙ sym (ap (option_map told) (first_append xs ys))
+numbered-append : (xs ys : List (TableFault × Bool)) (o p : Option BadRow) → o ≡ option_map numbered (first_failing xs) → p ≡ option_map numbered (first_failing ys)
+    → option_or o p ≡ option_map numbered (first_failing (xs ++ ys))
+numbered-append xs ys o p e f = ap₂ option_or e f ∙ sym (map_or numbered (first_failing xs) (first_failing ys)) ∙ sym (ap (option_map numbered) (first_append xs ys))
 
 -- the first of eight lists that has one
-pub told_ranges : (mems live tries ats opened closed into back : List (TableFault × Bool)) (a b c d e f g h : Option BadRow)
-    → a ≡ option_map told (first_failing mems) → b ≡ option_map told (first_failing live) → c ≡ option_map told (first_failing tries) → d ≡ option_map told (first_failing ats)
-    → e ≡ option_map told (first_failing opened) → f ≡ option_map told (first_failing closed) → g ≡ option_map told (first_failing into) → h ≡ option_map told (first_failing back)
+pub numbered_ranges : (mems live tries ats opened closed into back : List (TableFault × Bool)) (a b c d e f g h : Option BadRow)
+    → a ≡ option_map numbered (first_failing mems) → b ≡ option_map numbered (first_failing live) → c ≡ option_map numbered (first_failing tries) → d ≡ option_map numbered (first_failing ats)
+    → e ≡ option_map numbered (first_failing opened) → f ≡ option_map numbered (first_failing closed) → g ≡ option_map numbered (first_failing into) → h ≡ option_map numbered (first_failing back)
     → option_or (option_or (option_or (option_or (option_or (option_or (option_or a b) c) d) e) f) g) h
-    ≡ option_map told (first_failing (mems ++ live ++ tries ++ ats ++ opened ++ closed ++ into ++ back))
-told_ranges mems live tries ats opened closed into back a b c d e f g h pa pb pc pd pe pf pg ph =
-    let two = told-append mems live a b pa pb in
-    let three = told-append (mems ++ live) tries _ c two pc in
-    let four = told-append (mems ++ live ++ tries) ats _ d three pd in
-    let five = told-append (mems ++ live ++ tries ++ ats) opened _ e four pe in
-    let six = told-append (mems ++ live ++ tries ++ ats ++ opened) closed _ f five pf in
-    let seven = told-append (mems ++ live ++ tries ++ ats ++ opened ++ closed) into _ g six pg in
-    told-append (mems ++ live ++ tries ++ ats ++ opened ++ closed ++ into) back _ h seven ph
+    ≡ option_map numbered (first_failing (mems ++ live ++ tries ++ ats ++ opened ++ closed ++ into ++ back))
+numbered_ranges mems live tries ats opened closed into back a b c d e f g h pa pb pc pd pe pf pg ph =
+    let two = numbered-append mems live a b pa pb in
+    let three = numbered-append (mems ++ live) tries _ c two pc in
+    let four = numbered-append (mems ++ live ++ tries) ats _ d three pd in
+    let five = numbered-append (mems ++ live ++ tries ++ ats) opened _ e four pe in
+    let six = numbered-append (mems ++ live ++ tries ++ ats ++ opened) closed _ f five pf in
+    let seven = numbered-append (mems ++ live ++ tries ++ ats ++ opened ++ closed) into _ g six pg in
+    numbered-append (mems ++ live ++ tries ++ ats ++ opened ++ closed ++ into) back _ h seven ph
 
 -- Where no row is out of range.
 pub mean_states : (g : Game) (t : Table) → list_all (is_mem_row g) t.mems ≡ true → MeanStates g t

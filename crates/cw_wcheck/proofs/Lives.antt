@@ -12,7 +12,7 @@ use Rattle.cw_game.specs.Games.{Game}
 use Rattle.cw_game.specs.Conditions.{first_failing, InMems, InLive, TableFault, fault_at, is_header, ranges, is_live_row, begins, live_by, live_rows, table_fault}
 use Rattle.cw_game.proofs.Failing.{first_append, first_mapped}
 use Rattle.cw_wcheck.specs.declared.fault.BadRow.{BadRow}
-use Rattle.cw_wcheck.specs.Checking.{told}
+use Rattle.cw_wcheck.specs.Checking.{numbered}
 use Rattle.cw_lemmas.proofs.Truths.{and_first as first_part, and_second as second_part}
 
 module _ (g : Game) (t : Table) where
@@ -61,28 +61,28 @@ module _ (g : Game) (t : Table) where
   past_header : is_header g t ≡ true → table_fault g t ≡ option_or (first_failing (ranges g t)) then_begins
   past_header h = fault_is ∙ ap (λ b. cond b (option_or (first_failing (ranges g t)) then_begins) (Some (fault_at InMems 0 1))) h
 
-  in_ranges : (o : Option TableFault) (row : BadRow) → option_map told o ≡ Some row → option_map told (option_or o then_begins) ≡ Some row
+  in_ranges : (o : Option TableFault) (row : BadRow) → option_map numbered o ≡ Some row → option_map numbered (option_or o then_begins) ≡ Some row
   in_ranges None row e = cc
   in_ranges (Some f) row e = e
 
-  none_told : (o : Option TableFault) → option_map told o ≡ None → o ≡ None
-  none_told None e = refl
-  none_told (Some f) e = cc
+  none_numbered : (o : Option TableFault) → option_map numbered o ≡ None → o ≡ None
+  none_numbered None e = refl
+  none_numbered (Some f) e = cc
 
-  pub fault_in_ranges : (answer : Option BadRow) (row : BadRow) → is_header g t ≡ true → answer ≡ option_map told (first_failing (ranges g t)) → answer ≡ Some row → Some row ≡ option_map told (table_fault g t)
-  fault_in_ranges answer row h e f = sym (ap (option_map told) (past_header h) ∙ in_ranges (first_failing (ranges g t)) row (sym e ∙ f))
+  pub fault_in_ranges : (answer : Option BadRow) (row : BadRow) → is_header g t ≡ true → answer ≡ option_map numbered (first_failing (ranges g t)) → answer ≡ Some row → Some row ≡ option_map numbered (table_fault g t)
+  fault_in_ranges answer row h e f = sym (ap (option_map numbered) (past_header h) ∙ in_ranges (first_failing (ranges g t)) row (sym e ∙ f))
 
-  pub all_ranges : (answer : Option BadRow) → answer ≡ option_map told (first_failing (ranges g t)) → answer ≡ None → first_failing (ranges g t) ≡ None
-  all_ranges answer e f = none_told (first_failing (ranges g t)) (sym e ∙ f)
+  pub all_ranges : (answer : Option BadRow) → answer ≡ option_map numbered (first_failing (ranges g t)) → answer ≡ None → first_failing (ranges g t) ≡ None
+  all_ranges answer e f = none_numbered (first_failing (ranges g t)) (sym e ∙ f)
 
   past_ranges : is_header g t ≡ true → first_failing (ranges g t) ≡ None → table_fault g t ≡ then_begins
   past_ranges h r = past_header h ∙ ap (λ o. option_or o then_begins) r
 
-  pub fault_at_start : is_header g t ≡ true → first_failing (ranges g t) ≡ None → begins g t ≡ false → option_map told (table_fault g t) ≡ Some (record { table = 2; number = 0; condition = 2 })
-  fault_at_start h r b = ap (option_map told) (past_ranges h r ∙ ap (λ x. cond x (fails_from 0) (Some (fault_at InLive 0 2))) b)
+  pub fault_at_start : is_header g t ≡ true → first_failing (ranges g t) ≡ None → begins g t ≡ false → option_map numbered (table_fault g t) ≡ Some (record { table = 2; number = 0; condition = 2 })
+  fault_at_start h r b = ap (option_map numbered) (past_ranges h r ∙ ap (λ x. cond x (fails_from 0) (Some (fault_at InLive 0 2))) b)
 
   pub fault_in_rows : is_header g t ≡ true → first_failing (ranges g t) ≡ None → begins g t ≡ true → table_fault g t ≡ fails_from 0
   fault_in_rows h r b = past_ranges h r ∙ ap (λ x. cond x (fails_from 0) (Some (fault_at InLive 0 2))) b
 
-  pub none_fails : (answer : Option BadRow) → answer ≡ option_map told (table_fault g t) → answer ≡ None → table_fault g t ≡ None
-  none_fails answer e f = none_told (table_fault g t) (sym e ∙ f)
+  pub none_fails : (answer : Option BadRow) → answer ≡ option_map numbered (table_fault g t) → answer ≡ None → table_fault g t ≡ None
+  none_fails answer e f = none_numbered (table_fault g t) (sym e ∙ f)

@@ -16,8 +16,8 @@ table_of InInto = 7
 table_of InBack = 8
 
 -- how a condition that fails is told
-abbrev pub told : TableFault → BadRow
-told f = record { table = table_of f.part; number = f.row; condition = f.condition }
+abbrev pub numbered : TableFault → BadRow
+numbered f = record { table = table_of f.part; number = f.row; condition = f.condition }
 
 -- the numbers of all rows fit 32 bits
 pub record HasFewRows (t : Table) : Type 0 where

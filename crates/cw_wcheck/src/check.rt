@@ -9,7 +9,7 @@ ghost use Rattle.cw_product.specs.Product.{game_of};
 ghost use Rattle.cw_product.specs.Moves.{IsPosition};
 ghost use Rattle.cw_game.specs.Standing.{IsGameOf};
 ghost use Rattle.cw_game.specs.Conditions.{begins, first_failing, live_rows, table_fault, IsGoodTable};
-ghost use Rattle.cw_wcheck.specs.Checking.{told, HasFewRows};
+ghost use Rattle.cw_wcheck.specs.Checking.{numbered, HasFewRows};
 ghost use Rattle.cw_wcheck.specs.Working.{MeanStates};
 
 use crate::fault::BadRow;
@@ -39,7 +39,7 @@ fn row_fault(game: &Game, cert: &WeaverCert) -> Option<BadRow>
     requires few { length cert.now.live < 2 ^ 32 }
     requires mems { MeanStates (game_of game.now) cert.now }
     requires positions { All (λ r. r.0.0 < length (game_of game.now).spots) cert.now.live }
-    ensures { result ≡ option_map told (first_failing (live_rows (game_of game.now) cert.now (enumerate_from 0 cert.now.live))) }
+    ensures { result ≡ option_map numbered (first_failing (live_rows (game_of game.now) cert.now (enumerate_from 0 cert.now.live))) }
 {
     let rows = cert.live();
     for i in 0..rows.len() {
@@ -58,7 +58,7 @@ fn row_fault(game: &Game, cert: &WeaverCert) -> Option<BadRow>
 /// The first condition of a table that fails.
 fn first_fault(game: &Game, cert: &WeaverCert) -> Option<BadRow>
     requires few { HasFewRows cert.now }
-    ensures { result ≡ option_map told (table_fault (game_of game.now) cert.now) }
+    ensures { result ≡ option_map numbered (table_fault (game_of game.now) cert.now) }
 {
     if !is_header(game, cert) {
         return Some(BadRow {
@@ -90,7 +90,7 @@ pub fn check_weaver(game: &Game, cert: &WeaverCert) -> Result<(), BadRow>
 
     // Yes exactly where the nine conditions hold, and no with the first that fails.
     ensures good { IsOk result ↔ IsGoodTable (game_of game.now) cert.now }
-    ensures fault { IfErr result (λ row. option_map told (table_fault (game_of game.now) cert.now) ≡ Some row) }
+    ensures fault { IfErr result (λ row. option_map numbered (table_fault (game_of game.now) cert.now) ≡ Some row) }
 
     ensures sound { IsOk result → (p : Problem) → IsGameOf p (game_of game.now) → length p.policy.limits ≤ 12 → Sound p cert.now }
 {

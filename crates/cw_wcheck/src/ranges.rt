@@ -4,7 +4,7 @@ ghost use Rattle.std.specs.Prelude.{◌≡◌, ◌<◌, ◌^◌, not, length, op
 ghost use Rattle.cw_product.specs.Product.{game_of};
 ghost use Rattle.cw_game.specs.Conditions.{is_header, is_mem_row, is_live_row, is_try_row, is_at_row, is_open_row, is_into_row, is_back_row, ranges, first_failing};
 ghost use Rattle.cw_wcheck.specs.declared.fault.BadRow.{BadRow};
-ghost use Rattle.cw_wcheck.specs.Checking.{told, HasFewRows};
+ghost use Rattle.cw_wcheck.specs.Checking.{numbered, HasFewRows};
 
 use crate::fault::BadRow;
 use crate::memories::{has_states_alone, is_memory, is_memory_if};
@@ -159,7 +159,7 @@ fn out_of_range(table: u8, number: Option<usize>) -> Option<BadRow>
 /// The first row, list by list, whose numbers aren't in range.
 pub fn range_fault(game: &Game, cert: &WeaverCert) -> Option<BadRow>
     requires few { HasFewRows cert.now }
-    ensures { result ≡ option_map told (first_failing (ranges (game_of game.now) cert.now)) }
+    ensures { result ≡ option_map numbered (first_failing (ranges (game_of game.now) cert.now)) }
 {
     out_of_range(1, bad_mem(game, cert))
         .or(out_of_range(2, bad_live(game, cert)))

@@ -6,14 +6,14 @@ use Rattle.cw_certs.specs.Tables.{Table}
 use Rattle.cw_game.specs.Games.{Game}
 use Rattle.cw_game.specs.Conditions.{table_fault, IsGoodTable}
 use Rattle.cw_wcheck.specs.declared.fault.BadRow.{BadRow}
-use Rattle.cw_wcheck.specs.Checking.{told as told_of}
-use Rattle.cw_procs.specs.Steps.{Word}
+use Rattle.cw_wcheck.specs.Checking.{numbered as told_of}
+use Rattle.cw_procs.specs.Steps.{Entry}
 use Rattle.cw_commands.specs.declared.outcome.Reply.TheVariants.{No}
 use Rattle.cw_commands.specs.Outcomes.{Due, Told}
 use Rattle.cw_stages.specs.Held.{told_row}
 use Rattle.cw_worlding.specs.Worlding.{IsWorldTold}
 
-abbrev pub IsWorldShownBy : List ℕ → PlainPolicy → File → Table → List Word → Game → Due → Type 0
+abbrev pub IsWorldShownBy : List ℕ → PlainPolicy → File → Table → List Entry → Game → Due → Type 0
 IsWorldShownBy source whole file t list g due =
     (IsGoodTable g t × IsWorldTold source whole file t list due)
     ⊎ ((bad : BadRow) × (option_map told_of (table_fault g t) ≡ Some bad) × (due ≡ Told No (told_row bad)))

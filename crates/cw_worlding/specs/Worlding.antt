@@ -15,9 +15,9 @@ use Rattle.cw_steps.specs.Steps.{Spells as SpellsSteps}
 use Rattle.cw_steps.specs.Faults.{IsFault}
 use Rattle.cw_worlds.specs.Forks.{fork_places}
 use Rattle.cw_worlds.specs.Worlds.{Step, start_world}
-use Rattle.cw_procs.specs.Steps.{Word, End, Done, BadStep, IsWorldBy}
+use Rattle.cw_procs.specs.Steps.{Entry, End, Done, BadStep, IsWorldBy}
 use Rattle.cw_procs.specs.Told.{world_trace}
-use Rattle.cw_procs.specs.Played.{word_of}
+use Rattle.cw_procs.specs.Played.{entry_of}
 use Rattle.cw_commands.specs.declared.outcome.Cause.TheVariants.{Grammar}
 use Rattle.cw_commands.specs.declared.outcome.Reply.TheVariants.{Yes, No}
 use Rattle.cw_commands.specs.Outcomes.{Due, Told, Refused}
@@ -31,14 +31,14 @@ world_told (Done n) lines = Told Yes (lines ++ (codes "done " ++ (decimal n ++ (
 world_told (BadStep i) lines = Told No (lines ++ (codes "bad step " ++ (decimal i ++ (10 ∷ []))))
 
 -- There is a world by the steps, and its trace and its end are told.
-pub record IsWorldTold (source : List ℕ) (whole : PlainPolicy) (file : File) (t : Table) (list : List Word) (due : Due) : Type 0 where
+pub record IsWorldTold (source : List ℕ) (whole : PlainPolicy) (file : File) (t : Table) (list : List Entry) (due : Due) : Type 0 where
   pub end : End
   pub steps : List Step
   pub world : IsWorldBy (problem_of whole source file) t (fork_places source file) list end steps
   pub due_is : due ≡ world_told end (world_trace (told_names source file (plan_of (names_of whole) source file)) (problem_of whole source file) (start_world (problem_of whole source file) t) steps)
 
 -- The table meets the conditions of the game, and its processes are shown; or the first row that fails one.
-abbrev pub IsWorldShown : List ℕ → PlainPolicy → File → Table → List Word → Game → Due → Type 0
+abbrev pub IsWorldShown : List ℕ → PlainPolicy → File → Table → List Entry → Game → Due → Type 0
 IsWorldShown source whole file t list g due =
     (IsGoodTable g t × IsWorldTold source whole file t list due)
     ⊎ ((f : TableFault) × (table_fault g t ≡ Some f) × (due ≡ Told No (told f)))
@@ -48,10 +48,10 @@ abbrev pub steps_refusal : (line : ℕ) → Due
 steps_refusal line = Refused Grammar (codes "steps: line " ++ decimal line)
 
 -- That the text isn't one of steps, or what comes next for them.
-abbrev pub WithSteps : (List Word → Due → Type 0) → (text : List ℕ) → Due → Type 0
+abbrev pub WithSteps : (List Entry → Due → Type 0) → (text : List ℕ) → Due → Type 0
 WithSteps Next text due =
     ((line : ℕ) × IsFault text line × (due ≡ steps_refusal line))
-    ⊎ ((steps : List StepData) × SpellsSteps text steps × Next (map word_of steps) due)
+    ⊎ ((steps : List StepData) × SpellsSteps text steps × Next (map entry_of steps) due)
 
 abbrev pub AfterWoven : (steps source : List ℕ) → PlainPolicy → File → Table → Due → Type 0
 AfterWoven steps source whole file t = WithSteps (λ list. WhereWovenFits (IsWorldShown source whole file t list) source whole file) steps

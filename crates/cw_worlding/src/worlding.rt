@@ -12,9 +12,9 @@ ghost use Rattle.cw_states.specs.States.{AreLists, lists_of};
 ghost use Rattle.cw_io.specs.Written.{Follows};
 ghost use Rattle.cw_product.specs.Product.{game_of};
 ghost use Rattle.cw_product.specs.Uses.{uses_of};
-ghost use Rattle.cw_procs.specs.Played.{end_of, word_of};
+ghost use Rattle.cw_procs.specs.Played.{end_of, entry_of};
 ghost use Rattle.cw_wcheck.specs.Checking.{HasFewRows};
-ghost use Rattle.cw_woven.specs.Held.{IsOpened};
+ghost use Rattle.cw_woven.specs.Held.{IsUnwoven};
 ghost use Rattle.cw_commands.specs.Outcomes.{due_of};
 ghost use Rattle.cw_commands.specs.Starts.{Starts, StartsLine};
 ghost use Rattle.cw_stages.specs.Games.{WhereWovenFits};
@@ -39,7 +39,7 @@ use cw_stages::{
 use cw_steps::{Step, StepsFault, read_steps};
 use cw_syntax::checked::Checked;
 use cw_wcheck::check_weaver;
-use cw_woven::Opened;
+use cw_woven::Unwoven;
 use std::alloc::Global;
 
 /// The trace of a world, and behind it how the world ends.
@@ -87,7 +87,7 @@ fn shown<O: Sink>(
     requires good { IsGoodTable (game_of game.now) table.now }
     requires steps { length steps.now < 2 ^ 32 - 1 }
     ensures due { let whole = policy_of game.now.states.policy in
-        Answers whole checked.now.source.now (IsWorldTold checked.now.source.now whole (file_of checked.now.program) table.now (map word_of steps.now)) result }
+        Answers whole checked.now.source.now (IsWorldTold checked.now.source.now whole (file_of checked.now.program) table.now (map entry_of steps.now)) result }
     ensures puts { StartsText O.taken O.faults O.refused out.old out.new result }
 {
     let mut writer = Writer::begin(out);
@@ -111,7 +111,7 @@ fn judged<O: Sink>(
     requires few { HasFewRows table.now }
     requires steps { length steps.now < 2 ^ 32 - 1 }
     ensures due { let whole = policy_of game.now.states.policy in
-        Answers whole checked.now.source.now (IsWorldShownBy checked.now.source.now whole (file_of checked.now.program) table.now (map word_of steps.now) (game_of game.now)) result }
+        Answers whole checked.now.source.now (IsWorldShownBy checked.now.source.now whole (file_of checked.now.program) table.now (map entry_of steps.now) (game_of game.now)) result }
     ensures puts { StartsText O.taken O.faults O.refused out.old out.new result }
 {
     match check_weaver(game, table) {
@@ -135,7 +135,7 @@ fn fitted<O: Sink>(
     requires few { HasFewRows table.now }
     requires steps { length steps.now < 2 ^ 32 - 1 }
     ensures due { let whole = whole_of reading.now in let source = source_of reading.now in let file = file_in reading.now in
-        Answers whole source (WhereWovenFits (IsWorldShown source whole file table.now (map word_of steps.now)) source whole file) result }
+        Answers whole source (WhereWovenFits (IsWorldShown source whole file table.now (map entry_of steps.now)) source whole file) result }
     ensures puts { StartsText O.taken O.faults O.refused out.old out.new result }
 {
     fits(alloc, reading)?;
@@ -178,13 +178,13 @@ fn stepped<O: Sink, N: Sink>(
 fn accepted<O: Sink, N: Sink>(
     alloc: Global,
     policy: &Policy,
-    parts: &Opened,
+    parts: &Unwoven,
     steps: &[u8],
     out: &mut O,
     note: &mut N,
 ) -> Result<Outcome<O, N>, NoMemory>
     requires valid { IsValid (policy_of policy.now) }
-    requires opened { IsOpened (policy_of policy.now) parts.now }
+    requires unwoven { IsUnwoven (policy_of policy.now) parts.now }
     requires short { length steps.now ≤ 33554432 }
     ensures due { IfOk result (λ outcome. AfterPolicy parts.now.text.now steps.now (policy_of policy.now) (due_of outcome)) }
     ensures puts { Starts O.taken O.faults O.refused out.old out.new result }
@@ -197,7 +197,7 @@ fn accepted<O: Sink, N: Sink>(
 }
 
 /// That a text is no woven text, or what is due for the source and the table that it is read as.
-fn opened<O: Sink, N: Sink>(
+fn unwoven<O: Sink, N: Sink>(
     alloc: Global,
     policy: &Policy,
     text: &[u8],
@@ -234,7 +234,7 @@ pub fn world_due<O: Sink, N: Sink>(
     ensures notes { StartsLine N.taken N.faults N.refused note.old note.new result }
 {
     match read_policy(alloc, policy) {
-        Ok(whole) => opened(alloc, &whole, text, steps, out, note),
+        Ok(whole) => unwoven(alloc, &whole, text, steps, out, note),
         Err(fault) => policy_refusal(&fault, note),
     }
 }

@@ -31,7 +31,7 @@ use Rattle.cw_source.proofs.Marking.{marks_in_order}
 use Rattle.cw_source.proofs.Unmarked.{no_marker}
 use Rattle.cw_source_laws.specs.Marked.{IsNamedKind}
 use Rattle.cw_source_laws.proofs.Marked.{marks_named, plain_marks}
-use Rattle.cw_woven.specs.Parts.{Piece, IsCutAt, NoneBefore, AreParts, without, places_from}
+use Rattle.cw_woven.specs.Parts.{Insertion, IsCutAt, NoneBefore, AreParts, without, places_from}
 use Rattle.cw_woven.specs.Woven.{IsSpelling}
 use Rattle.cw_woven.specs.Reading.{the_prologue, IsAccepted, ReadsWoven, seam_marks}
 use Rattle.cw_woven.proofs.Few.{few_marks}
@@ -77,16 +77,16 @@ closes_at inner rest plain = record { cut = refl; first = closes_late inner (clo
 -- ---- the parts of what is woven
 
 module _ (policy : PlainPolicy) (source : List ℕ) where
-  abbrev pieces_from : ℕ → List SeamMark → List Piece
-  pieces_from at [] = []
-  pieces_from at (m ∷ ms) = record { gap = take (m.place - at) (drop at source); inner = spelled policy source m } ∷ pieces_from m.place ms
+  abbrev insertions_from : ℕ → List SeamMark → List Insertion
+  insertions_from at [] = []
+  insertions_from at (m ∷ ms) = record { gap = take (m.place - at) (drop at source); inner = spelled policy source m } ∷ insertions_from m.place ms
 
   abbrev left_from : ℕ → List SeamMark → List ℕ
   left_from at [] = drop at source
   left_from at (m ∷ ms) = left_from m.place ms
 
   module _ (free : is_free source ≡ true) (names : ArePlainNames policy) where
-    parts : (ms : List SeamMark) (at : ℕ) → ArePlainMarks source ms → AreParts (woven_from policy source at ms) (pieces_from at ms) (left_from at ms)
+    parts : (ms : List SeamMark) (at : ℕ) → ArePlainMarks source ms → AreParts (woven_from policy source at ms) (insertions_from at ms) (left_from at ms)
     unfolding woven_from
     parts [] at plain = refl
     parts (m ∷ ms) at plain =
@@ -104,7 +104,7 @@ module _ (policy : PlainPolicy) (source : List ℕ) where
     ends [] at = never_opens (drop at source) (free_drop at source free)
     ends (m ∷ ms) at = ends ms m.place
 
-  is_source : (ms : List SeamMark) (at : ℕ) → AreInOrder at (length source) ms → without (pieces_from at ms) (left_from at ms) ≡ drop at source
+  is_source : (ms : List SeamMark) (at : ℕ) → AreInOrder at (length source) ms → without (insertions_from at ms) (left_from at ms) ≡ drop at source
   is_source [] at order = refl
   is_source (m ∷ ms) at order =
       let k : ℕ = m.place - at in
@@ -112,7 +112,7 @@ module _ (policy : PlainPolicy) (source : List ℕ) where
       let tail : drop k (drop at source) ≡ drop m.place source = drop-drop k at source ∙ ap (λ (z : ℕ). drop z source) e in
       ap (λ (z : List ℕ). take k (drop at source) ++ z) (is_source ms m.place order.2 ∙ sym tail) ∙ take-append-drop k (drop at source)
 
-  are_placed : (ms : List SeamMark) (at : ℕ) → AreInOrder at (length source) ms → places_from at (pieces_from at ms) ≡ map (placed policy source) ms
+  are_placed : (ms : List SeamMark) (at : ℕ) → AreInOrder at (length source) ms → places_from at (insertions_from at ms) ≡ map (placed policy source) ms
   are_placed [] at order = refl
   are_placed (m ∷ ms) at order =
       let k : ℕ = m.place - at in
@@ -121,7 +121,7 @@ module _ (policy : PlainPolicy) (source : List ℕ) where
       let p = order.0 in
       let q = order.1 in
       let here : at + length gap ≡ m.place = omega (arith, long, length-drop at source, p, q) in
-      ap (λ (n : ℕ). (n, spelled policy source m) ∷ places_from n (pieces_from m.place ms)) here
+      ap (λ (n : ℕ). (n, spelled policy source m) ∷ places_from n (insertions_from m.place ms)) here
       ∙ ap (λ (z : List (ℕ × List ℕ)). placed policy source m ∷ z) (are_placed ms m.place order.2)
 
 -- ---- the marks are spelled as marks are
@@ -160,7 +160,7 @@ numbers_small (m ∷ ms) from (suc count) e =
     (omega (arith, first), subst (λ (n : ℕ). AllByRecursion (λ (k : SeamMark). k.seam < n) ms) sum (numbers_small ms (from + 1) count others))
 
 are_spelled : (policy : PlainPolicy) (source : List ℕ) (ms : List SeamMark) (at count : ℕ) → count < 2 ^ 32 → AllByRecursion (λ (m : SeamMark). m.seam < count) ms
-    → All (λ (m : SeamMark). IsNamedKind (names_of policy) source m.kind) ms → AllByRecursion (λ (p : Piece). IsSpelling p.inner) (pieces_from policy source at ms)
+    → All (λ (m : SeamMark). IsNamedKind (names_of policy) source m.kind) ms → AllByRecursion (λ (p : Insertion). IsSpelling p.inner) (insertions_from policy source at ms)
 are_spelled policy source [] at count few small named = tt
 are_spelled policy source (m ∷ ms) at count few small named =
     let lt : m.seam < count = small.0 in (
@@ -185,16 +185,16 @@ reads policy text source file t valid accepted table stands =
     let few = accepted.few in
     let sum : 0 + length ms ≡ length ms = omega arith in
     let small = subst (λ (n : ℕ). AllByRecursion (λ (m : SeamMark). m.seam < n) ms) sum (numbers_small ms 0 (length ms) (in_order named source file)) in
-    let whole : AreParts (part lines ++ rest) (the_prologue (tables_text policy t) ∷ pieces_from policy source 0 ms) (left_from policy source 0 ms) =
+    let whole : AreParts (part lines ++ rest) (the_prologue (tables_text policy t) ∷ insertions_from policy source 0 ms) (left_from policy source 0 ms) =
     (lines ++ (closing ++ rest), rest, opens_at [] lines rest refl, closes_at lines rest (plain_lines policy t names), parts policy source free names ms 0 plain) in
     record {
-      marks = pieces_from policy source 0 ms;
+      marks = insertions_from policy source 0 ms;
       left = left_from policy source 0 ms;
       has = record {
         lines = tables_text policy t;
         parted = record {
           begins = record {
-            parts = subst (λ (z : List ℕ). AreParts z (the_prologue (tables_text policy t) ∷ pieces_from policy source 0 ms) (left_from policy source 0 ms)) (sym stands) whole;
+            parts = subst (λ (z : List ℕ). AreParts z (the_prologue (tables_text policy t) ∷ insertions_from policy source 0 ms) (left_from policy source 0 ms)) (sym stands) whole;
             spelled = are_spelled policy source ms 0 (length ms) (omega (arith, count, few)) small (marks_named named source file accepted.reads);
           };
           whole = ends policy source free names ms 0;

@@ -26,39 +26,39 @@ use Rattle.cw_woven.specs.declared.fault.CutFault.{CutFault}
 use Rattle.cw_woven.specs.declared.fault.CutFault.TheVariants as cut
 use Rattle.cw_woven.specs.declared.fault.WovenFault.{WovenFault}
 use Rattle.cw_woven.specs.declared.fault.WovenFault.TheVariants as fault
-use Rattle.cw_woven.specs.Parts.{Piece, IsCutAt, AreParts, without, places}
+use Rattle.cw_woven.specs.Parts.{Insertion, IsCutAt, AreParts, without, places}
 use Rattle.cw_woven.specs.Woven.{IsSpelling}
 use Rattle.cw_woven.specs.Reading.{the_prologue, Begins, IsAccepted, IsCutFault, IsFault, IsMark, IsNoMark, IsParted, IsRead, ReadsWoven, seam_marks}
 use Rattle.cw_woven.proofs.OneReading.{head_inner, one_front, one_rest, one_source, read_as_one}
 
-pub none_stands : (word text front rest : List ℕ) → IsCutAt word text front rest → HasNone word text → ⊥
-none_stands word text front rest c none =
-    true≢false (sym (ap (λ (z : List ℕ). starts_with nat_eq z word) (ap (drop (length front)) c.cut ∙ drop-append_seam front (word ++ rest)) ∙ starts_again word rest) ∙ none (length front))
+pub none_stands : (needle text front rest : List ℕ) → IsCutAt needle text front rest → HasNone needle text → ⊥
+none_stands needle text front rest c none =
+    true≢false (sym (ap (λ (z : List ℕ). starts_with nat_eq z needle) (ap (drop (length front)) c.cut ∙ drop-append_seam front (needle ++ rest)) ∙ starts_again needle rest) ∙ none (length front))
 
 -- behind some of the parts the next one opens, closes and is spelled as a mark
-pub record HasNext (opened : List ℕ) : Type 0 where
+pub record HasNext (remainder : List ℕ) : Type 0 where
   pub inner : List ℕ
   pub after : List ℕ
-  pub closes : IsCutAt closing opened inner after
+  pub closes : IsCutAt closing remainder inner after
   pub spelled : IsSpelling inner
 
-next_there : (text : List ℕ) (ps qs : List Piece) (left other gap opened : List ℕ) → AreParts text ps left → AreParts text qs other → HasNone opening other
-    → AllByRecursion (λ (q : Piece). IsSpelling q.inner) qs → IsCutAt opening left gap opened → HasNext opened
-next_there text [] [] left other gap opened a b none spelled c = absurd (none_stands opening left gap opened c (subst (HasNone opening) (sym b ∙ a) none))
-next_there text [] (q ∷ qs) left other gap opened a b none spelled c =
-    let d : IsCutAt opening text gap opened = subst (λ (z : List ℕ). IsCutAt opening z gap opened) (sym a) c in
-    let same : opened ≡ b.0 = one_rest opening text gap q.gap opened b.0 d b.2 in
+next_there : (text : List ℕ) (ps qs : List Insertion) (left other gap remainder : List ℕ) → AreParts text ps left → AreParts text qs other → HasNone opening other
+    → AllByRecursion (λ (q : Insertion). IsSpelling q.inner) qs → IsCutAt opening left gap remainder → HasNext remainder
+next_there text [] [] left other gap remainder a b none spelled c = absurd (none_stands opening left gap remainder c (subst (HasNone opening) (sym b ∙ a) none))
+next_there text [] (q ∷ qs) left other gap remainder a b none spelled c =
+    let d : IsCutAt opening text gap remainder = subst (λ (z : List ℕ). IsCutAt opening z gap remainder) (sym a) c in
+    let same : remainder ≡ b.0 = one_rest opening text gap q.gap remainder b.0 d b.2 in
     record { inner = q.inner; after = b.1; closes = subst (λ (z : List ℕ). IsCutAt closing z q.inner b.1) (sym same) b.3; spelled = spelled.0 }
-next_there text (p ∷ ps) [] left other gap opened a b none spelled c = absurd (none_stands opening text p.gap a.0 a.2 (subst (HasNone opening) (sym b) none))
-next_there text (p ∷ ps) (q ∷ qs) left other gap opened a b none spelled c =
+next_there text (p ∷ ps) [] left other gap remainder a b none spelled c = absurd (none_stands opening text p.gap a.0 a.2 (subst (HasNone opening) (sym b) none))
+next_there text (p ∷ ps) (q ∷ qs) left other gap remainder a b none spelled c =
     let same : a.0 ≡ b.0 = one_rest opening text p.gap q.gap a.0 b.0 a.2 b.2 in
     let d : IsCutAt closing b.0 p.inner a.1 = subst (λ (z : List ℕ). IsCutAt closing z p.inner a.1) same a.3 in
     let after : a.1 ≡ b.1 = one_rest closing b.0 p.inner q.inner a.1 b.1 d b.3 in
-    next_there b.1 ps qs left other gap opened (subst (λ (z : List ℕ). AreParts z ps left) after a.4) b.4 none spelled.1 c
+    next_there b.1 ps qs left other gap remainder (subst (λ (z : List ℕ). AreParts z ps left) after a.4) b.4 none spelled.1 c
 
-pub no_mark : (opened : List ℕ) → HasNext opened → IsNoMark opened → ⊥
-no_mark opened n (inl none) = none_stands closing opened n.inner n.after n.closes none
-no_mark opened n (inr (inner, after, c, not)) = not (subst IsSpelling (one_front closing opened n.inner inner n.after after n.closes c) n.spelled)
+pub no_mark : (remainder : List ℕ) → HasNext remainder → IsNoMark remainder → ⊥
+no_mark remainder n (inl none) = none_stands closing remainder n.inner n.after n.closes none
+no_mark remainder n (inr (inner, after, c, not)) = not (subst IsSpelling (one_front closing remainder n.inner inner n.after after n.closes c) n.spelled)
 
 pub no_read_fault : (source : List ℕ) (file : File) (f : SourceFault) → ReadsAs source file → IsRead source f → ⊥
 no_read_fault source file (read.Lex l) reads h = never_both source file (read.Lex l) (λ e. cc) reads h
@@ -80,7 +80,7 @@ no_cut_fault policy source file cut.TooManyPoints a (other, short, reads, e, man
     omega (arith, many, le)
 
 -- a text that is of parts begins as a prologue does, and no opening in it is at fault
-module _ (text lines : List ℕ) (own : List Piece) (end : List ℕ) (parted : IsParted text lines own end) where
+module _ (text lines : List ℕ) (own : List Insertion) (end : List ℕ) (parted : IsParted text lines own end) where
   begins : Begins text
   begins =
       let parts = parted.begins.parts in
@@ -90,24 +90,24 @@ module _ (text lines : List ℕ) (own : List Piece) (end : List ℕ) (parted : I
   no_mark_fault at (inl (e, none)) = none begins
   no_mark_fault at (inr (inl (e, rest, is, none))) =
       let parts = parted.begins.parts in
-      let opened : parts.0 ≡ codes "\n" ++ rest = append_cancel_left opening parts.0 (codes "\n" ++ rest) (sym (parts.2.cut) ∙ is) in
-      none_stands closing (codes "\n" ++ rest) (codes "\n" ++ lines) parts.1 (subst (λ (z : List ℕ). IsCutAt closing z (codes "\n" ++ lines) parts.1) opened parts.3) none
-  no_mark_fault at (inr (inr (lines2, marks, left, gap, opened, b, c, none, sum))) =
+      let remainder : parts.0 ≡ codes "\n" ++ rest = append_cancel_left opening parts.0 (codes "\n" ++ rest) (sym (parts.2.cut) ∙ is) in
+      none_stands closing (codes "\n" ++ rest) (codes "\n" ++ lines) parts.1 (subst (λ (z : List ℕ). IsCutAt closing z (codes "\n" ++ lines) parts.1) remainder parts.3) none
+  no_mark_fault at (inr (inr (lines2, marks, left, gap, remainder, b, c, none, sum))) =
       let first = parted.begins.parts in
       let other = b.parts in
       let same : first.0 ≡ other.0 = one_rest opening text [] [] first.0 other.0 first.2 other.2 in
       let d : IsCutAt closing other.0 (codes "\n" ++ lines) first.1 = subst (λ (z : List ℕ). IsCutAt closing z (codes "\n" ++ lines) first.1) same first.3 in
       let after : first.1 ≡ other.1 = one_rest closing other.0 (codes "\n" ++ lines) (codes "\n" ++ lines2) first.1 other.1 d other.3 in
-      no_mark opened
-      (next_there first.1 marks own left end gap opened (subst (λ (z : List ℕ). AreParts z marks left) (sym after) other.4) first.4 parted.whole parted.begins.spelled c) none
+      no_mark remainder
+      (next_there first.1 marks own left end gap remainder (subst (λ (z : List ℕ). AreParts z marks left) (sym after) other.4) first.4 parted.whole parted.begins.spelled c) none
 
 module _ (policy : PlainPolicy) (valid : IsValid policy) (text source : List ℕ) (file : File) (t : Table) (r : ReadsWoven policy text source file t) where
-  front_marks : (lines : List ℕ) (marks : List Piece) (left : List ℕ) → AreParts text (the_prologue lines ∷ marks) left → HasNone opening left → (r.has.lines ≡ lines) × (source ≡ without marks left) × (r.marks ≡ marks)
+  front_marks : (lines : List ℕ) (marks : List Insertion) (left : List ℕ) → AreParts text (the_prologue lines ∷ marks) left → HasNone opening left → (r.has.lines ≡ lines) × (source ≡ without marks left) × (r.marks ≡ marks)
   unfolding head_inner
   front_marks lines marks left parts none =
       let same = one_source text (the_prologue r.has.lines ∷ r.marks) (the_prologue lines ∷ marks) r.left left r.has.parted.begins.parts r.has.parted.whole parts none in
       let ms : r.marks ≡ marks = ap (drop 1) same.0 in
-      (ap (λ (z : List Piece). drop 1 (head_inner z)) same.0, r.is ∙ ap (λ (z : List Piece). without z r.left) ms ∙ ap (without marks) same.1, ms)
+      (ap (λ (z : List Insertion). drop 1 (head_inner z)) same.0, r.is ∙ ap (λ (z : List Insertion). without z r.left) ms ∙ ap (without marks) same.1, ms)
 
   pub no_fault : (f : WovenFault) → f ≢ fault.NoMemory → IsFault policy text f → ⊥
   no_fault (fault.Mark at) ne h = no_mark_fault text r.has.lines r.marks r.left r.has.parted at h

@@ -9,7 +9,7 @@ use Rattle.cw_syntax.specs.PlainMarks.{HasNone}
 use Rattle.cw_certs.specs.Tables.{Table}
 use Rattle.cw_emit.specs.Cut.{opening, closing, cut_from, cut}
 use Rattle.cw_emit.proofs.Openings.{opens, closes}
-use Rattle.cw_woven.specs.Parts.{NoneBefore, IsCutAt, Piece, AreParts, without}
+use Rattle.cw_woven.specs.Parts.{NoneBefore, IsCutAt, Insertion, AreParts, without}
 use Rattle.cw_woven.specs.Reading.{the_prologue, ReadsWoven}
 
 -- outside a part a byte at which none opens stays, and inside one a byte at which none closes goes
@@ -27,37 +27,37 @@ inner_cut (b ∷ inner) rest h =
     let no : starts_with nat_eq (b ∷ (inner ++ rest)) closing ≡ false = h 0 (omega arith) in
     rw no (inner_cut inner rest (λ at lt. h (suc at) (omega (arith, lt))))
 
-opened_cut : (text gap opened : List ℕ) → IsCutAt opening text gap opened → cut text ≡ gap ++ cut_from 0 true opened
-opened_cut text gap opened c =
-    ap (cut_from 0 false) c.cut ∙ front_cut gap (opening ++ opened) (subst (λ (z : List ℕ). NoneBefore opening z (length gap)) c.cut c.first) ∙ ap (λ l. gap ++ l) (opens opened)
+remainder_cut : (text gap remainder : List ℕ) → IsCutAt opening text gap remainder → cut text ≡ gap ++ cut_from 0 true remainder
+remainder_cut text gap remainder c =
+    ap (cut_from 0 false) c.cut ∙ front_cut gap (opening ++ remainder) (subst (λ (z : List ℕ). NoneBefore opening z (length gap)) c.cut c.first) ∙ ap (λ l. gap ++ l) (opens remainder)
 
-closed_cut : (opened inner after : List ℕ) → IsCutAt closing opened inner after → cut_from 0 true opened ≡ cut after
-closed_cut opened inner after c =
+closed_cut : (remainder inner after : List ℕ) → IsCutAt closing remainder inner after → cut_from 0 true remainder ≡ cut after
+closed_cut remainder inner after c =
     ap (cut_from 0 true) c.cut ∙ inner_cut inner (closing ++ after) (subst (λ (z : List ℕ). NoneBefore closing z (length inner)) c.cut c.first) ∙ closes after
 
-parts_cut : (text : List ℕ) (ps : List Piece) (left : List ℕ) → AreParts text ps left → cut text ≡ without ps (cut left)
+parts_cut : (text : List ℕ) (ps : List Insertion) (left : List ℕ) → AreParts text ps left → cut text ≡ without ps (cut left)
 parts_cut text [] left a = ap cut a
 parts_cut text (p ∷ ps) left a =
-    opened_cut text p.gap a.0 a.2 ∙ ap (λ l. p.gap ++ l) (closed_cut a.0 p.inner a.1 a.3 ∙ parts_cut a.1 ps left a.4)
+    remainder_cut text p.gap a.0 a.2 ∙ ap (λ l. p.gap ++ l) (closed_cut a.0 p.inner a.1 a.3 ∙ parts_cut a.1 ps left a.4)
 
-all_before : (word text : List ℕ) → HasNone word text → NoneBefore word (text ++ []) (length text)
-all_before word text none at lt = ap (λ (z : List ℕ). starts_with nat_eq (drop at z) word) (append-nil text) ∙ none at
+all_before : (needle text : List ℕ) → HasNone needle text → NoneBefore needle (text ++ []) (length text)
+all_before needle text none at lt = ap (λ (z : List ℕ). starts_with nat_eq (drop at z) needle) (append-nil text) ∙ none at
 
 nothing_cut : (left : List ℕ) → HasNone opening left → cut left ≡ left
 unfolding cut_from
 nothing_cut left none = ap cut (sym (append-nil left)) ∙ front_cut left [] (all_before opening left none) ∙ append-nil left
 
-unclosed_cut : (opened : List ℕ) → HasNone closing opened → cut_from 0 true opened ≡ []
+unclosed_cut : (remainder : List ℕ) → HasNone closing remainder → cut_from 0 true remainder ≡ []
 unfolding cut_from
-unclosed_cut opened none = ap (cut_from 0 true) (sym (append-nil opened)) ∙ inner_cut opened [] (all_before closing opened none)
+unclosed_cut remainder none = ap (cut_from 0 true) (sym (append-nil remainder)) ∙ inner_cut remainder [] (all_before closing remainder none)
 
-pub closed : (text : List ℕ) (parts : List Piece) (left : List ℕ) → AreParts text parts left → HasNone opening left → cut text ≡ without parts left
+pub closed : (text : List ℕ) (parts : List Insertion) (left : List ℕ) → AreParts text parts left → HasNone opening left → cut text ≡ without parts left
 closed text parts left a none = parts_cut text parts left a ∙ ap (without parts) (nothing_cut left none)
 
-pub unclosed : (text : List ℕ) (parts : List Piece) (left gap opened : List ℕ) → AreParts text parts left → IsCutAt opening left gap opened → HasNone closing opened
+pub unclosed : (text : List ℕ) (parts : List Insertion) (left gap remainder : List ℕ) → AreParts text parts left → IsCutAt opening left gap remainder → HasNone closing remainder
     → cut text ≡ without parts gap
-unclosed text parts left gap opened a c none =
-    parts_cut text parts left a ∙ ap (without parts) (opened_cut left gap opened c ∙ ap (λ l. gap ++ l) (unclosed_cut opened none) ∙ append-nil gap)
+unclosed text parts left gap remainder a c none =
+    parts_cut text parts left a ∙ ap (without parts) (remainder_cut left gap remainder c ∙ ap (λ l. gap ++ l) (unclosed_cut remainder none) ∙ append-nil gap)
 
 pub read_is_cut : (policy : PlainPolicy) (text source : List ℕ) (file : File) (table : Table) → ReadsWoven policy text source file table → cut text ≡ source
 read_is_cut policy text source file table r =
@@ -65,47 +65,47 @@ read_is_cut policy text source file table r =
 
 -- ---- each text has its parts
 
-pub find_word : (word text : List ℕ) → starts_with nat_eq [] word ≡ false → HasNone word text ⊎ ((front : List ℕ) × (rest : List ℕ) × IsCutAt word text front rest)
-find_word word [] e = inl none
+pub find_needle : (needle text : List ℕ) → starts_with nat_eq [] needle ≡ false → HasNone needle text ⊎ ((front : List ℕ) × (rest : List ℕ) × IsCutAt needle text front rest)
+find_needle needle [] e = inl none
   where
-    none : (at : ℕ) → starts_with nat_eq (drop at []) word ≡ false
+    none : (at : ℕ) → starts_with nat_eq (drop at []) needle ≡ false
     none zero = e
     none (suc at) = e
-find_word word (b ∷ bs) e = go (starts_with nat_eq (b ∷ bs) word) refl (find_word word bs e)
+find_needle needle (b ∷ bs) e = go (starts_with nat_eq (b ∷ bs) needle) refl (find_needle needle bs e)
   where
-    go : (here : Bool) → starts_with nat_eq (b ∷ bs) word ≡ here → HasNone word bs ⊎ ((front : List ℕ) × (rest : List ℕ) × IsCutAt word bs front rest)
-        → HasNone word (b ∷ bs) ⊎ ((front : List ℕ) × (rest : List ℕ) × IsCutAt word (b ∷ bs) front rest)
-    go true h later = inr ([], drop (length word) (b ∷ bs), record { cut = starts_is (b ∷ bs) word h; first = λ at lt. absurd (omega (arith, lt)) })
+    go : (here : Bool) → starts_with nat_eq (b ∷ bs) needle ≡ here → HasNone needle bs ⊎ ((front : List ℕ) × (rest : List ℕ) × IsCutAt needle bs front rest)
+        → HasNone needle (b ∷ bs) ⊎ ((front : List ℕ) × (rest : List ℕ) × IsCutAt needle (b ∷ bs) front rest)
+    go true h later = inr ([], drop (length needle) (b ∷ bs), record { cut = starts_is (b ∷ bs) needle h; first = λ at lt. absurd (omega (arith, lt)) })
     go false h (inl none) = inl (λ at. each at)
       where
-        each : (at : ℕ) → starts_with nat_eq (drop at (b ∷ bs)) word ≡ false
+        each : (at : ℕ) → starts_with nat_eq (drop at (b ∷ bs)) needle ≡ false
         each zero = h
         each (suc at) = none at
     go false h (inr (front, rest, c)) = inr (b ∷ front, rest, record { cut = ap (λ l. b ∷ l) c.cut; first = each })
       where
-        each : (at : ℕ) → at < length (b ∷ front) → starts_with nat_eq (drop at (b ∷ bs)) word ≡ false
+        each : (at : ℕ) → at < length (b ∷ front) → starts_with nat_eq (drop at (b ∷ bs)) needle ≡ false
         each zero lt = h
         each (suc at) lt = c.first at (omega (arith, lt))
 
 -- the parts end where none opens, or where one opens that isn't closed
 abbrev pub HasParts : List ℕ → Type 0
 HasParts text =
-    ((parts : List Piece) × (left : List ℕ) × AreParts text parts left × HasNone opening left)
-    ⊎ ((parts : List Piece) × (left : List ℕ) × (gap : List ℕ) × (opened : List ℕ) × AreParts text parts left × IsCutAt opening left gap opened × HasNone closing opened)
+    ((parts : List Insertion) × (left : List ℕ) × AreParts text parts left × HasNone opening left)
+    ⊎ ((parts : List Insertion) × (left : List ℕ) × (gap : List ℕ) × (remainder : List ℕ) × AreParts text parts left × IsCutAt opening left gap remainder × HasNone closing remainder)
 
-shorter : (word text front rest : List ℕ) → 0 < length word → IsCutAt word text front rest → length rest < length text
-shorter word text front rest some c = omega (arith, some, ap length c.cut, length-append front (word ++ rest), length-append word rest)
+shorter : (needle text front rest : List ℕ) → 0 < length needle → IsCutAt needle text front rest → length rest < length text
+shorter needle text front rest some c = omega (arith, some, ap length c.cut, length-append front (needle ++ rest), length-append needle rest)
 
 parts_within : (n : ℕ) (text : List ℕ) → length text < n → HasParts text
 parts_within zero text lt = absurd (omega (arith, lt))
-parts_within (suc n) text lt = elim (find_word opening text refl) [
+parts_within (suc n) text lt = elim (find_needle opening text refl) [
   | inl none ↦ inl ([], text, refl, none)
-  | inr o ↦ elim (find_word closing o.1 refl) [
+  | inr o ↦ elim (find_needle closing o.1 refl) [
     | inl none ↦ inr ([], text, o.0, o.1, refl, o.2, none)
     | inr c ↦
         let a = shorter opening text o.0 o.1 (omega arith) o.2 in
         let b = shorter closing o.1 c.0 c.1 (omega arith) c.2 in
-        let p : Piece = record { gap = o.0; inner = c.0 } in
+        let p : Insertion = record { gap = o.0; inner = c.0 } in
         elim (parts_within n c.1 (omega (arith, a, b, lt))) [
           | inl r ↦ inl (p ∷ r.0, r.1, (o.1, c.1, o.2, c.2, r.2), r.3)
           | inr r ↦ inr (p ∷ r.0, r.1, r.2, r.3, (o.1, c.1, o.2, c.2, r.4), r.5, r.6)

@@ -25,7 +25,7 @@ use Rattle.cw_woven.specs.declared.fault.CutFault.{CutFault}
 use Rattle.cw_woven.specs.declared.fault.CutFault.TheVariants as cut
 use Rattle.cw_woven.specs.declared.fault.WovenFault.{WovenFault}
 use Rattle.cw_woven.specs.declared.fault.WovenFault.TheVariants as fault
-use Rattle.cw_woven.specs.Parts.{Piece, IsCutAt, AreParts, without, places}
+use Rattle.cw_woven.specs.Parts.{Insertion, IsCutAt, AreParts, without, places}
 use Rattle.cw_woven.specs.Woven.{IsSpelling}
 use Rattle.cw_woven.specs.Reading.{the_prologue, Begins, BeginsParted, HasTable, IsAccepted, IsCutFault, IsFault, IsFirstDifference, IsMark, IsNoMark, IsParted, IsRead, seam_marks}
 use Rattle.cw_woven.proofs.Apart.{none_stands, no_mark, no_mark_fault, no_read_fault, no_cut_fault}
@@ -34,49 +34,49 @@ use Rattle.cw_woven.proofs.OneReading.{head_inner, one_rest, one_source}
 -- ---- the first opening at fault
 
 -- behind parts that are marks the first one that is none is one
-bad_one : (text : List ℕ) (ps qs : List Piece) (left other gap gap2 opened opened2 : List ℕ) → AreParts text ps left → AreParts text qs other
-    → AllByRecursion (λ (p : Piece). IsSpelling p.inner) ps → AllByRecursion (λ (p : Piece). IsSpelling p.inner) qs
-    → IsCutAt opening left gap opened → IsCutAt opening other gap2 opened2 → IsNoMark opened → IsNoMark opened2 → opened ≡ opened2
-bad_one text [] [] left other gap gap2 opened opened2 a b s t c d m n =
-    one_rest opening text gap gap2 opened opened2 (subst (λ (z : List ℕ). IsCutAt opening z gap opened) (sym a) c) (subst (λ (z : List ℕ). IsCutAt opening z gap2 opened2) (sym b) d)
-bad_one text [] (q ∷ qs) left other gap gap2 opened opened2 a b s t c d m n =
-    let same = one_rest opening text gap q.gap opened b.0 (subst (λ (z : List ℕ). IsCutAt opening z gap opened) (sym a) c) b.2 in
-    absurd (no_mark opened (record { inner = q.inner; after = b.1; closes = subst (λ (z : List ℕ). IsCutAt closing z q.inner b.1) (sym same) b.3; spelled = t.0 }) m)
-bad_one text (p ∷ ps) [] left other gap gap2 opened opened2 a b s t c d m n =
-    let same = one_rest opening text gap2 p.gap opened2 a.0 (subst (λ (z : List ℕ). IsCutAt opening z gap2 opened2) (sym b) d) a.2 in
-    absurd (no_mark opened2 (record { inner = p.inner; after = a.1; closes = subst (λ (z : List ℕ). IsCutAt closing z p.inner a.1) (sym same) a.3; spelled = s.0 }) n)
-bad_one text (p ∷ ps) (q ∷ qs) left other gap gap2 opened opened2 a b s t c d m n =
+bad_one : (text : List ℕ) (ps qs : List Insertion) (left other gap gap2 remainder remainder2 : List ℕ) → AreParts text ps left → AreParts text qs other
+    → AllByRecursion (λ (p : Insertion). IsSpelling p.inner) ps → AllByRecursion (λ (p : Insertion). IsSpelling p.inner) qs
+    → IsCutAt opening left gap remainder → IsCutAt opening other gap2 remainder2 → IsNoMark remainder → IsNoMark remainder2 → remainder ≡ remainder2
+bad_one text [] [] left other gap gap2 remainder remainder2 a b s t c d m n =
+    one_rest opening text gap gap2 remainder remainder2 (subst (λ (z : List ℕ). IsCutAt opening z gap remainder) (sym a) c) (subst (λ (z : List ℕ). IsCutAt opening z gap2 remainder2) (sym b) d)
+bad_one text [] (q ∷ qs) left other gap gap2 remainder remainder2 a b s t c d m n =
+    let same = one_rest opening text gap q.gap remainder b.0 (subst (λ (z : List ℕ). IsCutAt opening z gap remainder) (sym a) c) b.2 in
+    absurd (no_mark remainder (record { inner = q.inner; after = b.1; closes = subst (λ (z : List ℕ). IsCutAt closing z q.inner b.1) (sym same) b.3; spelled = t.0 }) m)
+bad_one text (p ∷ ps) [] left other gap gap2 remainder remainder2 a b s t c d m n =
+    let same = one_rest opening text gap2 p.gap remainder2 a.0 (subst (λ (z : List ℕ). IsCutAt opening z gap2 remainder2) (sym b) d) a.2 in
+    absurd (no_mark remainder2 (record { inner = p.inner; after = a.1; closes = subst (λ (z : List ℕ). IsCutAt closing z p.inner a.1) (sym same) a.3; spelled = s.0 }) n)
+bad_one text (p ∷ ps) (q ∷ qs) left other gap gap2 remainder remainder2 a b s t c d m n =
     let same : a.0 ≡ b.0 = one_rest opening text p.gap q.gap a.0 b.0 a.2 b.2 in
     let e : IsCutAt closing b.0 p.inner a.1 = subst (λ (z : List ℕ). IsCutAt closing z p.inner a.1) same a.3 in
     let after : a.1 ≡ b.1 = one_rest closing b.0 p.inner q.inner a.1 b.1 e b.3 in
-    bad_one b.1 ps qs left other gap gap2 opened opened2 (subst (λ (z : List ℕ). AreParts z ps left) after a.4) b.4 s.1 t.1 c d m n
+    bad_one b.1 ps qs left other gap gap2 remainder remainder2 (subst (λ (z : List ℕ). AreParts z ps left) after a.4) b.4 s.1 t.1 c d m n
 
-begins_of : (text lines : List ℕ) (marks : List Piece) (left : List ℕ) → BeginsParted text lines marks left → Begins text
+begins_of : (text lines : List ℕ) (marks : List Insertion) (left : List ℕ) → BeginsParted text lines marks left → Begins text
 begins_of text lines marks left b = let parts = b.parts in (lines ++ (closing ++ parts.1), parts.2.cut ∙ ap (λ (z : List ℕ). opening ++ z) (parts.3.cut))
 
-closes_of : (text lines : List ℕ) (marks : List Piece) (left rest : List ℕ) → BeginsParted text lines marks left → text ≡ opening ++ (codes "\n" ++ rest) → HasNone closing (codes "\n" ++ rest) → ⊥
+closes_of : (text lines : List ℕ) (marks : List Insertion) (left rest : List ℕ) → BeginsParted text lines marks left → text ≡ opening ++ (codes "\n" ++ rest) → HasNone closing (codes "\n" ++ rest) → ⊥
 closes_of text lines marks left rest b is none =
     let parts = b.parts in
-    let opened : parts.0 ≡ codes "\n" ++ rest = append_cancel_left opening parts.0 (codes "\n" ++ rest) (sym (parts.2.cut) ∙ is) in
-    none_stands closing (codes "\n" ++ rest) (codes "\n" ++ lines) parts.1 (subst (λ (z : List ℕ). IsCutAt closing z (codes "\n" ++ lines) parts.1) opened parts.3) none
+    let remainder : parts.0 ≡ codes "\n" ++ rest = append_cancel_left opening parts.0 (codes "\n" ++ rest) (sym (parts.2.cut) ∙ is) in
+    none_stands closing (codes "\n" ++ rest) (codes "\n" ++ lines) parts.1 (subst (λ (z : List ℕ). IsCutAt closing z (codes "\n" ++ lines) parts.1) remainder parts.3) none
 
 one_mark : (text : List ℕ) (m n : ℕ) → IsMark text m → IsMark text n → m ≡ n
 one_mark text m n (inl (e, none)) (inl (f, none2)) = e ∙ sym f
 one_mark text m n (inl (e, none)) (inr (inl (f, rest, is, none2))) = e ∙ sym f
 one_mark text m n (inr (inl (e, rest, is, none))) (inl (f, none2)) = e ∙ sym f
 one_mark text m n (inr (inl (e, rest, is, none))) (inr (inl (f, rest2, is2, none2))) = e ∙ sym f
-one_mark text m n (inl (e, none)) (inr (inr (lines, marks, left, gap, opened, b, c, bad, sum))) = absurd (none (begins_of text lines marks left b))
-one_mark text m n (inr (inr (lines, marks, left, gap, opened, b, c, bad, sum))) (inl (e, none)) = absurd (none (begins_of text lines marks left b))
-one_mark text m n (inr (inl (e, rest, is, none))) (inr (inr (lines, marks, left, gap, opened, b, c, bad, sum))) = absurd (closes_of text lines marks left rest b is none)
-one_mark text m n (inr (inr (lines, marks, left, gap, opened, b, c, bad, sum))) (inr (inl (e, rest, is, none))) = absurd (closes_of text lines marks left rest b is none)
-one_mark text m n (inr (inr (lines, marks, left, gap, opened, b, c, bad, sum))) (inr (inr (lines2, marks2, left2, gap2, opened2, b2, c2, bad2, sum2))) =
+one_mark text m n (inl (e, none)) (inr (inr (lines, marks, left, gap, remainder, b, c, bad, sum))) = absurd (none (begins_of text lines marks left b))
+one_mark text m n (inr (inr (lines, marks, left, gap, remainder, b, c, bad, sum))) (inl (e, none)) = absurd (none (begins_of text lines marks left b))
+one_mark text m n (inr (inl (e, rest, is, none))) (inr (inr (lines, marks, left, gap, remainder, b, c, bad, sum))) = absurd (closes_of text lines marks left rest b is none)
+one_mark text m n (inr (inr (lines, marks, left, gap, remainder, b, c, bad, sum))) (inr (inl (e, rest, is, none))) = absurd (closes_of text lines marks left rest b is none)
+one_mark text m n (inr (inr (lines, marks, left, gap, remainder, b, c, bad, sum))) (inr (inr (lines2, marks2, left2, gap2, remainder2, b2, c2, bad2, sum2))) =
     let first = b.parts in
     let other = b2.parts in
     let same : first.0 ≡ other.0 = one_rest opening text [] [] first.0 other.0 first.2 other.2 in
     let d : IsCutAt closing other.0 (codes "\n" ++ lines) first.1 = subst (λ (z : List ℕ). IsCutAt closing z (codes "\n" ++ lines) first.1) same first.3 in
     let after : first.1 ≡ other.1 = one_rest closing other.0 (codes "\n" ++ lines) (codes "\n" ++ lines2) first.1 other.1 d other.3 in
-    let one = bad_one other.1 marks marks2 left left2 gap gap2 opened opened2 (subst (λ (z : List ℕ). AreParts z marks left) after first.4) other.4 b.spelled b2.spelled c c2 bad bad2 in
-    let long : length (opening ++ opened) ≡ length (opening ++ opened2) = ap (λ (z : List ℕ). length (opening ++ z)) one in
+    let one = bad_one other.1 marks marks2 left left2 gap gap2 remainder remainder2 (subst (λ (z : List ℕ). AreParts z marks left) after first.4) other.4 b.spelled b2.spelled c c2 bad bad2 in
+    let long : length (opening ++ remainder) ≡ length (opening ++ remainder2) = ap (λ (z : List ℕ). length (opening ++ z)) one in
     omega (arith, sum, sum2, long)
 
 -- ---- a source
@@ -124,19 +124,19 @@ one_difference these those m n h k = elim (cases_order m n) [
 -- ---- the text
 
 module _ (policy : PlainPolicy) (valid : IsValid policy) (text : List ℕ) where
-  same_parts : (lines lines2 : List ℕ) (marks marks2 : List Piece) (left left2 : List ℕ) → IsParted text lines marks left → IsParted text lines2 marks2 left2
+  same_parts : (lines lines2 : List ℕ) (marks marks2 : List Insertion) (left left2 : List ℕ) → IsParted text lines marks left → IsParted text lines2 marks2 left2
       → (lines ≡ lines2) × (marks ≡ marks2) × (left ≡ left2)
   unfolding head_inner
   same_parts lines lines2 marks marks2 left left2 a b =
       let same = one_source text (the_prologue lines ∷ marks) (the_prologue lines2 ∷ marks2) left left2 a.begins.parts a.whole b.begins.parts b.whole in
-      (ap (λ (z : List Piece). drop 1 (head_inner z)) same.0, ap (drop 1) same.0, same.1)
+      (ap (λ (z : List Insertion). drop 1 (head_inner z)) same.0, ap (drop 1) same.0, same.1)
 
-  same_source : (lines lines2 : List ℕ) (marks marks2 : List Piece) (left left2 : List ℕ) → IsParted text lines marks left → IsParted text lines2 marks2 left2 → without marks left ≡ without marks2 left2
+  same_source : (lines lines2 : List ℕ) (marks marks2 : List Insertion) (left left2 : List ℕ) → IsParted text lines marks left → IsParted text lines2 marks2 left2 → without marks left ≡ without marks2 left2
   same_source lines lines2 marks marks2 left left2 a b =
-      let s = same_parts lines lines2 marks marks2 left left2 a b in ap (λ (z : List Piece). without z left) s.1 ∙ ap (without marks2) s.2
+      let s = same_parts lines lines2 marks marks2 left left2 a b in ap (λ (z : List Insertion). without z left) s.1 ∙ ap (without marks2) s.2
 
   -- the table's lines are at fault, or they are those of a table
-  no_table : (lines : List ℕ) (marks marks2 : List Piece) (left left2 : List ℕ) (table : Table) (f : TextFault) → IsParted text lines marks left → IsTableFault policy lines f
+  no_table : (lines : List ℕ) (marks marks2 : List Insertion) (left left2 : List ℕ) (table : Table) (f : TextFault) → IsParted text lines marks left → IsTableFault policy lines f
       → HasTable policy text marks2 left2 table → ⊥
   no_table lines marks marks2 left left2 table f parted wrong has =
       let s = same_parts has.lines lines marks2 marks left2 left has.parted parted in

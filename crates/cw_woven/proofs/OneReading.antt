@@ -12,45 +12,45 @@ use Rattle.cw_syntax.specs.PlainMarks.{HasNone}
 use Rattle.cw_lemmas.proofs.Texts.{starts_front as starts_again}
 use Rattle.cw_emit.specs.Woven.{placed}
 use Rattle.cw_table_text.specs.TablesText.{tables_text}
-use Rattle.cw_woven.specs.Parts.{Piece, IsCutAt, AreParts, without, places}
+use Rattle.cw_woven.specs.Parts.{Insertion, IsCutAt, AreParts, without, places}
 use Rattle.cw_woven.specs.Reading.{the_prologue, ReadsWoven, seam_marks}
 
-stands_there : (word text front rest : List ℕ) → text ≡ front ++ (word ++ rest) → starts_with nat_eq (drop (length front) text) word ≡ true
-stands_there word text front rest e = ap (λ (z : List ℕ). starts_with nat_eq z word) (ap (drop (length front)) e ∙ drop-append_seam front (word ++ rest)) ∙ starts_again word rest
+stands_there : (needle text front rest : List ℕ) → text ≡ front ++ (needle ++ rest) → starts_with nat_eq (drop (length front) text) needle ≡ true
+stands_there needle text front rest e = ap (λ (z : List ℕ). starts_with nat_eq z needle) (ap (drop (length front)) e ∙ drop-append_seam front (needle ++ rest)) ∙ starts_again needle rest
 
-not_earlier : (word text f g r s : List ℕ) → IsCutAt word text f r → IsCutAt word text g s → length f < length g → ⊥
-not_earlier word text f g r s c d lt = true≢false (sym (stands_there word text f r c.cut) ∙ d.first (length f) lt)
+not_earlier : (needle text f g r s : List ℕ) → IsCutAt needle text f r → IsCutAt needle text g s → length f < length g → ⊥
+not_earlier needle text f g r s c d lt = true≢false (sym (stands_there needle text f r c.cut) ∙ d.first (length f) lt)
 
-same_length : (word text f g r s : List ℕ) → IsCutAt word text f r → IsCutAt word text g s → length f ≡ length g
-same_length word text f g r s c d = by_order (cases_order (length f) (length g))
+same_length : (needle text f g r s : List ℕ) → IsCutAt needle text f r → IsCutAt needle text g s → length f ≡ length g
+same_length needle text f g r s c d = by_order (cases_order (length f) (length g))
   where
     by_order : (length f ≡ length g) ⊎ ((length f < length g) ⊎ (length g < length f)) → length f ≡ length g
     by_order (inl e) = e
-    by_order (inr (inl lt)) = absurd (not_earlier word text f g r s c d lt)
-    by_order (inr (inr gt)) = absurd (not_earlier word text g f s r d c gt)
+    by_order (inr (inl lt)) = absurd (not_earlier needle text f g r s c d lt)
+    by_order (inr (inr gt)) = absurd (not_earlier needle text g f s r d c gt)
 
 front_is : (text front rest : List ℕ) → text ≡ front ++ rest → take (length front) text ≡ front
 front_is text front rest e = ap (take (length front)) e ∙ take-append_seam front rest
 
-pub one_front : (word text f g r s : List ℕ) → IsCutAt word text f r → IsCutAt word text g s → f ≡ g
-one_front word text f g r s c d = sym (front_is text f (word ++ r) c.cut) ∙ ap (λ (n : ℕ). take n text) (same_length word text f g r s c d) ∙ front_is text g (word ++ s) d.cut
+pub one_front : (needle text f g r s : List ℕ) → IsCutAt needle text f r → IsCutAt needle text g s → f ≡ g
+one_front needle text f g r s c d = sym (front_is text f (needle ++ r) c.cut) ∙ ap (λ (n : ℕ). take n text) (same_length needle text f g r s c d) ∙ front_is text g (needle ++ s) d.cut
 
-pub one_rest : (word text f g r s : List ℕ) → IsCutAt word text f r → IsCutAt word text g s → r ≡ s
-one_rest word text f g r s c d =
-    let same : f ++ (word ++ r) ≡ f ++ (word ++ s) = sym c.cut ∙ d.cut ∙ ap (λ (z : List ℕ). z ++ (word ++ s)) (sym (one_front word text f g r s c d)) in
-    append_cancel_left word r s (append_cancel_left f (word ++ r) (word ++ s) same)
+pub one_rest : (needle text f g r s : List ℕ) → IsCutAt needle text f r → IsCutAt needle text g s → r ≡ s
+one_rest needle text f g r s c d =
+    let same : f ++ (needle ++ r) ≡ f ++ (needle ++ s) = sym c.cut ∙ d.cut ∙ ap (λ (z : List ℕ). z ++ (needle ++ s)) (sym (one_front needle text f g r s c d)) in
+    append_cancel_left needle r s (append_cancel_left f (needle ++ r) (needle ++ s) same)
 
-none_opens : (text gap opened : List ℕ) → IsCutAt opening text gap opened → HasNone opening text → ⊥
-none_opens text gap opened c none = true≢false (sym (stands_there opening text gap opened c.cut) ∙ none (length gap))
+none_opens : (text gap remainder : List ℕ) → IsCutAt opening text gap remainder → HasNone opening text → ⊥
+none_opens text gap remainder c none = true≢false (sym (stands_there opening text gap remainder c.cut) ∙ none (length gap))
 
-pub one_source : (text : List ℕ) (ps qs : List Piece) (left other : List ℕ) → AreParts text ps left → HasNone opening left → AreParts text qs other → HasNone opening other → (ps ≡ qs) × (left ≡ other)
+pub one_source : (text : List ℕ) (ps qs : List Insertion) (left other : List ℕ) → AreParts text ps left → HasNone opening left → AreParts text qs other → HasNone opening other → (ps ≡ qs) × (left ≡ other)
 one_source text [] [] left other a n b m = (refl, sym a ∙ b)
 one_source text [] (q ∷ qs) left other a n b m = absurd (none_opens text q.gap b.0 b.2 (subst (HasNone opening) (sym a) n))
 one_source text (p ∷ ps) [] left other a n b m = absurd (none_opens text p.gap a.0 a.2 (subst (HasNone opening) (sym b) m))
 one_source text (p ∷ ps) (q ∷ qs) left other a n b m =
     let gap : p.gap ≡ q.gap = one_front opening text p.gap q.gap a.0 b.0 a.2 b.2 in
-    let opened : a.0 ≡ b.0 = one_rest opening text p.gap q.gap a.0 b.0 a.2 b.2 in
-    let c : IsCutAt closing b.0 p.inner a.1 = subst (λ (z : List ℕ). IsCutAt closing z p.inner a.1) opened a.3 in
+    let remainder : a.0 ≡ b.0 = one_rest opening text p.gap q.gap a.0 b.0 a.2 b.2 in
+    let c : IsCutAt closing b.0 p.inner a.1 = subst (λ (z : List ℕ). IsCutAt closing z p.inner a.1) remainder a.3 in
     let inner : p.inner ≡ q.inner = one_front closing b.0 p.inner q.inner a.1 b.1 c b.3 in
     let after : a.1 ≡ b.1 = one_rest closing b.0 p.inner q.inner a.1 b.1 c b.3 in
     let others = one_source b.1 ps qs left other (subst (λ (z : List ℕ). AreParts z ps left) after a.4) n b.4 m in
@@ -63,9 +63,9 @@ read_as_one policy other text source source2 file file2 table table2 r s =
     let same = one_source text (the_prologue r.has.lines ∷ r.marks) (the_prologue s.has.lines ∷ s.marks) r.left s.left r.has.parted.begins.parts r.has.parted.whole s.has.parted.begins.parts s.has.parted.whole in
     let marks : r.marks ≡ s.marks = ap (drop 1) same.0 in
     let left : r.left ≡ s.left = same.1 in
-    r.is ∙ ap (λ (z : List Piece). without z r.left) marks ∙ ap (without s.marks) left ∙ sym s.is
+    r.is ∙ ap (λ (z : List Insertion). without z r.left) marks ∙ ap (without s.marks) left ∙ sym s.is
 
-unfoldable pub head_inner : List Piece → List ℕ
+unfoldable pub head_inner : List Insertion → List ℕ
 head_inner [] = []
 head_inner (p ∷ ps) = p.inner
 
@@ -73,7 +73,7 @@ pub one_table_text : (policy : PlainPolicy) (text source source2 : List ℕ) (fi
 unfolding head_inner
 one_table_text policy text source source2 file file2 table table2 r s =
     let same = one_source text (the_prologue r.has.lines ∷ r.marks) (the_prologue s.has.lines ∷ s.marks) r.left s.left r.has.parted.begins.parts r.has.parted.whole s.has.parted.begins.parts s.has.parted.whole in
-    let lines : r.has.lines ≡ s.has.lines = ap (λ (z : List Piece). drop 1 (head_inner z)) same.0 in
+    let lines : r.has.lines ≡ s.has.lines = ap (λ (z : List Insertion). drop 1 (head_inner z)) same.0 in
     sym r.has.spells.spelled ∙ lines ∙ s.has.spells.spelled
 
 pub one_list_of_marks : (policy other : PlainPolicy) (text source source2 : List ℕ) (file file2 : File) (table table2 : Table) → ReadsWoven policy text source file table → ReadsWoven other text source2 file2 table2

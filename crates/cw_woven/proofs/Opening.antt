@@ -7,39 +7,39 @@ use Rattle.cw_certs.specs.Tables.{Table}
 use Rattle.cw_emit.specs.Woven.{placed}
 use Rattle.cw_woven.specs.declared.fault.WovenFault.{WovenFault}
 use Rattle.cw_woven.specs.declared.fault.WovenFault.TheVariants as fault
-use Rattle.cw_woven.specs.Parts.{Piece, without, places}
+use Rattle.cw_woven.specs.Parts.{Insertion, without, places}
 use Rattle.cw_woven.specs.Reading.{HasTable, IsAccepted, IsCutFault, IsFault, IsFaultOver, IsFirstDifference, ReadsWoven, seam_marks}
 use Rattle.cw_woven.specs.Accepting.{IsRefused}
 use Rattle.cw_woven.specs.Comparing.{IsDifference}
 
-module _ (policy : PlainPolicy) (text source : List ℕ) (pieces : List Piece) (left : List ℕ) (table : Table) (has : HasTable policy text pieces left table) (e : source ≡ without pieces left) where
+module _ (policy : PlainPolicy) (text source : List ℕ) (insertions : List Insertion) (left : List ℕ) (table : Table) (has : HasTable policy text insertions left table) (e : source ≡ without insertions left) where
   pub refused : (f : WovenFault) → IsRefused policy source f → IsFaultOver policy text source f
-  refused (fault.Source why) r = (pieces, left, table, has, e, r)
+  refused (fault.Source why) r = (insertions, left, table, has, e, r)
   refused fault.NoMemory r = tt
   refused (fault.Mark at) r = absurd r
   refused (fault.Table why) r = absurd r
   refused (fault.Misplaced n) r = absurd r
 
   module _ (file : File) (accepted : IsAccepted policy source file) (marks : List SeamMark) (are : marks ≡ seam_marks policy source file) where
-    pub misplaced : (f : WovenFault) → IsDifference (places pieces) (map (placed policy source) marks) f → IsFaultOver policy text source f
+    pub misplaced : (f : WovenFault) → IsDifference (places insertions) (map (placed policy source) marks) f → IsFaultOver policy text source f
     misplaced (fault.Misplaced n) r = (
-      pieces,
+      insertions,
       left,
       table,
       file,
       has,
       subst (λ (z : List ℕ). IsAccepted policy z file) e accepted,
-      subst (λ (z : List ℕ). IsFirstDifference (places pieces) (map (placed policy z) (seam_marks policy z file)) n) e
-          (subst (λ (z : List SeamMark). IsFirstDifference (places pieces) (map (placed policy source) z) n) are r),
+      subst (λ (z : List ℕ). IsFirstDifference (places insertions) (map (placed policy z) (seam_marks policy z file)) n) e
+          (subst (λ (z : List SeamMark). IsFirstDifference (places insertions) (map (placed policy source) z) n) are r),
     )
     misplaced fault.NoMemory r = tt
     misplaced (fault.Mark at) r = absurd r
     misplaced (fault.Table why) r = absurd r
     misplaced (fault.Source why) r = absurd r
 
-    pub reads : places pieces ≡ map (placed policy source) marks → ReadsWoven policy text source file table
+    pub reads : places insertions ≡ map (placed policy source) marks → ReadsWoven policy text source file table
     reads r = record {
-      marks = pieces;
+      marks = insertions;
       left = left;
       has = has;
       is = e;

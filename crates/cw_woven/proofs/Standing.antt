@@ -8,11 +8,11 @@ use Rattle.cw_syntax.specs.Marks.{SeamMark}
 use Rattle.cw_certs.specs.Tables.{Table}
 use Rattle.cw_emit.specs.Cut.{opening, closing, part}
 use Rattle.cw_emit.specs.Woven.{placed, prologue, spelled, woven_from, Stands}
-use Rattle.cw_woven.specs.Parts.{Piece, IsCutAt, AreParts, without, places_from}
+use Rattle.cw_woven.specs.Parts.{Insertion, IsCutAt, AreParts, without, places_from}
 use Rattle.cw_woven.specs.Reading.{ReadsWoven, seam_marks}
 
-part_is : (text gap opened inner after : List ℕ) → IsCutAt opening text gap opened → IsCutAt closing opened inner after → text ≡ gap ++ (part inner ++ after)
-part_is text gap opened inner after o c =
+part_is : (text gap remainder inner after : List ℕ) → IsCutAt opening text gap remainder → IsCutAt closing remainder inner after → text ≡ gap ++ (part inner ++ after)
+part_is text gap remainder inner after o c =
     o.cut ∙ ap (λ (z : List ℕ). gap ++ (opening ++ z)) (c.cut ∙ sym (append_assoc inner closing after)) ∙ ap (λ (z : List ℕ). gap ++ z) (sym (append_assoc opening (inner ++ closing) after))
 
 -- the place behind a front
@@ -22,7 +22,7 @@ drop_behind at before gap rest source e f =
     let k : at + length gap - at ≡ length gap = omega arith in
     ap (λ (z : List ℕ). take (at + length gap - at) z) d ∙ ap (λ (n : ℕ). take n (gap ++ rest)) k ∙ take-append_seam gap rest
 
-pub woven_is : (policy : PlainPolicy) (source : List ℕ) (ps : List Piece) (ms : List SeamMark) (text before left : List ℕ) (at : ℕ)
+pub woven_is : (policy : PlainPolicy) (source : List ℕ) (ps : List Insertion) (ms : List SeamMark) (text before left : List ℕ) (at : ℕ)
     → AreParts text ps left → source ≡ before ++ without ps left → length before ≡ at → places_from at ps ≡ map (placed policy source) ms
     → text ≡ woven_from policy source at ms
 unfolding woven_from

@@ -12,7 +12,7 @@ ghost use Rattle.cw_rights.specs.Valid.{IsValid};
 ghost use Rattle.cw_table_text.specs.Grammar.{IsTable};
 ghost use Rattle.cw_woven.specs.declared.fault.WovenFault.{WovenFault};
 ghost use Rattle.cw_woven.specs.declared.fault.WovenFault.TheVariants.{NoMemory};
-ghost use Rattle.cw_woven.specs.Parts.{AreParts, IsCutAt, Piece, without};
+ghost use Rattle.cw_woven.specs.Parts.{AreParts, IsCutAt, Insertion, without};
 ghost use Rattle.cw_woven.specs.Reading.{IsAccepted, IsFault, ReadsWoven, seam_marks};
 
 /// What a text is read as it stands for: the text is the prologue with the table, and the source with the marks of its seams.
@@ -75,15 +75,15 @@ pub fn what_is_read_is_cut()
 /// What `cut` leaves of a text is what stands before its parts, between them and behind them; where a part isn't closed, what stands before
 /// it. Each text is of the one kind or of the other.
 pub fn cut_leaves_what_is_outside()
-    ensures closed { (text : List ℕ) (parts : List Piece) (left : List ℕ)
+    ensures closed { (text : List ℕ) (parts : List Insertion) (left : List ℕ)
         → AreParts text parts left → HasNone opening left
         → cut text ≡ without parts left }
-    ensures unclosed { (text : List ℕ) (parts : List Piece) (left gap opened : List ℕ)
-        → AreParts text parts left → IsCutAt opening left gap opened → HasNone closing opened
+    ensures unclosed { (text : List ℕ) (parts : List Insertion) (left gap remainder : List ℕ)
+        → AreParts text parts left → IsCutAt opening left gap remainder → HasNone closing remainder
         → cut text ≡ without parts gap }
     ensures each { (text : List ℕ)
-        → ((parts : List Piece) × (left : List ℕ) × AreParts text parts left × HasNone opening left)
-        ⊎ ((parts : List Piece) × (left : List ℕ) × (gap : List ℕ) × (opened : List ℕ) × AreParts text parts left × IsCutAt opening left gap opened × HasNone closing opened) }
+        → ((parts : List Insertion) × (left : List ℕ) × AreParts text parts left × HasNone opening left)
+        ⊎ ((parts : List Insertion) × (left : List ℕ) × (gap : List ℕ) × (remainder : List ℕ) × AreParts text parts left × IsCutAt opening left gap remainder × HasNone closing remainder) }
 {}
 
 /// For a valid policy a text has one fault at most, want of memory left aside.

@@ -12,4 +12,4 @@ mod spelling;
 
 pub use acceptance::Accepted;
 pub use fault::{CutFault, WovenFault};
-pub use reading::{Opened, Woven, accept_woven, open_woven, read_woven};
+pub use reading::{Unwoven, Woven, accept_woven, open_woven, read_woven};

@@ -8,13 +8,13 @@ ghost use Rattle.cw_resolve.specs.Scenes.{names_of};
 ghost use Rattle.cw_points.specs.Graphs.{IsGraph};
 ghost use Rattle.cw_table_text.specs.Grammar.{Spells};
 ghost use Rattle.cw_woven.specs.Accepting.{IsRefusedTable};
-ghost use Rattle.cw_woven.specs.Held.{IsOpened, IsUnopened};
+ghost use Rattle.cw_woven.specs.Held.{IsUnwoven, IsUnopened};
 ghost use Rattle.cw_woven.specs.Reading.{IsFault, IsFaultOver, Reads, ReadsWoven};
 
 use crate::acceptance::{Accepted, accept};
 use crate::comparing::compare;
 use crate::fault::WovenFault;
-use crate::parts::{Piece, without};
+use crate::parts::{Insertion, without};
 use crate::scanning::{Scanned, scan};
 use cw_certs::WeaverCert;
 use cw_points::marks::marks;
@@ -48,9 +48,9 @@ fn table_of(alloc: Global, lines: &[u8], policy: &Policy) -> Result<WeaverCert, 
 
 /// A text in parts, the first of which is a prologue: its source, which isn't read yet, and its table.
 #[derive(Drop)]
-pub struct Opened<'t> {
+pub struct Unwoven<'t> {
     pub(crate) text: &'t [u8],
-    pub(crate) marks: Vec<Piece<'t>>,
+    pub(crate) marks: Vec<Insertion<'t>>,
     pub(crate) left: &'t [u8],
     /// The text without its parts, in bytes.
     pub source: Vec<u8>,
@@ -63,10 +63,10 @@ pub fn open_woven<'t>(
     alloc: Global,
     text: &'t [u8],
     policy: &Policy,
-) -> Result<Opened<'t>, WovenFault>
+) -> Result<Unwoven<'t>, WovenFault>
     requires short { length text.now ≤ 33554432 }
-    ensures text { IfOk result (λ opened. opened.text.now ≡ text.now) }
-    ensures opened { IfOk result (λ opened. IsOpened (policy_of policy.now) opened) }
+    ensures text { IfOk result (λ remainder. remainder.text.now ≡ text.now) }
+    ensures remainder { IfOk result (λ remainder. IsUnwoven (policy_of policy.now) remainder) }
     ensures fault { IfErr result (IsUnopened (policy_of policy.now) text.now) }
 {
     let scanned = scan(alloc, text)?;
@@ -77,7 +77,7 @@ pub fn open_woven<'t>(
         marks,
         left,
     } = scanned;
-    Ok(Opened {
+    Ok(Unwoven {
         text,
         marks,
         left,
@@ -90,35 +90,41 @@ pub fn open_woven<'t>(
 /// first mark that isn't that of its seam. `NoMemory`: memory ran out.
 pub fn accept_woven<'s>(
     alloc: Global,
-    opened: &'s Opened,
+    remainder: &'s Unwoven,
     policy: &Policy,
 ) -> Result<Accepted<'s>, WovenFault>
     requires valid { IsValid (policy_of policy.now) }
-    requires opened { IsOpened (policy_of policy.now) opened.now }
-    ensures source { IfOk result (λ a. a.checked.source.now ≡ opened.now.source.items) }
-    ensures reads { IfOk result (λ a. ReadsWoven (policy_of policy.now) opened.now.text.now opened.now.source.items (file_of a.checked.program) opened.now.table) }
-    ensures graph { IfOk result (λ a. IsGraph (names_of (policy_of policy.now)) opened.now.source.items (file_of a.checked.program) a.graph) }
-    ensures fault { IfErr result (IsFaultOver (policy_of policy.now) opened.now.text.now opened.now.source.items) }
+    requires remainder { IsUnwoven (policy_of policy.now) remainder.now }
+    ensures source { IfOk result (λ a. a.checked.source.now ≡ remainder.now.source.items) }
+    ensures reads { IfOk result (λ a. ReadsWoven (policy_of policy.now) remainder.now.text.now remainder.now.source.items (file_of a.checked.program) remainder.now.table) }
+    ensures graph { IfOk result (λ a. IsGraph (names_of (policy_of policy.now)) remainder.now.source.items (file_of a.checked.program) a.graph) }
+    ensures fault { IfErr result (IsFaultOver (policy_of policy.now) remainder.now.text.now remainder.now.source.items) }
 {
-    let accepted = match accept(alloc, policy, &opened.source) {
+    let accepted = match accept(alloc, policy, &remainder.source) {
         Ok(accepted) => accepted,
         Err(fault) => return Err(fault),
     };
     let marks = marks(alloc, &accepted.graph)?;
-    match compare(&opened.marks, opened.left, &marks, &opened.source, policy) {
+    match compare(
+        &remainder.marks,
+        remainder.left,
+        &marks,
+        &remainder.source,
+        policy,
+    ) {
         Ok(()) => Ok(accepted),
         Err(fault) => Err(fault),
     }
 }
 
 /// That the source of a text in parts is accepted, with its marks; or why not.
-fn is_woven(alloc: Global, opened: &Opened, policy: &Policy) -> Result<(), WovenFault>
+fn is_woven(alloc: Global, remainder: &Unwoven, policy: &Policy) -> Result<(), WovenFault>
     requires valid { IsValid (policy_of policy.now) }
-    requires opened { IsOpened (policy_of policy.now) opened.now }
-    ensures reads { IfOk result (λ _. Reads (policy_of policy.now) opened.now.text.now opened.now.source.items opened.now.table) }
-    ensures fault { IfErr result (IsFault (policy_of policy.now) opened.now.text.now) }
+    requires remainder { IsUnwoven (policy_of policy.now) remainder.now }
+    ensures reads { IfOk result (λ _. Reads (policy_of policy.now) remainder.now.text.now remainder.now.source.items remainder.now.table) }
+    ensures fault { IfErr result (IsFault (policy_of policy.now) remainder.now.text.now) }
 {
-    match accept_woven(alloc, opened, policy) {
+    match accept_woven(alloc, remainder, policy) {
         Ok(_) => Ok(()),
         Err(fault) => return Err(fault),
     }
@@ -136,13 +142,13 @@ pub fn read_woven(alloc: Global, text: &[u8], policy: &Policy) -> Result<Woven, 
     ensures reads { IfOk result (λ woven. Reads (policy_of policy.now) text.now woven.source.items woven.table) }
     ensures fault { IfErr result (IsFault (policy_of policy.now) text.now) }
 {
-    let opened = match open_woven(alloc, text, policy) {
-        Ok(opened) => opened,
+    let remainder = match open_woven(alloc, text, policy) {
+        Ok(remainder) => remainder,
         Err(fault) => return Err(fault),
     };
-    match is_woven(alloc, &opened, policy) {
+    match is_woven(alloc, &remainder, policy) {
         Ok(()) => {
-            let Opened { source, table, .. } = opened;
+            let Unwoven { source, table, .. } = remainder;
             Ok(Woven { source, table })
         }
         Err(fault) => Err(fault),

@@ -2,11 +2,11 @@
 
 ghost use Rattle.std.specs.Prelude.{◌≡◌, ◌+◌, ◌≤◌, ◌++◌, length, map, option_map, IfOk, IfErr};
 ghost use Rattle.cw_rights.specs.Policies.{PlainPolicy};
-ghost use Rattle.cw_woven.specs.Held.{piece_of, IsNext, IsScanned, IsScanFault, IsPrologue};
+ghost use Rattle.cw_woven.specs.Held.{insertion_of, IsNext, IsScanned, IsScanFault, IsPrologue};
 ghost use Rattle.cw_woven.specs.Reading.{IsMark};
 
 use crate::fault::WovenFault;
-use crate::parts::{CLOSING, OPENING, Piece, cut_at};
+use crate::parts::{CLOSING, Insertion, OPENING, cut_at};
 use crate::spelling::is_spelling;
 use cw_text::behind;
 use std::alloc::Global;
@@ -15,7 +15,7 @@ use std::alloc::Global;
 #[derive(Drop)]
 pub(crate) struct Scanned<'t> {
     pub lines: &'t [u8],
-    pub marks: Vec<Piece<'t>>,
+    pub marks: Vec<Insertion<'t>>,
     pub left: &'t [u8],
 }
 
@@ -23,17 +23,17 @@ pub(crate) struct Scanned<'t> {
 fn prologue(text: &[u8]) -> Option<(&[u8], &[u8])>
     ensures { IsPrologue text.now (option_map (λ parts. (parts.0.now, parts.1.now)) result) }
 {
-    let opened = behind(text, b"/*cw{*/\n")?;
-    cut_at(opened, CLOSING)
+    let remainder = behind(text, b"/*cw{*/\n")?;
+    cut_at(remainder, CLOSING)
 }
 
 /// How many bytes stand before what opens with this many behind it.
-fn place_of(whole: usize, opened: usize) -> u32
-    requires within { opened + 7 ≤ whole }
+fn place_of(whole: usize, remainder: usize) -> u32
+    requires within { remainder + 7 ≤ whole }
     requires short { whole ≤ 33554432 }
-    ensures { result + (opened + 7) ≡ whole }
+    ensures { result + (remainder + 7) ≡ whole }
 {
-    (whole - (opened + 7)) as u32
+    (whole - (remainder + 7)) as u32
 }
 
 /// What is next behind a part.
@@ -41,7 +41,7 @@ pub(crate) enum Next<'t> {
     /// Nothing opens.
     Done,
     /// A mark, and what stands behind it.
-    Mark(Piece<'t>, &'t [u8]),
+    Mark(Insertion<'t>, &'t [u8]),
     /// Something opens that is no mark, with this behind its opening.
     Bad(&'t [u8]),
 }
@@ -50,16 +50,16 @@ pub(crate) enum Next<'t> {
 fn next_part(left: &[u8]) -> Next<'_>
     ensures { IsNext left.now result }
 {
-    let Some((gap, opened)) = cut_at(left, OPENING) else {
+    let Some((gap, remainder)) = cut_at(left, OPENING) else {
         return Next::Done;
     };
-    let Some((inner, after)) = cut_at(opened, CLOSING) else {
-        return Next::Bad(opened);
+    let Some((inner, after)) = cut_at(remainder, CLOSING) else {
+        return Next::Bad(remainder);
     };
     if is_spelling(inner) {
-        Next::Mark(Piece { gap, inner }, after)
+        Next::Mark(Insertion { gap, inner }, after)
     } else {
-        Next::Bad(opened)
+        Next::Bad(remainder)
     }
 }
 
@@ -76,11 +76,11 @@ pub(crate) fn scan(alloc: Global, text: &[u8]) -> Result<Scanned<'_>, WovenFault
     'marks: loop {
         match next_part(left) {
             Next::Done => return Ok(Scanned { lines, marks, left }),
-            Next::Bad(opened) => {
-                return Err(WovenFault::Mark(place_of(text.len(), opened.len())));
+            Next::Bad(remainder) => {
+                return Err(WovenFault::Mark(place_of(text.len(), remainder.len())));
             }
-            Next::Mark(piece, after) => {
-                marks.push(piece)?;
+            Next::Mark(insertion, after) => {
+                marks.push(insertion)?;
                 left = after;
             }
         }

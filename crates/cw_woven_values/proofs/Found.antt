@@ -25,7 +25,7 @@ use Rattle.cw_states.specs.States.{caps_at, lists_of}
 use Rattle.cw_product.specs.Product.{Held, game_of}
 use Rattle.cw_trace.specs.Traces.{Names}
 use Rattle.cw_trace.specs.Labels.{names_of as trace_names_of}
-use Rattle.cw_run.specs.Walks.{Here, Wait, ret_of, place, within, called, ended, going_on, refusing, asked, next_of, Next, To, Into, Back, Over, Resumed, Stopped, without_first}
+use Rattle.cw_run.specs.Walks.{Here, Wait, ret_of, landing, within, called, ended, going_on, refusing, asked, next_of, Next, To, Into, Back, Over, Resumed, Stopped, without_first}
 use Rattle.cw_run.proofs.Sees.{is_inner, see}
 use Rattle.cw_run.proofs.Sits.{chained, Least, Sits, Stepped, inner_step}
 use Rattle.cw_run.proofs.Calls.{call_step, return_step, end_step}
@@ -112,11 +112,11 @@ module _ (h : Held) (s : Source) (t : Table) (w : IsWoven h s t) where
 
     call_found : (split : Bool) (j f n2 : ℕ) (by : Move) (n : Next) → slice_get g.spots here.pos ≡ Some (call_spot split j f n2) → called g t here j f n2 split by ≡ Some n → Found st waits by n
     call_found split j f n2 On n es e =
-        let m = mapped (λ m. Into (place (g.entry f, here.state) m) (record { seam = j; split = split; back = n2; state = here.state; mem = here.mem }))
+        let m = mapped (λ m. Into (landing (g.entry f, here.state) m) (record { seam = j; split = split; back = n2; state = here.state; mem = here.mem }))
         (option_and_then (λ r. mem_in t r.callee) (into_at t j split here.mem)) n e in
         subst (λ z. Found st waits On z) m.2 (
           refl,
-          moved_by st On _ (place (g.entry f, here.state) m.0) (record { seam = j; split = split; back = n2; state = here.state; mem = here.mem } ∷ waits)
+          moved_by st On _ (landing (g.entry f, here.state) m.0) (record { seam = j; split = split; back = n2; state = here.state; mem = here.mem } ∷ waits)
               (call_step names g t p.plan is_game.states is_game.laid is_game.routines held caps_held st here waits split j f n2 m.0 sits es m.1),
         )
     call_found split j f n2 _ n es e = absurd (none-some n e)
@@ -149,11 +149,11 @@ module _ (h : Held) (s : Source) (t : Table) (w : IsWoven h s t) where
               },
             )
         by (Some m0) en e =
-            let m = mapped (λ n. Resumed (place pair n)) (mem_in t m0) n e in
+            let m = mapped (λ n. Resumed (landing pair n)) (mem_in t m0) n e in
             let kept : refused_with t (try_at t j i here.mem) ≡ Some m.0 = ap (refused_with t) row ∙ ap (option_and_then (mem_in t)) en ∙ m.1 in
             let k = resume_step names g t p.plan is_game.states is_game.laid is_game.routines held caps_held st here waits j i m.0 a pair sits es er kept in
             subst (λ z. Found st waits Refuse z) m.2
-            (refl, record { refusal = refusal_by st j i a k.refusal; then = moved_by k.refusal.first Skip _ (place pair m.0) waits k.then })
+            (refl, record { refusal = refusal_by st j i a k.refusal; then = moved_by k.refusal.first Skip _ (landing pair m.0) waits k.then })
 
     asked_found : (j i : ℕ) (a : Primitive) (by : Move) (n : Next) → slice_get g.spots here.pos ≡ Some (AskedSpot j i a) → (o : Option (ℕ × ℕ)) → resumed g here.pos here.state ≡ o
         → asked g t here (AskedSpot j i a) j i by o ≡ Some n → Found st waits by n
@@ -167,13 +167,13 @@ module _ (h : Held) (s : Source) (t : Table) (w : IsWoven h s t) where
       let k = end_step names g t p.plan is_game.states is_game.laid is_game.routines held caps_held st here f sits es in
       subst (λ z. Found st [] On z) (same_Some Over n e) (refl, record { next = k.next; step = k.steps; over = k.over })
   end_found st here (call ∷ waits) sits f On n es e =
-      let x = chained (λ exit. option_map (λ m. Back (place (call.back, returned g.states (kept_at call.split call.state) here.state) m))
+      let x = chained (λ exit. option_map (λ m. Back (landing (call.back, returned g.states (kept_at call.split call.state) here.state) m))
       (option_and_then (λ r. mem_in t r.after) (back_at t call.seam call.split call.mem exit))) (state_of t here.mem) n e in
-      let m = mapped (λ m. Back (place (call.back, returned g.states (kept_at call.split call.state) here.state) m))
+      let m = mapped (λ m. Back (landing (call.back, returned g.states (kept_at call.split call.state) here.state) m))
       (option_and_then (λ r. mem_in t r.after) (back_at t call.seam call.split call.mem x.0)) n x.2 in
       subst (λ z. Found st (call ∷ waits) On z) m.2 (
         refl,
-        moved_by st On _ (place (call.back, returned g.states (kept_at call.split call.state) here.state) m.0) waits
+        moved_by st On _ (landing (call.back, returned g.states (kept_at call.split call.state) here.state) m.0) waits
             (return_step names g t p.plan is_game.states is_game.laid is_game.routines held caps_held st here call waits f x.0 m.0 sits es x.1 m.1),
       )
   end_found st here waits sits f _ n es e = absurd (none-some n e)

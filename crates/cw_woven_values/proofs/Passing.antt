@@ -8,7 +8,7 @@ use Rattle.cw_rights.specs.Policies.{PlainPolicy, is_refusable, primitives}
 use Rattle.cw_certs.specs.declared.moves.Move.{Move}
 use Rattle.cw_certs.specs.declared.moves.Move.TheVariants.{Skip, Try, Grant, Refuse}
 use Rattle.cw_syntax.specs.Plans.{Plain, Break, Continue, Return, Open, Close, Call, Group, Label, If, While, Do, For}
-use Rattle.cw_syntax.specs.Frames.{Entry, Todo, Test, After, Mark, End, Frame}
+use Rattle.cw_syntax.specs.Frames.{Entry, Todo, Test, After, LoopEnd, End, Frame}
 use Rattle.cw_model.specs.Boards.{Problem, Phase, Visit, Asked, Refused as RefusedPhase, Board, begin, onward, primitives_in, granted, refused, passed_by, answered, moved, may_grant, may_refuse, can_stop, is_refused}
 use Rattle.cw_woven_values.specs.Standing.{IsCalm, to_come}
 
@@ -109,7 +109,7 @@ module _ (policy : PlainPolicy) (few : length policy.limits ≤ 12) where
   front_few (Entry f j ∷ is) = primitives_few false
   front_few (Test at d u s ∷ is) = omega arith
   front_few (After at ∷ is) = omega arith
-  front_few (Mark ∷ is) = omega arith
+  front_few (LoopEnd ∷ is) = omega arith
   front_few (End f ∷ is) = omega arith
   front_few (Todo (Label at mark j l s) ∷ is) = primitives_few false
   front_few (Todo (Call at j callee) ∷ is) = primitives_few callee.split

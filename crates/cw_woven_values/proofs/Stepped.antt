@@ -15,7 +15,7 @@ use Rattle.cw_model.specs.Runs.{State, WovenStep}
 use Rattle.cw_game.specs.declared.spots.Spot.{Spot}
 use Rattle.cw_product.specs.Product.{Held}
 use Rattle.cw_run.specs.declared.walk.Here.{Here as HereData}
-use Rattle.cw_run.specs.Walks.{Here, Wait, here_of, next_of, Next, To, Into, Back, Over as AllOver, Resumed, Stopped, place_of, waits_after, without_first}
+use Rattle.cw_run.specs.Walks.{Here, Wait, here_of, next_of, Next, To, Into, Back, Over as AllOver, Resumed, Stopped, landing_of, waits_after, without_first}
 use Rattle.cw_value.specs.declared.values.Stop.{Stop}
 use Rattle.cw_value.specs.declared.values.Stop.TheVariants.{Ended}
 use Rattle.cw_value.specs.Machines.{Source, Machine, Step, goes, halts, step}
@@ -176,7 +176,7 @@ module _ (h : Held) (s : Source) (t : Table) (w : IsWoven h s t) where
       Led None waits2 = EndsNow
       Led (Some to) waits2 = (now : Going) × Landed to waits2 now
 
-      led : (n : Next) → Found h s t w run.woven waits (move_of way) n → Led (place_of n) (waits_after n waits)
+      led : (n : Next) → Found h s t w run.woven waits (move_of way) n → Led (landing_of n) (waits_after n waits)
       led (To to) k = lands_at to waits k
       led (Into to call) k = lands_at to (call ∷ waits) k.1
       led (Back to) k = lands_at to (without_first waits) k.1
@@ -184,7 +184,7 @@ module _ (h : Held) (s : Source) (t : Table) (w : IsWoven h s t) where
       led (Resumed to) k = absurd (not_refuse way k.0)
       led (Stopped seam) k = absurd (not_refuse way k.0)
 
-      pub goes_on : (spot : Spot) (n : Next) → slice_get (g h s t w).spots here.pos ≡ Some spot → next_of (g h s t w) t here waits spot (move_of way) ≡ Some n → Led (place_of n) (waits_after n waits)
+      pub goes_on : (spot : Spot) (n : Next) → slice_get (g h s t w).spots here.pos ≡ Some spot → next_of (g h s t w) t here waits spot (move_of way) ≡ Some n → Led (landing_of n) (waits_after n waits)
       goes_on spot n es e = led n (found h s t w run.woven here waits on.sits spot (move_of way) n es (at_spot spot es) e)
 
     -- the point and the place together
@@ -199,7 +199,7 @@ module _ (h : Held) (s : Source) (t : Table) (w : IsWoven h s t) where
         empty frame frames e = absurd (cc)
 
     pub together : (way : Way) (plain2 : Going) (m : HeldMachine) (point : Option PointId) (stands : StandsAt (policy h s t) s point m plain2) (passes : Passes (policy h s t) s way plain plain2)
-        (place : Option HereData) (waits2 : List Wait) → Led way plain2 m point stands passes (option_map here_of place) waits2 → Steps h s t w waits2 left made run m (Ok (both point place))
+        (stand : Option HereData) (waits2 : List Wait) → Led way plain2 m point stands passes (option_map here_of stand) waits2 → Steps h s t w waits2 left made run m (Ok (both point stand))
     together way plain2 m None stands passes None waits2 k = k
     together way plain2 m None stands passes (Some to) waits2 k = absurd (never_empty plain2 m (here_of to) waits2 way stands passes k.0 k.1)
     together way plain2 m (Some point) stands passes None waits2 k = k

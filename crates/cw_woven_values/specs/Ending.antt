@@ -10,7 +10,7 @@ use Rattle.cw_value.specs.Shown.{Values}
 use Rattle.cw_value.specs.Runs.{Going, Ends, most_steps}
 use Rattle.cw_machine.specs.declared.machine.Machine.{Machine as HeldMachine}
 use Rattle.cw_machine.specs.Shown.{machine_of}
-use Rattle.cw_woven_values.specs.declared.stepping.Place.{Place}
+use Rattle.cw_woven_values.specs.declared.stepping.Stand.{Stand}
 use Rattle.cw_woven_values.specs.Standing.{IsWoven, problem}
 use Rattle.cw_woven_values.specs.Stepping.{StandsWoven}
 
@@ -23,7 +23,7 @@ module _ (h : Held) (s : Source) (t : Table) where
   EndsSo m made run stop = EndsWith most_steps m made run stop
 
   -- so many steps before its end a run that began at the first state stands here
-  abbrev pub Leads : IsWoven h s t → Place → HeldMachine → List Wait → List Move → ℕ → Going → ℕ → Type 0
-  Leads w place m waits left made run steps =
-      (now : Going) × StandsWoven h s t w place m waits left made now
+  abbrev pub Leads : IsWoven h s t → Stand → HeldMachine → List Wait → List Move → ℕ → Going → ℕ → Type 0
+  Leads w stand m waits left made run steps =
+      (now : Going) × StandsWoven h s t w stand m waits left made now
       × ((v : Values) → Ends s (problem h s t) (Some t) steps now v → Ends s (problem h s t) (Some t) most_steps run v)

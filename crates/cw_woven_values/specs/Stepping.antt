@@ -15,30 +15,30 @@ use Rattle.cw_eval.specs.declared.halt.Halt.TheVariants as halt
 use Rattle.cw_machine.specs.declared.machine.Machine.{Machine as HeldMachine}
 use Rattle.cw_machine.specs.Shown.{machine_of}
 use Rattle.cw_values.specs.Stands.{StandsAt}
-use Rattle.cw_woven_values.specs.declared.stepping.Place.{Place}
+use Rattle.cw_woven_values.specs.declared.stepping.Stand.{Stand}
 use Rattle.cw_woven_values.specs.Standing.{IsWoven, IsFresh, policy, problem, EndsBehind, Weaves}
 
 -- both, where both are there
-abbrev pub both : Option PointId → Option HereData → Option Place
+abbrev pub both : Option PointId → Option HereData → Option Stand
 both None here = None
 both (Some point) None = None
 both (Some point) (Some here) = Some (record { point = point; here = here })
 
-abbrev pub IsWent : Game → Result (Option Place) Halt → Type 0
-IsWent g (Ok (Some place)) = IsHere g (here_of place.here)
+abbrev pub IsWent : Game → Result (Option Stand) Halt → Type 0
+IsWent g (Ok (Some stand)) = IsHere g (here_of stand.here)
 IsWent g _ = Unit {0}
 
 module _ (h : Held) (s : Source) (t : Table) (w : IsWoven h s t) where
   -- a run stands at this place, with these values, at a new front
-  pub record StandsWoven (place : Place) (m : HeldMachine) (waits : List Wait) (left : List Move) (made : ℕ) (run : Going) : Type 0 where
+  pub record StandsWoven (stand : Stand) (m : HeldMachine) (waits : List Wait) (left : List Move) (made : ℕ) (run : Going) : Type 0 where
     pub plain : Going
-    pub stands : StandsAt (policy h s t) s (Some place.point) m plain
-    pub weaves : Weaves h s t w plain (here_of place.here) waits left made run
+    pub stands : StandsAt (policy h s t) s (Some stand.point) m plain
+    pub weaves : Weaves h s t w plain (here_of stand.here) waits left made run
     pub fresh : IsFresh h s t run
 
   -- what a step of the program leaves of a state: the state behind it, or an end
-  abbrev pub Steps : List Wait → List Move → ℕ → Going → HeldMachine → Result (Option Place) Halt → Type 0
-  Steps waits left made run m (Ok (Some place)) = (now : Going) × StandsWoven place m waits left made now × EndsBehind h s t run now
+  abbrev pub Steps : List Wait → List Move → ℕ → Going → HeldMachine → Result (Option Stand) Halt → Type 0
+  Steps waits left made run m (Ok (Some stand)) = (now : Going) × StandsWoven stand m waits left made now × EndsBehind h s t run now
   Steps waits left made run m (Ok None) = (n : ℕ) → Ends s (problem h s t) (Some t) (suc n) run (record { made = (machine_of m).made; tried = made; stop = Ended })
   Steps waits left made run m (Err (halt.Stop why)) = (n : ℕ) → Ends s (problem h s t) (Some t) (suc n) run (record { made = (machine_of m).made; tried = made; stop = why })
   Steps waits left made run m (Err halt.NoMemory) = Unit {0}

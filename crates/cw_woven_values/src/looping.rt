@@ -12,7 +12,7 @@ ghost use Rattle.cw_woven_values.specs.Standing.{IsWoven};
 ghost use Rattle.cw_woven_values.specs.Stepping.{StandsWoven};
 ghost use Rattle.cw_woven_values.specs.Ending.{EndsSo};
 
-use crate::stepping::{Place, go};
+use crate::stepping::{Stand, go};
 use crate::tries::Tries;
 use crate::visiting::{Front, weave};
 use cw_certs::WeaverCert;
@@ -34,7 +34,7 @@ pub(crate) fn steps(
     table: &WeaverCert,
     m: &mut Machine,
     tries: &mut Tries,
-    start: Place,
+    start: Stand,
 ) -> Result<Stop, NoMemory>
     requires known { IsKnown run.now.known }
     requires here { IsHere (game_of game.now) (here_of start.here) }
@@ -45,15 +45,15 @@ pub(crate) fn steps(
         → IfOk result (λ stop. EndsSo game.now (source_in run.now.known.source) table.now m.new tries.new.made woven stop) }
 {
     let mut waits = VecDeque::new(run.known.source.alloc);
-    let mut place = start;
+    let mut stand = start;
     for i in 0..MOST_STEPS {
         let _ = i;
-        match weave(game, table, place.here, tries) {
+        match weave(game, table, stand.here, tries) {
             Front::Stopped(seam) => return Ok(Stop::Refused(seam)),
-            Front::Free(here) => place.here = here,
+            Front::Free(here) => stand.here = here,
         }
-        match go(run, game, table, m, &mut waits, place) {
-            Ok(Some(next)) => place = next,
+        match go(run, game, table, m, &mut waits, stand) {
+            Ok(Some(next)) => stand = next,
             Ok(None) => return Ok(Stop::Ended),
             Err(Halt::Stop(stop)) => return Ok(stop),
             Err(Halt::NoMemory) => return Err(NoMemory),

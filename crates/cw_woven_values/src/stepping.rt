@@ -9,7 +9,7 @@ ghost use Rattle.cw_starts.specs.Sources.{source_in};
 ghost use Rattle.cw_machine.specs.Knowing.{IsKnown};
 ghost use Rattle.cw_product.specs.Product.{game_of};
 ghost use Rattle.cw_rights.specs.Policies.{policy_of};
-ghost use Rattle.cw_run.specs.Walks.{IsHere, IsNextIn, IsWait, here_of, next_is, place_of, wait_of};
+ghost use Rattle.cw_run.specs.Walks.{IsHere, IsNextIn, IsWait, here_of, next_is, landing_of, wait_of};
 ghost use Rattle.cw_values.specs.Running.{IsRunOf};
 ghost use Rattle.cw_values.specs.Stands.{StandsAt};
 ghost use Rattle.cw_woven_values.specs.Standing.{IsWoven, Weaves};
@@ -27,7 +27,7 @@ use std::collections::VecDeque;
 
 /// Where a step has led: a point of the program, and a place of the game.
 #[derive(Clone, Copy, Drop)]
-pub(crate) struct Place {
+pub(crate) struct Stand {
     pub point: PointId,
     pub here: Here,
 }
@@ -48,8 +48,8 @@ fn move_of(way: Way) -> Move
 
 /// The place at which a move leads on; none where the program has ended.
 #[inline(always)]
-fn place_of(next: Next) -> Option<Here>
-    ensures is { option_map here_of result ≡ place_of (next_is next) }
+fn landing_of(next: Next) -> Option<Here>
+    ensures is { option_map here_of result ≡ landing_of (next_is next) }
 {
     match next {
         Next::To(here) | Next::Resumed(here) => Some(here),
@@ -60,14 +60,14 @@ fn place_of(next: Next) -> Option<Here>
 
 /// Both, where the program goes on.
 #[inline(always)]
-fn together(point: Option<PointId>, here: Option<Here>) -> Option<Place>
+fn together(point: Option<PointId>, here: Option<Here>) -> Option<Stand>
     ensures { result ≡ both point here }
 {
     match point {
         None => None,
         Some(point) => match here {
             None => None,
-            Some(here) => Some(Place { point, here }),
+            Some(here) => Some(Stand { point, here }),
         },
     }
 }
@@ -80,30 +80,30 @@ pub(crate) fn go(
     table: &WeaverCert,
     m: &mut Machine,
     waits: &mut VecDeque<Wait>,
-    place: Place,
-) -> Result<Option<Place>, Halt>
+    stand: Stand,
+) -> Result<Option<Stand>, Halt>
     requires known { IsKnown run.now.known }
-    requires here { IsHere (game_of game.now) (here_of place.here) }
+    requires here { IsHere (game_of game.now) (here_of stand.here) }
     requires waits { All (λ w. IsWait (game_of game.now) (wait_of w)) waits.old.items }
     ensures steps { (w : IsWoven game.now (source_in run.now.known.source) table.now) (left : List MoveOf) (made : ℕ) (plain woven : Going)
         → IsRunOf (policy_of game.now.states.policy) run.now
-        → StandsAt (policy_of game.now.states.policy) (source_in run.now.known.source) (Some place.point) m.old plain
-        → Weaves game.now (source_in run.now.known.source) table.now w plain (here_of place.here) (map wait_of waits.old.items) left made woven
+        → StandsAt (policy_of game.now.states.policy) (source_in run.now.known.source) (Some stand.point) m.old plain
+        → Weaves game.now (source_in run.now.known.source) table.now w plain (here_of stand.here) (map wait_of waits.old.items) left made woven
         → IsFree woven.woven.board.phase
         → Steps game.now (source_in run.now.known.source) table.now w (map wait_of waits.new.items) left made woven m.new result }
     ensures waits { All (λ w. IsWait (game_of game.now) (wait_of w)) waits.new.items }
     ensures range { IsWent (game_of game.now) result }
 {
-    match advance(run, m, place.point) {
+    match advance(run, m, stand.point) {
         Err(halt) => Err(halt),
         Ok(onward) => {
-            let spot = game.spot(place.here.pos);
+            let spot = game.spot(stand.here.pos);
             let by = move_of(onward.way);
-            match lead_over(game, table, place.here, waits, spot, by) {
+            match lead_over(game, table, stand.here, waits, spot, by) {
                 None => Ok(None),
                 Some(next) => {
                     follow(waits, next)?;
-                    Ok(together(onward.next, place_of(next)))
+                    Ok(together(onward.next, landing_of(next)))
                 }
             }
         }

@@ -27,7 +27,7 @@ ghost use Rattle.cw_woven_values.specs.Standing.{IsWoven, problem};
 ghost use Rattle.cw_woven_values.specs.Beside.{AgreesWithPlain};
 
 use crate::looping::steps;
-use crate::stepping::Place;
+use crate::stepping::Stand;
 use crate::tries::Tries;
 use cw_certs::{Move, WeaverCert};
 use cw_core::{NoMemory, PointId};
@@ -68,7 +68,7 @@ fn run_from(
         left: tries,
         made: 0,
     };
-    let stop = steps(run, game, table, &mut m, &mut tries, Place { point, here })?;
+    let stop = steps(run, game, table, &mut m, &mut tries, Stand { point, here })?;
     let Machine { memory, .. } = m;
     Ok(Values {
         made: memory.made,
@@ -154,8 +154,8 @@ pub fn values_woven<'s>(
     ensures both { IfOk result (λ _. shape checked.now.source.now (file_of checked.now.program) ≡ None) }
     ensures agrees { IfOk result (λ values. AgreesWithPlain (policy_of game.now.states.policy) checked.now.source.now (file_of checked.now.program) (answers_of answers.now) (values_of values)) }
 {
-    if let Some(place) = shape(alloc, checked.source, &checked.program)? {
-        return Err(ValueFault::Shape(place));
+    if let Some(stand) = shape(alloc, checked.source, &checked.program)? {
+        return Err(ValueFault::Shape(stand));
     }
     let source = Source {
         alloc,

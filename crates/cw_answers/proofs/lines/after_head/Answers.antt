@@ -2,7 +2,7 @@ use Rattle.std.proofs.Common.{refl, sym, ◌∙◌}
 use Rattle.std.specs.Prelude.{codes}
 use Rattle.std.specs.Cmp.Lexicographic.{other_text}
 use Rattle.cw_answers.specs.AnswerLines.{Head}
-use Rattle.cw_answers.proofs.Words.{nothing_said, not_text}
+use Rattle.cw_answers.proofs.Fields.{nothing_said, not_text}
 use Rattle.cw_answers.proofs.lines.after_head.Goals as goal
 
 pub returns-in_default-clause-none : goal.returns-in_default-clause-none

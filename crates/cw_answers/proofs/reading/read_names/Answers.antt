@@ -3,11 +3,11 @@ use Rattle.std.specs.List.{All}
 use Rattle.std.specs.List.Sorted.{IsStrictlySortedBy}
 use Rattle.std.proofs.lemmas.List.Elements.{All-nil}
 use Rattle.cw_text_lines.specs.Lines.{whole_lines}
-use Rattle.cw_answers.specs.AnswerLines.{line_words, FitsLine}
+use Rattle.cw_answers.specs.AnswerLines.{line_fields, FitsLine}
 use Rattle.cw_answers.specs.AnswersText.{name_line}
 use Rattle.cw_answers.specs.Reading.{name_of, by_name, is_behind, last_of}
 use Rattle.cw_answers.proofs.Behind.{no_name, names_more, names_fit, names_ascend}
-use Rattle.cw_answers.proofs.Words.{stored}
+use Rattle.cw_answers.proofs.Fields.{stored}
 use Rattle.cw_answers.proofs.reading.read_names.Goals as goal
 
 pub names-init : goal.names-init
@@ -15,7 +15,7 @@ unfolding IsStrictlySortedBy
 names-init c =
     let none = c.new-names.ensures.items in
     record {
-      text = ap (λ ns. whole_lines line_words (map name_line (map name_of ns)) ++ c.args.text.now) (sym none);
+      text = ap (λ ns. whole_lines line_fields (map name_line (map name_of ns)) ++ c.args.text.now) (sym none);
       fits = subst (λ ns. All FitsLine (map name_line (map name_of ns))) (sym none) (All-nil FitsLine);
       ascend = subst (λ ns. IsStrictlySortedBy by_name (map name_of ns)) (sym none) tt;
     }

@@ -6,10 +6,10 @@ use Rattle.cw_audit_check.proofs.Orders.{no_row}
 use Rattle.cw_audit_check.proofs.Checked.{row_here, row_next, row_end}
 use Rattle.cw_audit_check.proofs.check.first_bad_row.Goals as goal
 
-pub row_fault-requires-clause-place : goal.row_fault-requires-clause-place
-row_fault-requires-clause-place c =
+pub row_fault-requires-clause-pair : goal.row_fault-requires-clause-pair
+row_fault-requires-clause-pair c =
     let n = c.loop-number.number in
-    c.requires.group.places n (get_or c.deref-row-items.result.now n no_row)
+    c.requires.group.pairs n (get_or c.deref-row-items.result.now n no_row)
     (rw (← c.deref-row-items.ensures.value) (slice_get-get_or c.deref-row-items.result.now n no_row c.loop-number-test.true))
 
 pub returns-in-Some : goal.returns-in-Some

@@ -9,11 +9,11 @@ use Rattle.cw_audit_check.proofs.looked_up.group_at.Goals as goal
 pub returns-in-Ok : goal.returns-in-Ok
 returns-in-Ok c =
     let held = c.in-Ok.ensures.position group_key (answers_always _ (λ a r. r ≡ group_key a.0.now) _ (λ f a r q k. search rules)) in
-    ap (option_map group_of) (found group_total group_key (c.args.function, c.args.entered) c.args.groups.now c.in-Ok.place c.index-groups-place.result c.requires c.in-Ok.ensures.bound held
-    c.index-groups-place.is) ∙ group_is c.args.groups.now c.args.function c.args.entered
+    ap (option_map group_of) (found group_total group_key (c.args.function, c.args.entered) c.args.groups.now c.in-Ok.pair c.index-groups-pair.result c.requires c.in-Ok.ensures.bound held
+    c.index-groups-pair.is) ∙ group_is c.args.groups.now c.args.function c.args.entered
 
 pub returns-in-Err : goal.returns-in-Err
 returns-in-Err c =
-    let place = c.in-Err.ensures.position group_key (answers_always _ (λ a r. r ≡ group_key a.0.now) _ (λ f a r q k. search rules)) in
-    ap (option_map group_of) (lost group_total group_key (c.args.function, c.args.entered) c.args.groups.now _ c.requires place)
+    let pair = c.in-Err.ensures.position group_key (answers_always _ (λ a r. r ≡ group_key a.0.now) _ (λ f a r q k. search rules)) in
+    ap (option_map group_of) (lost group_total group_key (c.args.function, c.args.entered) c.args.groups.now _ c.requires pair)
     ∙ group_is c.args.groups.now c.args.function c.args.entered

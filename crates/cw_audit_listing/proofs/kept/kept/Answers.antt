@@ -9,8 +9,8 @@ loop-number-preserved c =
     let is = sym c.in-Some.is ∙ c.numbered.ensures.entry in
     let there = c.in-Some.ensures.row in
     elim c.if-is_below.branch [
-      | then-is_below+in_ok-push w ↦ kept_more s c.args.bound c.loop-number.number c.in-Some.place c.in-Some.row is there c.loop-number.below.items c.if-is_below.below.items
+      | then-is_below+in_ok-push w ↦ kept_more s c.args.bound c.loop-number.number c.in-Some.row_key c.in-Some.row is there c.loop-number.below.items c.if-is_below.below.items
           c.loop-number.invariant w.if-is_below.ensures (ap (λ v. v.items) w.below-is ∙ w.in_ok-push.ensures.items)
-      | else-is_below w ↦ kept_less s c.args.bound c.loop-number.number c.in-Some.place c.in-Some.row is there c.loop-number.below.items c.if-is_below.below.items c.loop-number.invariant
+      | else-is_below w ↦ kept_less s c.args.bound c.loop-number.number c.in-Some.row_key c.in-Some.row is there c.loop-number.below.items c.if-is_below.below.items c.loop-number.invariant
           w.if-is_below.ensures (ap (λ v. v.items) w.below-is)
     ]

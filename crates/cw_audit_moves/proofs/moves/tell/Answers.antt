@@ -1,7 +1,7 @@
 use Rattle.std.proofs.Common.{length, ◌∷◌, ◌++◌, sym, ap, ◌∙◌, option_map, append-nil}
 use Rattle.std.proofs.lemmas.List.{nil_from_length}
 use Rattle.cw_product.specs.Product.{game_of}
-use Rattle.cw_audit_store.specs.declared.place.Hit.{Hit}
+use Rattle.cw_audit_store.specs.declared.row_key.Hit.{Hit}
 use Rattle.cw_audit_store.specs.Finding.{found_of, ways_of, way_of, bad_way_of}
 use Rattle.cw_audit_search.specs.Ways.{unfold_way}
 use Rattle.cw_audit_moves.specs.declared.todo.Todo.TheVariants.{Reach}

@@ -6,7 +6,7 @@ use Rattle.cw_audit_moves.proofs.Steps.{step_written, row_written, reach_written
 use Rattle.cw_audit_moves.proofs.moves.write.Goals as goal
 
 pub put_way-requires : goal.put_way-requires
-put_way-requires c = row_callee (game_of c.args.game.now) (length c.args.game.now.graph.parts.items) c.args.store.now c.requires.ready c.in-Row.place c.in-Some.row c.in-Some.ensures
+put_way-requires c = row_callee (game_of c.args.game.now) (length c.args.game.now.graph.parts.items) c.args.store.now c.requires.ready c.in-Row.row_key c.in-Some.row c.in-Some.ensures
 
 pub returns-in_ok-push-in-Step : goal.returns-in_ok-push-in-Step
 returns-in_ok-push-in-Step c = λ n.
@@ -25,7 +25,7 @@ returns-in_ok-put_way-in-Row c = λ n.
     let s = found_of c.args.store.now in
     let w = ways_of c.args.store.now in
     let left = stack_of c.args.todo.now.items in
-    let at = c.in-Row.place in
+    let at = c.in-Row.row_key in
     for_next g functions s w c.requires.ready n c.args.moves.now.items c.args.moves.now.items left (stack_of c.put_way.new.todo.items) (todo_of c.args.next) _ (ap todo_of c.in-Row.is)
     (row_written g functions s w c.requires.ready n c.args.moves.now.items left (stack_of c.put_way.new.todo.items) at.entrance.function at.entrance.state.0 at.pos.0 at.state.0
     (way_of c.in-Some.row.way) (row_way c.args.store.now at c.in-Some.row c.in-Some.ensures) c.in_ok-put_way-in-Row.ensures)

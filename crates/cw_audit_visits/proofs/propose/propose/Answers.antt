@@ -1,7 +1,7 @@
 use Rattle.std.proofs.Common.{◌∙◌, sym, arith}
 use Rattle.cw_audit_visits.specs.Searching.{IsGoneOn}
 use Rattle.cw_audit_visits.proofs.Oks.{when_ok, whenever_ok, at_ok, by_truth}
-use Rattle.cw_audit_visits.proofs.Proposed.{told_row, row_gone_on, hit_gone_on, stays, reach_low}
+use Rattle.cw_audit_visits.proofs.Proposed.{noted_row, row_gone_on, hit_gone_on, stays, reach_low}
 use Rattle.cw_audit_visits.proofs.propose.propose.Goals as goal
 
 pub returns-then-bad-clause-goes_on : goal.returns-then-bad-clause-goes_on
@@ -18,9 +18,9 @@ returns-then-bad-clause-goes_on c =
 pub lower-requires-clause-reach : goal.lower-requires-clause-reach
 lower-requires-clause-reach c = reach_low c.args.game.now c.args.search.now c.args.at c.args.reach c.requires.kept c.requires.reach
 
-pub returns-clause-told : goal.returns-clause-told
-returns-clause-told c =
-    when_ok c.lower.result (λ changed e b. told_row c.args.game.now c.args.search.now c.args.at c.args.row.inside c.skipped.result.0 c.skipped.ensures.is (sym c.bad.ensures ∙ c.if-bad.false)
+pub returns-clause-noted : goal.returns-clause-noted
+returns-clause-noted c =
+    when_ok c.lower.result (λ changed e b. noted_row c.args.game.now c.args.search.now c.args.at c.args.row.inside c.skipped.result.0 c.skipped.ensures.is (sym c.bad.ensures ∙ c.if-bad.false)
     (at_ok _ c.lower.result changed e c.lower.ensures.near b))
 
 pub returns-clause-goes_on : goal.returns-clause-goes_on

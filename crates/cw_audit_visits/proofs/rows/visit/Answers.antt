@@ -11,21 +11,21 @@ is_within-requires-clause-placed c = there_placed c.args.game.now c.args.search.
 pub call_at-requires-clause-placed : goal.call_at-requires-clause-placed
 call_at-requires-clause-placed c = there_placed c.args.game.now c.args.search.now c.in-Some.met c.requires.kept c.in-Some.ensures.there
 
-pub returns-in_default-clause-told : goal.returns-in_default-clause-told
-returns-in_default-clause-told c = λ b. leads_unknown c.args.game.now c.args.search.now c.args.key c.args.number c.in_default.ensures.none
+pub returns-in_default-clause-noted : goal.returns-in_default-clause-noted
+returns-in_default-clause-noted c = λ b. leads_unknown c.args.game.now c.args.search.now c.args.key c.args.number c.in_default.ensures.none
 
-pub returns-then-is_within-clause-told : goal.returns-then-is_within-clause-told
-returns-then-is_within-clause-told c = when_ok c.steps.result (λ changed e b.
+pub returns-then-is_within-clause-noted : goal.returns-then-is_within-clause-noted
+returns-then-is_within-clause-noted c = when_ok c.steps.result (λ changed e b.
     leads_within c.args.game.now c.args.search.now c.args.key c.args.number c.in-Some.met c.in-Some.ensures.entry c.in-Some.ensures.there (sym c.is_within.ensures ∙ c.if-is_within.true)
-    (at_ok _ c.steps.result changed e c.steps.ensures.told b))
+    (at_ok _ c.steps.result changed e c.steps.ensures.noted b))
 
-pub returns-in_default-call_at-clause-told : goal.returns-in_default-call_at-clause-told
-returns-in_default-call_at-clause-told c = when_ok c.resume_all.result (λ changed e b.
+pub returns-in_default-call_at-clause-noted : goal.returns-in_default-call_at-clause-noted
+returns-in_default-call_at-clause-noted c = when_ok c.resume_all.result (λ changed e b.
     leads_end c.args.game.now c.args.search.now c.args.key c.args.number c.in-Some.met c.in-Some.ensures.entry c.in-Some.ensures.there (sym c.is_within.ensures ∙ c.if-is_within.false)
     c.in_default-call_at.ensures.none)
 
-pub returns-clause-told : goal.returns-clause-told
-returns-clause-told c = λ b.
+pub returns-clause-noted : goal.returns-clause-noted
+returns-clause-noted c = λ b.
     let n = or_parts c.in_ok-entered.entered c.in_ok-returned.returned b in
     leads_call c.args.game.now c.args.search.now c.args.key c.args.number c.in-Some.met c.in-Some.ensures.entry c.in-Some.ensures.there (sym c.is_within.ensures ∙ c.if-is_within.false)
     (record { met = c.in-Some.met; callee = c.in-Some-call_at.callee; back = c.in-Some-call_at.back }) refl c.in-Some-call_at.ensures.some (c.in_ok-entered.ensures.near n.0)

@@ -1,7 +1,7 @@
 use Rattle.std.proofs.Common.{◌∙◌, sym}
 use Rattle.cw_audit_visits.proofs.Oks.{when_ok, at_ok}
 use Rattle.cw_audit_visits.proofs.Gone.{entry_due}
-use Rattle.cw_audit_visits.proofs.Swept.{group_arrival, group_reached, no_begun, number_begun, entry_told}
+use Rattle.cw_audit_visits.proofs.Swept.{group_arrival, group_reached, no_begun, number_begun, entry_noted}
 use Rattle.cw_audit_visits.proofs.sweep.begin_again.Goals as goal
 
 pub entry-requires : goal.entry-requires
@@ -27,5 +27,5 @@ returns-in_default-clause-begun c = λ b. no_begun c.args.game.now c.args.search
 pub returns-clause-begun : goal.returns-clause-begun
 returns-clause-begun c = when_ok c.propose.result (λ changed e b.
     number_begun c.args.game.now c.args.search.now c.args.number c.in-Some.entrance c.in-Some.entered (sym c.in-Some.is ∙ c.numbered_group.ensures.entry)
-    (entry_told c.args.game.now c.args.search.now c.in-Some.entrance c.in-Some.entered c.entry.result c.entry.ensures.is c.in-Some.ensures.group
-    (at_ok _ c.propose.result changed e c.propose.ensures.told b)))
+    (entry_noted c.args.game.now c.args.search.now c.in-Some.entrance c.in-Some.entered c.entry.result c.entry.ensures.is c.in-Some.ensures.group
+    (at_ok _ c.propose.result changed e c.propose.ensures.noted b)))

@@ -16,8 +16,8 @@ return_each-requires-clause-there c = there_same c.args.search.now c.call.new.se
 pub returns-clause-visited : goal.returns-clause-visited
 returns-clause-visited c = when_ok c.return_each.result (λ changed e b.
     visited_call c.args.game.now c.args.search.now c.args.calling c.requires.there c.requires.call c.requires.begun (c.in_ok-call.ensures.near cc)
-    (λ y. returns_same c.args.game.now c.args.search.now c.call.new.search c.args.calling.met.place c.args.calling.callee c.args.calling.back.0 y (c.in_ok-call.ensures.tells.same cc).0
-    (at_ok _ c.return_each.result changed e c.return_each.ensures.told b y)))
+    (λ y. returns_same c.args.game.now c.args.search.now c.call.new.search c.args.calling.met.row_key c.args.calling.callee c.args.calling.back.0 y (c.in_ok-call.ensures.tells.same cc).0
+    (at_ok _ c.return_each.result changed e c.return_each.ensures.noted b y)))
 
 pub returns-clause-goes_on : goal.returns-clause-goes_on
 returns-clause-goes_on c =

@@ -12,9 +12,9 @@ call_at-requires-clause-placed c = there_placed c.args.game.now c.args.search.no
 
 pub returns-then-is_within-clause-visited : goal.returns-then-is_within-clause-visited
 returns-then-is_within-clause-visited c =
-    when_ok c.steps.result (λ changed e b. visited_inner c.args.game.now c.args.search.now c.args.met.place c.args.met.row c.requires.there.row (sym c.is_within.ensures ∙ c.if-is_within.true)
-    (at_ok _ c.steps.result changed e c.steps.ensures.told b))
+    when_ok c.steps.result (λ changed e b. visited_inner c.args.game.now c.args.search.now c.args.met.row_key c.args.met.row c.requires.there.row (sym c.is_within.ensures ∙ c.if-is_within.true)
+    (at_ok _ c.steps.result changed e c.steps.ensures.noted b))
 
 pub returns-in_default-clause-visited : goal.returns-in_default-clause-visited
 returns-in_default-clause-visited c = λ b.
-    visited_neither c.args.game.now c.args.search.now c.args.met.place (sym c.is_within.ensures ∙ c.if-is_within.false) c.in_default.ensures.none
+    visited_neither c.args.game.now c.args.search.now c.args.met.row_key (sym c.is_within.ensures ∙ c.if-is_within.false) c.in_default.ensures.none

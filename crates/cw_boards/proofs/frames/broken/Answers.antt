@@ -4,12 +4,12 @@ use Rattle.cw_boards.specs.Held.{item_of}
 use Rattle.cw_boards.proofs.Dropped.{broken_other, none_left}
 use Rattle.cw_boards.proofs.frames.broken.Goals as goal
 
-pub returns-in-Mark : goal.returns-in-Mark
-returns-in-Mark c = λ s. sym (ap (λ l. broken (map (item_of s) l)) (c.in-Some.ensures.items ∙ ap (λ i. i ∷ c.pop_front.new.self.items) c.in-Mark.is)) ∙ c.loop-item.invariant s
+pub returns-in-LoopEnd : goal.returns-in-LoopEnd
+returns-in-LoopEnd c = λ s. sym (ap (λ l. broken (map (item_of s) l)) (c.in-Some.ensures.items ∙ ap (λ i. i ∷ c.pop_front.new.self.items) c.in-LoopEnd.is)) ∙ c.loop-item.invariant s
 
 pub loop-item-preserved : goal.loop-item-preserved
 loop-item-preserved c = λ s.
-    sym (broken_other s c.in-Some.item (map (item_of s) c.pop_front.new.self.items) c.in_default-item.not-Mark)
+    sym (broken_other s c.in-Some.item (map (item_of s) c.pop_front.new.self.items) c.in_default-item.not-LoopEnd)
     ∙ sym (ap (λ l. broken (map (item_of s) l)) c.in-Some.ensures.items) ∙ c.loop-item.invariant s
 
 pub returns : goal.returns

@@ -3,7 +3,7 @@ use Rattle.std.specs.Prelude.{option_map, is_some}
 use Rattle.cw_syntax.specs.declared.program.Head.{Head, out-Head}
 use Rattle.cw_syntax.specs.declared.program.Stmt.{Stmt}
 use Rattle.cw_syntax.specs.Plans.{numbered, numbered_all}
-use Rattle.cw_syntax.specs.Frames.{Test, Mark, items_of, init_if}
+use Rattle.cw_syntax.specs.Frames.{Test, LoopEnd, items_of, init_if}
 use Rattle.cw_resolve.specs.Scenes.{stm_in, stms_in}
 use Rattle.cw_boards.specs.Held.{frame_in}
 use Rattle.cw_resolve.proofs.Shapes.{block_steps}
@@ -27,7 +27,7 @@ returns-in_ok-for_loop-in-For c =
     a_for s st c.in-For.head c.in-For.body c.args.seam rest c.in_ok-for_loop-in-For.field-0 c.in-For.is
     (c.in_ok-for_loop-in-For.ensures s
     ∙ ap₂ (λ (h : Head) (b : Stmt). init_if (option_map (λ (i : Stmt). i.from) (out-Head h).init) (Test st.from (is_some (out-Head h).test) (is_some (out-Head h).step)
-    (numbered (stm_in s b) c.args.seam) ∷ (Mark ∷ rest))) c.deref-in-For.ensures c.deref-in-For-2.ensures)
+    (numbered (stm_in s b) c.args.seam) ∷ (LoopEnd ∷ rest))) c.deref-in-For.ensures c.deref-in-For-2.ensures)
 
 pub put_all-requires : goal.put_all-requires
 put_all-requires c =

@@ -8,5 +8,5 @@ abbrev pub invariant-find_callees_of_all-loop-statement : goal.invariant-find_ca
 invariant-find_callees_of_all-loop-statement l = record {
   rest : with_all l.found.numbers.items (callees_all (stms_in l.scene (drop l.statement-index l.statements))) ≡ with_all l.initial.found.numbers.items (callees_all (stms_in l.scene l.statements));
   sound : IsFound l.found;
-  wide : length l.found.marks.items ≡ length l.initial.found.marks.items;
+  wide : length l.found.flags.items ≡ length l.initial.found.flags.items;
 }

@@ -12,7 +12,7 @@ returns c =
     let body = callees_all (stms_in s c.deref.result.now) in
     let new = c.find_callees_of_all.new.found in
     let f : Finds body c.in_ok-found.found new = c.in_ok-find_callees_of_all.ensures in
-    let wide : length new.marks.items ≡ length c.args.scene.now.functions = search rules in (
+    let wide : length new.flags.items ≡ length c.args.scene.now.functions = search rules in (
       f.numbers ∙ ap (λ l. with_all l body) c.in_ok-found.ensures.0 ∙ firsts_from body ∙ ap (λ (l : List Stmt). firsts (callees_all (stms_in s l))) c.deref.ensures.value,
       λ g h. subst (λ n. g < n) wide (found_below new f.sound g h),
     )

@@ -8,5 +8,5 @@ find-requires-clause-within c =
     let numbers = c.args.numbers.now in
     let i = c.loop-number.number-index in
     let lt : i < length numbers = c.loop-number-test.true in
-    let below = below_at (length c.args.found.now.marks.items) numbers i (get_or numbers i 0) c.requires.within lt (get_or_default numbers i 0 (get_or numbers i 0) lt) in
+    let below = below_at (length c.args.found.now.flags.items) numbers i (get_or numbers i 0) c.requires.within lt (get_or_default numbers i 0 (get_or numbers i 0) lt) in
     omega (arith, below, c.loop-number.invariant.wide)

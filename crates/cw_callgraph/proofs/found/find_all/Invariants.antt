@@ -6,5 +6,5 @@ abbrev pub invariant-loop-number : goal.invariant-loop-number
 invariant-loop-number l = record {
   rest : with_all l.found.numbers.items (drop l.number-index l.numbers) ≡ with_all l.initial.found.numbers.items l.numbers;
   sound : IsFound l.found;
-  wide : length l.found.marks.items ≡ length l.initial.found.marks.items;
+  wide : length l.found.flags.items ≡ length l.initial.found.flags.items;
 }

@@ -19,7 +19,7 @@ pub row-requires-in-walk-clause-within : goal.row-requires-in-walk-clause-within
 row-requires-in-walk-clause-within c =
     let found = c.walk.found in
     let lt : c.walk.at < length found.numbers.items = search rules in
-    let below = below_at (length found.marks.items) found.numbers.items c.walk.at c.index-next.result.now (found_below found c.walk.invariant.sound) lt c.index-next.ensures in
+    let below = below_at (length found.flags.items) found.numbers.items c.walk.at c.index-next.result.now (found_below found c.walk.invariant.sound) lt c.index-next.ensures in
     omega (arith, below, c.walk.invariant.wide)
 
 pub walk-smaller : goal.walk-smaller

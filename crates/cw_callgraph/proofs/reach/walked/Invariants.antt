@@ -6,7 +6,7 @@ abbrev pub invariant-walk : goal.invariant-walk
 invariant-walk l = record {
   walked : IsWalked (next_in l.calls.rows.items) l.function l.found.numbers.items l.at;
   sound : IsFound l.found;
-  wide : length l.found.marks.items ≡ length l.calls.rows.items;
+  wide : length l.found.flags.items ≡ length l.calls.rows.items;
 }
 
 abbrev pub decreases-walk : goal.decreases-walk

@@ -1,7 +1,7 @@
 use Rattle.std.proofs.Common.{sym, ap, ◌∙◌}
 use Rattle.std.specs.Prelude.{option_map}
 use Rattle.std.proofs.lemmas.Option.{none-some}
-use Rattle.cw_commands.specs.Words.{wish_of}
+use Rattle.cw_commands.specs.Arguments.{wish_of}
 use Rattle.cw_commands.proofs.Starting.{ends_line, noted_is}
 use Rattle.cw_cli.proofs.Dues.{wished}
 use Rattle.cw_cli.proofs.Wanting.{is_memory}

@@ -3,5 +3,5 @@ use Rattle.clap.specs.Words.{app_of}
 use Rattle.cw_commands.specs.Lines.{line_app}
 use Rattle.cw_commands.proofs.line.line_of.Given as goal
 
-abbrev pub invariant-loop-place : goal.invariant-loop-place
-invariant-loop-place l = app_of l.line ≡ line_app (map (λ place. place.now) (take l.place-index l.places))
+abbrev pub invariant-loop-operand : goal.invariant-loop-operand
+invariant-loop-operand l = app_of l.line ≡ line_app (map (λ operand. operand.now) (take l.operand-index l.operands))

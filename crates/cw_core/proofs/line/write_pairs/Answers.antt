@@ -1,5 +1,5 @@
 use Rattle.std.proofs.Common.{arith, ◌∙◌, ◌-◌, ◌+◌, ap, length, take}
-use Rattle.cw_core.proofs.Digits.{PAIRS_at, kept, take_two, pair_put, take_word, word_kept, word_put, length-lowest_glyphs, none_left}
+use Rattle.cw_core.proofs.Digits.{PAIRS_at, kept, take_two, pair_put, take_limb, limb_kept, limb_put, length-lowest_glyphs, none_left}
 use Rattle.cw_core.proofs.line.write_pairs.Goals as goal
 
 pub pairs-preserved : goal.pairs-preserved
@@ -17,8 +17,8 @@ pairs-preserved c =
           (take_two c.pairs.text c.pairs.at _ _ (omega (arith, sum, room, some))) c.pairs.invariant.text;
     }
 
-pub words-init : goal.words-init
-words-init c =
+pub limbs-init : goal.limbs-init
+limbs-init c =
     let so_far = c.pairs.invariant in
     record {
       end = so_far.end;
@@ -28,26 +28,26 @@ words-init c =
       text = so_far.text;
     }
 
-pub words-preserved : goal.words-preserved
-words-preserved c =
-    let some = c.words-test.true in
-    let place = c.words.left - 8 in
-    let sum = c.words.invariant.end in
-    let room = c.words.invariant.room in
-    let even = c.words.invariant.whole in
-    let digits = c.write_word.ensures.digits in
-    let long = ap length digits ∙ length-lowest_glyphs 16 c.word.result in
+pub limbs-preserved : goal.limbs-preserved
+limbs-preserved c =
+    let some = c.limbs-test.true in
+    let place = c.limbs.left - 8 in
+    let sum = c.limbs.invariant.end in
+    let room = c.limbs.invariant.room in
+    let even = c.limbs.invariant.whole in
+    let digits = c.write_limb.ensures.digits in
+    let long = ap length digits ∙ length-lowest_glyphs 16 c.limb.result in
     record {
       end = omega (arith, sum, some, even);
       whole = omega (arith, some, even);
-      small = omega (arith, c.words.invariant.small);
-      room = word_kept c.words.text c.write_word.new.text c.words.at _ _ long (omega arith) (omega (arith, sum, some, even, room)) room;
-      text = word_put (take c.words.at c.words.text) _ _ _ c.args.set.now c.words.left place c.word.result (omega (arith, some, even)) (omega (arith, some, even)) c.word.ensures.value digits
-          (take_word c.words.text _ _ c.words.at (omega (arith, sum, room)) long) c.words.invariant.text;
+      small = omega (arith, c.limbs.invariant.small);
+      room = limb_kept c.limbs.text c.write_limb.new.text c.limbs.at _ _ long (omega arith) (omega (arith, sum, some, even, room)) room;
+      text = limb_put (take c.limbs.at c.limbs.text) _ _ _ c.args.set.now c.limbs.left place c.limb.result (omega (arith, some, even)) (omega (arith, some, even)) c.limb.ensures.value digits
+          (take_limb c.limbs.text _ _ c.limbs.at (omega (arith, sum, room)) long) c.limbs.invariant.text;
     }
 
 pub returns-clause-text : goal.returns-clause-text
-returns-clause-text c = none_left _ _ c.args.set.now c.words.left (omega (arith, c.words-test.false)) c.words.invariant.text
+returns-clause-text c = none_left _ _ c.args.set.now c.limbs.left (omega (arith, c.limbs-test.false)) c.limbs.invariant.text
 
 pub returns-clause-end : goal.returns-clause-end
-returns-clause-end c = omega (arith, c.words-test.false, c.words.invariant.end)
+returns-clause-end c = omega (arith, c.limbs-test.false, c.limbs.invariant.end)

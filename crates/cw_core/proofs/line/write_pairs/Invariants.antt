@@ -11,8 +11,8 @@ invariant-pairs l = record {
   text : take l.at l.text ++ map digit_char (lowest_digits (2 * l.left) l.set) ≡ take l.from l.fn.text ++ map digit_char (lowest_digits (2 * l.count) l.set);
 }
 
-abbrev pub invariant-words : goal.invariant-words
-invariant-words l = record {
+abbrev pub invariant-limbs : goal.invariant-limbs
+invariant-limbs l = record {
   end : l.at + 2 * l.left ≡ l.from + 2 * l.count;
   whole : l.left % 8 ≡ 0;
   small : l.left ≤ 128;
@@ -23,5 +23,5 @@ invariant-words l = record {
 abbrev pub decreases-pairs : goal.decreases-pairs
 decreases-pairs l = l.left
 
-abbrev pub decreases-words : goal.decreases-words
-decreases-words l = l.left
+abbrev pub decreases-limbs : goal.decreases-limbs
+decreases-limbs l = l.left

@@ -1,6 +1,6 @@
 use Rattle.std.proofs.Common.{refl, arith}
 use Rattle.std.proofs.lemmas.Option.{none-some}
-use Rattle.cw_core.proofs.Readings.{reads_first, reads_run, reads_last, reads_mark, reads_next, three_parts, has_more-same}
+use Rattle.cw_core.proofs.Readings.{reads_first, reads_run, reads_last, reads_prefix, reads_next, three_parts, has_more-same}
 use Rattle.cw_core.proofs.reading_ranges.set_of_runs.Goals as goal
 
 pub runs-init : goal.runs-init
@@ -29,7 +29,7 @@ returns-then-text-end-ne43 c = record {
   found = λ target below some e.
       let p = reads_run c.args.text.now target c.runs.set c.runs.at _ (c.runs.invariant.reads target below some e) c.in_ok-least.ensures.found in
       let parts = three_parts _ _ _ _ _ _ p.1 in
-      absurd (c.if-text-end-ne43.true (reads_mark c.args.text.now target c.runs.set c.runs.at c.in_ok-least.end p.0 parts.2 (omega (arith, c.in_ok-least.ensures.within.3, c.if-end-text.false))));
+      absurd (c.if-text-end-ne43.true (reads_prefix c.args.text.now target c.runs.set c.runs.at c.in_ok-least.end p.0 parts.2 (omega (arith, c.in_ok-least.ensures.within.3, c.if-end-text.false))));
 }
 
 pub runs-preserved : goal.runs-preserved

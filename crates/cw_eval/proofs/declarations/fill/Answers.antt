@@ -3,7 +3,7 @@ use Rattle.std.proofs.lemmas.Result.{err_from_is_err_and}
 use Rattle.cw_syntax.specs.declared.program.Expr.{Expr}
 use Rattle.cw_syntax.specs.Trees.{tree_of, trees_of}
 use Rattle.cw_value.specs.Declarations.{filled}
-use Rattle.cw_slots.specs.Shown.{place_in, scope_of}
+use Rattle.cw_slots.specs.Shown.{location_in, scope_of}
 use Rattle.cw_eval.specs.Parts.{listed_at}
 use Rattle.cw_eval.specs.Shown.{memory_of}
 use Rattle.cw_eval.proofs.Each.{halts_too}
@@ -14,7 +14,7 @@ use Rattle.cw_eval.proofs.declarations.fill.Goals as goal
 pub returns-in_err-fill_one : goal.returns-in_err-fill_one
 returns-in_err-fill_one c =
     let s = scope_of c.args.scope.now in
-    let p = place_in c.args.place in
+    let p = location_in c.args.location in
     let one = λ (i : ℕ) (e : Expr). listed_at s p c.args.size i (tree_of e) in
     let xs = c.args.init.now in
     let x = c.index-init-i.result in
@@ -30,7 +30,7 @@ returns-in_err-fill_one c =
 pub returns : goal.returns
 returns c =
     let s = scope_of c.args.scope.now in
-    let p = place_in c.args.place in
+    let p = location_in c.args.location in
     let one = λ (i : ℕ) (e : Expr). listed_at s p c.args.size i (tree_of e) in
     filled_along s p c.args.size 0 c.args.init.now (memory_of c.args.m.now)
     ∙ sym c.loop-i.invariant

@@ -1,6 +1,6 @@
 use Rattle.std.proofs.Common.{◌≡◌, ◌-◌, suc, true, false, length, arith, sym, refl, ◌∙◌}
 use Rattle.std.proofs.lemmas.Result.{err_from_is_err_and}
-use Rattle.cw_grammar.specs.declared.words.Word.TheVariants as w
+use Rattle.cw_grammar.specs.declared.terminals.Terminal.TheVariants as w
 use Rattle.cw_expressions.specs.Cursor.{begins}
 use Rattle.cw_expressions.specs.Reading.{rest_of, rest_of_arguments, goes_on_at, is_suffixed, argument, suffixed, joined, operand, chain, read_at}
 use Rattle.cw_expressions.specs.View.{got, got_arguments}

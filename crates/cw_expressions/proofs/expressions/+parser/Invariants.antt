@@ -1,5 +1,5 @@
 use Rattle.std.proofs.Common.{◌≡◌, ◌+◌, ◌-◌, ◌*◌, ◌≤◌, suc, length}
-use Rattle.cw_grammar.specs.declared.words.Word.TheVariants as w
+use Rattle.cw_grammar.specs.declared.terminals.Terminal.TheVariants as w
 use Rattle.cw_expressions.specs.Cursor.{begins, repeat}
 use Rattle.cw_expressions.specs.Reading.{rest_of, rest_of_arguments, is_suffixed, argument, suffixed, chain, read_at}
 use Rattle.cw_expressions.specs.View.{got, got_arguments}

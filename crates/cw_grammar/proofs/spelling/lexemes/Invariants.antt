@@ -5,7 +5,7 @@ use Rattle.cw_grammar.proofs.spelling.lexemes.Given as goal
 
 abbrev pub invariant-tokens : goal.invariant-tokens
 invariant-tokens l = record {
-  words : l.list.items ≡ lexemes_of l.source (take l.token-index l.tokens);
+  terminals : l.list.items ≡ lexemes_of l.source (take l.token-index l.tokens);
   many : vec_len l.list ≡ l.token-index;
   room : length l.tokens ≤ vec_capacity l.list;
 }

@@ -8,13 +8,13 @@ use Rattle.cw_lazy_table.specs.Kinds as kind
 use Rattle.cw_lazy_table.specs.Lazy.{IsIntoRow}
 use Rattle.cw_lazy_table.specs.Numbered.{set_at, whole_memory}
 use Rattle.cw_lazy_table.specs.Rowing.{into_row}
-use Rattle.cw_lazy_table.proofs.Keeps.{place_can, calls_are}
+use Rattle.cw_lazy_table.proofs.Keeps.{seam_key_can, calls_are}
 use Rattle.cw_lazy_table.proofs.table.calls.Goals as goal
 use Rattle.cw_lemmas.proofs.Options.{if_ok}
 
 pub into_rows-requires-clause-can : goal.into_rows-requires-clause-can
 into_rows-requires-clause-can c =
-    place_can c.args.game.now c.args.promises.now c.args.keys.now c.requires.live kind.Call c.args.calls.now
+    seam_key_can c.args.game.now c.args.promises.now c.args.keys.now c.requires.live kind.Call c.args.calls.now
     c.requires.calls c.args.solved.now c.requires.ready
 
 pub returns : goal.returns

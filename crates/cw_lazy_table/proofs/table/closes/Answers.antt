@@ -8,13 +8,13 @@ use Rattle.cw_lazy_table.specs.Kinds as kind
 use Rattle.cw_lazy_table.specs.Lazy.{IsCloseRow}
 use Rattle.cw_lazy_table.specs.Numbered.{whole_memory}
 use Rattle.cw_lazy_table.specs.Rowing.{at_row}
-use Rattle.cw_lazy_table.proofs.Keeps.{place_range, closes_are}
+use Rattle.cw_lazy_table.proofs.Keeps.{seam_key_range, closes_are}
 use Rattle.cw_lazy_table.proofs.table.closes.Goals as goal
 use Rattle.cw_lemmas.proofs.Options.{if_ok}
 
 pub at_rows-requires-clause-there : goal.at_rows-requires-clause-there
 at_rows-requires-clause-there c =
-    place_range c.args.game.now c.args.promises.now c.args.keys.now c.requires.live kind.Close c.args.closes.now
+    seam_key_range c.args.game.now c.args.promises.now c.args.keys.now c.requires.live kind.Close c.args.closes.now
     c.requires.closes
 
 pub returns : goal.returns

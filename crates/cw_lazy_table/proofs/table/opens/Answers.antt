@@ -8,13 +8,13 @@ use Rattle.cw_lazy_table.specs.Kinds as kind
 use Rattle.cw_lazy_table.specs.Lazy.{IsOpenRow}
 use Rattle.cw_lazy_table.specs.Numbered.{whole_memory}
 use Rattle.cw_lazy_table.specs.Rowing.{open_row}
-use Rattle.cw_lazy_table.proofs.Keeps.{place_range, opens_are}
+use Rattle.cw_lazy_table.proofs.Keeps.{seam_key_range, opens_are}
 use Rattle.cw_lazy_table.proofs.table.opens.Goals as goal
 use Rattle.cw_lemmas.proofs.Options.{if_ok}
 
 pub open_rows-requires-clause-there : goal.open_rows-requires-clause-there
 open_rows-requires-clause-there c =
-    place_range c.args.game.now c.args.promises.now c.args.keys.now c.requires.live kind.Open c.args.opens.now
+    seam_key_range c.args.game.now c.args.promises.now c.args.keys.now c.requires.live kind.Open c.args.opens.now
     c.requires.opens
 
 pub returns : goal.returns

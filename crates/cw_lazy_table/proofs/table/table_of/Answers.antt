@@ -4,11 +4,11 @@ use Rattle.cw_certs.specs.Tables.{Table}
 use Rattle.cw_game.specs.Pairs.{all_states}
 use Rattle.cw_product.specs.Product.{game_of}
 use Rattle.cw_lazy_table.specs.declared.key.Key.{Key}
-use Rattle.cw_lazy_table.specs.declared.place.Placed.{Placed}
+use Rattle.cw_lazy_table.specs.declared.seam_key.SeamKey.{SeamKey}
 use Rattle.cw_lazy_table.specs.Kinds as kind
 use Rattle.cw_lazy_table.specs.Lazy.{Means, IsLazyTable}
 use Rattle.cw_lazy_table.specs.Numbered.{whole_memory}
-use Rattle.cw_lazy_table.specs.Places.{AreOfKind}
+use Rattle.cw_lazy_table.specs.SeamKeys.{AreOfKind}
 use Rattle.cw_lazy_table.proofs.Keeps.{position, mems_of, start_means, live_are}
 use Rattle.cw_lazy_table.proofs.Tabled.{lazy_of, lazy_ascends}
 use Rattle.cw_lazy_table.proofs.table.table_of.Goals as goal
@@ -104,25 +104,25 @@ whole_memories-requires c = record {
 pub start_key-start-requires-clause-promises : goal.start_key-start-requires-clause-promises
 start_key-start-requires-clause-promises c = c.requires.live.promises
 
-pub places-requires : goal.places-requires
-places-requires c = position c.args.game.now c.args.promises.now c.args.keys.now c.requires.live
+pub seam_keys-requires : goal.seam_keys-requires
+seam_keys-requires c = position c.args.game.now c.args.promises.now c.args.keys.now c.requires.live
 
 pub tries-requires-clause-asked : goal.tries-requires-clause-asked
 tries-requires-clause-asked c =
-    subst (λ (l : List Placed). AreOfKind (game_of c.args.game.now) kind.Asked c.args.keys.now l) (sym c.deref-2.ensures.value) c.in_ok-places.ensures.asked
+    subst (λ (l : List SeamKey). AreOfKind (game_of c.args.game.now) kind.Asked c.args.keys.now l) (sym c.deref-2.ensures.value) c.in_ok-seam_keys.ensures.asked
 
 pub labels-requires-clause-labels : goal.labels-requires-clause-labels
 labels-requires-clause-labels c =
-    subst (λ (l : List Placed). AreOfKind (game_of c.args.game.now) kind.Label c.args.keys.now l) (sym c.deref-3.ensures.value) c.in_ok-places.ensures.labels
+    subst (λ (l : List SeamKey). AreOfKind (game_of c.args.game.now) kind.Label c.args.keys.now l) (sym c.deref-3.ensures.value) c.in_ok-seam_keys.ensures.labels
 
 pub opens-requires-clause-opens : goal.opens-requires-clause-opens
 opens-requires-clause-opens c =
-    subst (λ (l : List Placed). AreOfKind (game_of c.args.game.now) kind.Open c.args.keys.now l) (sym c.deref-4.ensures.value) c.in_ok-places.ensures.opens
+    subst (λ (l : List SeamKey). AreOfKind (game_of c.args.game.now) kind.Open c.args.keys.now l) (sym c.deref-4.ensures.value) c.in_ok-seam_keys.ensures.opens
 
 pub closes-requires-clause-closes : goal.closes-requires-clause-closes
 closes-requires-clause-closes c =
-    subst (λ (l : List Placed). AreOfKind (game_of c.args.game.now) kind.Close c.args.keys.now l) (sym c.deref-5.ensures.value) c.in_ok-places.ensures.closes
+    subst (λ (l : List SeamKey). AreOfKind (game_of c.args.game.now) kind.Close c.args.keys.now l) (sym c.deref-5.ensures.value) c.in_ok-seam_keys.ensures.closes
 
 pub calls-requires-clause-calls : goal.calls-requires-clause-calls
 calls-requires-clause-calls c =
-    subst (λ (l : List Placed). AreOfKind (game_of c.args.game.now) kind.Call c.args.keys.now l) (sym c.deref-6.ensures.value) c.in_ok-places.ensures.calls
+    subst (λ (l : List SeamKey). AreOfKind (game_of c.args.game.now) kind.Call c.args.keys.now l) (sym c.deref-6.ensures.value) c.in_ok-seam_keys.ensures.calls

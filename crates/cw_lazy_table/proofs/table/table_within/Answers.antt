@@ -6,7 +6,7 @@ use Rattle.cw_product.specs.Product.{game_of}
 use Rattle.cw_lazy_table.specs.declared.key.Key.{Key}
 use Rattle.cw_lazy_table.specs.Lazy.{table_rows}
 use Rattle.cw_lazy_table.specs.Numbered.{numbered, ArePromises}
-use Rattle.cw_lazy_table.specs.Places.{key_cmp}
+use Rattle.cw_lazy_table.specs.SeamKeys.{key_cmp}
 use Rattle.cw_lazy_table.proofs.Counting.{many_members}
 use Rattle.cw_lazy_table.proofs.Numbering.{start_take, are_numbered, are_paired, more_whole}
 use Rattle.cw_lazy_table.proofs.Sameness.{lazy_is_one}

@@ -8,13 +8,13 @@ use Rattle.cw_lazy_table.specs.Kinds as kind
 use Rattle.cw_lazy_table.specs.Lazy.{IsTryRow}
 use Rattle.cw_lazy_table.specs.Numbered.{lost_by, whole_memory}
 use Rattle.cw_lazy_table.specs.Rowing.{try_row}
-use Rattle.cw_lazy_table.proofs.Keeps.{place_can, tries_are}
+use Rattle.cw_lazy_table.proofs.Keeps.{seam_key_can, tries_are}
 use Rattle.cw_lazy_table.proofs.table.tries.Goals as goal
 use Rattle.cw_lemmas.proofs.Options.{if_ok}
 
 pub try_rows-requires-clause-can : goal.try_rows-requires-clause-can
 try_rows-requires-clause-can c =
-    place_can c.args.game.now c.args.promises.now c.args.keys.now c.requires.live kind.Asked c.args.asked.now
+    seam_key_can c.args.game.now c.args.promises.now c.args.keys.now c.requires.live kind.Asked c.args.asked.now
     c.requires.asked c.args.solved.now c.requires.ready
 
 pub returns : goal.returns

@@ -6,7 +6,7 @@ use Rattle.cw_solve.proofs.Tabling.{same_tabled}
 use Rattle.cw_linked.specs.Added.{Each, FreesLinks, HasNoHeights, AsksCells}
 use Rattle.cw_linked.specs.Works.{known_of}
 use Rattle.cw_linked.proofs.Alike.{alike}
-use Rattle.cw_linked.proofs.Joining.{is_pushed_known, is_pushed_long, is_pushed_marked, pushed_there, is_freed_known, is_freed_long, is_freed_high, is_freed_right, is_freed_fresh, freed_there, joined}
+use Rattle.cw_linked.proofs.Joining.{is_pushed_known, is_pushed_long, is_pushed_flagged, pushed_there, is_freed_known, is_freed_long, is_freed_high, is_freed_right, is_freed_fresh, freed_there, joined}
 use Rattle.cw_linked.proofs.Takings.{few_number}
 use Rattle.cw_linked.proofs.added.add.Goals as goal
 
@@ -35,7 +35,7 @@ free_all-requires c =
       known = is_pushed_known g functions c.requires.routed (alike c.args.game.now) w pushed c.args.context c.requires.kept c.requires.contexts c.in_ok-enlarge.ensures;
       tabled = c.numbered-at.ensures.there;
       long = is_pushed_long g functions c.requires.routed (alike c.args.game.now) w pushed c.args.context c.requires.kept c.requires.contexts c.in_ok-enlarge.ensures;
-      marked = is_pushed_marked g functions c.requires.routed (alike c.args.game.now) w pushed c.args.context c.requires.kept c.requires.contexts c.in_ok-enlarge.ensures;
+      flagged = is_pushed_flagged g functions c.requires.routed (alike c.args.game.now) w pushed c.args.context c.requires.kept c.requires.contexts c.in_ok-enlarge.ensures;
     }
 
 pub ask_all-requires : goal.ask_all-requires

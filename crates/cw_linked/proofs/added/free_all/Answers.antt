@@ -6,7 +6,7 @@ use Rattle.cw_linked.specs.Added.{AllOf, Before, Each}
 use Rattle.cw_linked.specs.Works.{Known, IsKnown}
 use Rattle.cw_linked.proofs.Askings.{one_more_position}
 use Rattle.cw_linked.proofs.Freeing.{frees_nothing, frees_more, frees_these, frees_long}
-use Rattle.cw_linked.proofs.Staying.{marked_on}
+use Rattle.cw_linked.proofs.Staying.{flagged_on}
 use Rattle.cw_linked.proofs.added.free_all.Goals as goal
 
 pub entry-p-requires : goal.entry-p-requires
@@ -49,7 +49,7 @@ free_links-requires c =
         ),
       );
       long = frees_long g at.number at.context c.args.work.now c.loop-p.work (Before c.loop-p.p) inv c.requires.long;
-      marked = marked_on g c.args.work.now c.loop-p.work (ap (λ (t : Known). t.blocks.contexts.items) inv.others.known) inv.others.marks c.requires.marked;
+      flagged = flagged_on g c.args.work.now c.loop-p.work (ap (λ (t : Known). t.blocks.contexts.items) inv.others.known) inv.others.flags c.requires.flagged;
     }
 
 pub loop-p-preserved : goal.loop-p-preserved

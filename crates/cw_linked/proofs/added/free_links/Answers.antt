@@ -9,7 +9,7 @@ use Rattle.cw_linked.specs.Works.{Known, IsKnown}
 use Rattle.cw_linked.proofs.Askings.{one_more_state}
 use Rattle.cw_linked.proofs.Freeing.{frees_nothing, frees_more, frees_these, frees_long}
 use Rattle.cw_linked.proofs.Passing.{frees_position}
-use Rattle.cw_linked.proofs.Staying.{marked_on}
+use Rattle.cw_linked.proofs.Staying.{flagged_on}
 use Rattle.cw_linked.proofs.Taking.{is_a_call}
 use Rattle.cw_linked.proofs.added.free_links.Goals as goal
 
@@ -45,7 +45,7 @@ free_link-requires c =
         state = omega (arith, c.loop-x-test.true, c.states-x-end.ensures);
       };
       long = frees_long (game_of c.args.game.now) at.number at.context c.args.work.now c.loop-x.work (FirstOf c.args.pos.0 c.loop-x.x) inv c.requires.long;
-      marked = marked_on (game_of c.args.game.now) c.args.work.now c.loop-x.work (ap (λ (t : Known). t.blocks.contexts.items) inv.others.known) inv.others.marks c.requires.marked;
+      flagged = flagged_on (game_of c.args.game.now) c.args.work.now c.loop-x.work (ap (λ (t : Known). t.blocks.contexts.items) inv.others.known) inv.others.flags c.requires.flagged;
     }
 
 pub loop-x-preserved : goal.loop-x-preserved

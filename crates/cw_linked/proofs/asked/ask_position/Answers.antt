@@ -40,8 +40,8 @@ loop-x-init c =
     let at = c.args.at.now in
     asks_nothing g w c.requires.long c.requires.high c.requires.right at.number at.context (FirstOf c.args.pos.0 0) (λ p q is e. absurd (omega (arith, e.1)))
 
-pub ask_told-requires : goal.ask_told-requires
-ask_told-requires c =
+pub ask_implied-requires : goal.ask_implied-requires
+ask_implied-requires c =
     let g = game_of c.args.game.now in
     let functions = length c.args.game.now.graph.parts.items in
     let at = c.args.at.now in
@@ -65,12 +65,12 @@ loop-x-preserved c =
     let g = game_of c.args.game.now in
     let at = c.args.at.now in
     let mid = c.loop-x.work in
-    let new = c.ask_told.new.work in
+    let new = c.ask_implied.new.work in
     let p = c.args.pos.0 in
     let x = c.loop-x.x in
-    let told = c.in_ok-ask_told.ensures in
+    let implied = c.in_ok-ask_implied.ensures in
     asks_more g c.args.work.now mid new at.number at.context (FirstOf p x) (ThePair p x) (FirstOf p (x + 1)) c.loop-x.invariant
-    (asks_one g mid new at.number at.context p x told.step told.closed told.due) (λ r y is. one_more_state p x r y)
+    (asks_one g mid new at.number at.context p x implied.step implied.closed implied.due) (λ r y is. one_more_state p x r y)
 
 pub returns : goal.returns
 returns c =

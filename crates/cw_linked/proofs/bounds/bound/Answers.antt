@@ -5,7 +5,7 @@ use Rattle.cw_game.specs.Pairs.{has}
 use Rattle.cw_product.specs.Product.{game_of}
 use Rattle.cw_solve.proofs.Calling.{cell_within}
 use Rattle.cw_solve.proofs.Moves.{by_moves}
-use Rattle.cw_linked.specs.Founds.{told}
+use Rattle.cw_linked.specs.Founds.{implied}
 use Rattle.cw_linked.specs.Works.{known_of, heights_of}
 use Rattle.cw_linked.proofs.Bounding.{plain_spot}
 use Rattle.cw_linked.proofs.bounds.bound.Goals as goal
@@ -31,7 +31,7 @@ returns-in_default c =
     let d = c.in_default in
     let plain = plain_spot g c.args.state.0 spot c.spot-spot.result c.spot-spot.ensures d.not-Label d.not-Call d.not-SplitCall d.not-Exit in
     record {
-      told = λ _ n. c.moves_bound-in_default.ensures.tells n ∙ by_moves g (told heights c.args.at.now.number n) c.args.pos.0 c.args.state.0 promise spot plain.0 plain.1 plain.2;
+      implied = λ _ n. c.moves_bound-in_default.ensures.tells n ∙ by_moves g (implied heights c.args.at.now.number n) c.args.pos.0 c.args.state.0 promise spot plain.0 plain.1 plain.2;
       call = λ call. absurd (false≢true (sym plain.1 ∙ call));
       high = λ most up. c.moves_bound-in_default.ensures.high most up;
     }

@@ -4,7 +4,7 @@ use Rattle.cw_product.specs.Product.{game_of}
 use Rattle.cw_solve.specs.Asking.{holds_after}
 use Rattle.cw_solve.specs.Rounds.{holds_by}
 use Rattle.cw_solve.proofs.Calling.{cell_within, moved}
-use Rattle.cw_linked.specs.Founds.{told}
+use Rattle.cw_linked.specs.Founds.{implied}
 use Rattle.cw_linked.specs.Works.{known_of, heights_of}
 use Rattle.cw_linked.proofs.bounds.height_after.Goals as goal
 
@@ -25,7 +25,7 @@ pub returns-in-Some-clause-tells : goal.returns-in-Some-clause-tells
 returns-in-Some-clause-tells c n =
     let at = c.args.at.now in
     let heights = heights_of (game_of c.args.game.now) (known_of c.args.work.now) in
-    ap (λ (k : ℕ). holds_by n k) c.height_in.ensures.is ∙ ap (holds_after (told heights at.number n) (has at.context.promise)) c.in-Some.ensures.is
+    ap (λ (k : ℕ). holds_by n k) c.height_in.ensures.is ∙ ap (holds_after (implied heights at.number n) (has at.context.promise)) c.in-Some.ensures.is
 
 pub returns-in-Some-clause-high : goal.returns-in-Some-clause-high
 returns-in-Some-clause-high c = c.height_in.ensures.most 4194304 c.requires.high

@@ -4,7 +4,7 @@ use Rattle.cw_product.specs.Product.{game_of}
 use Rattle.cw_solve.specs.Asking.{holds_after}
 use Rattle.cw_solve.specs.Rounds.{holds_by}
 use Rattle.cw_solve.proofs.Calling.{moved}
-use Rattle.cw_linked.specs.Founds.{told}
+use Rattle.cw_linked.specs.Founds.{implied}
 use Rattle.cw_linked.specs.Works.{known_of, heights_of}
 use Rattle.cw_linked.proofs.bounds.height_to.Goals as goal
 
@@ -19,7 +19,7 @@ pub returns-clause-tells : goal.returns-clause-tells
 returns-clause-tells c n =
     let at = c.args.at.now in
     let heights = heights_of (game_of c.args.game.now) (known_of c.args.work.now) in
-    ap (λ (k : ℕ). holds_by n k) c.height_in.ensures.is ∙ ap (holds_after (told heights at.number n) (has at.context.promise)) (sym c.requires.leads)
+    ap (λ (k : ℕ). holds_by n k) c.height_in.ensures.is ∙ ap (holds_after (implied heights at.number n) (has at.context.promise)) (sym c.requires.leads)
 
 pub returns-clause-high : goal.returns-clause-high
 returns-clause-high c = c.height_in.ensures.most 4194304 c.requires.high

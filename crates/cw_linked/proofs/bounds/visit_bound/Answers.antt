@@ -3,7 +3,7 @@ use Rattle.std.specs.Prelude.{slice_get}
 use Rattle.cw_game.specs.Pairs.{has}
 use Rattle.cw_product.specs.Product.{game_of}
 use Rattle.cw_solve.proofs.Calling.{cell_within}
-use Rattle.cw_linked.specs.Founds.{told}
+use Rattle.cw_linked.specs.Founds.{implied}
 use Rattle.cw_linked.specs.Works.{known_of, heights_of}
 use Rattle.cw_linked.proofs.Blocking.{skips, tries, by_visit}
 use Rattle.cw_linked.proofs.bounds.visit_bound.Goals as goal
@@ -35,7 +35,7 @@ returns-clause-tells c n =
     let g = game_of c.args.game.now in
     let at = c.args.at.now in
     c.both.ensures.tells n ∙ ap₂ (λ (a b : Bool). a || b) (c.height_to-skip.ensures.tells n) (c.height_to-tried.ensures.tells n)
-    ∙ by_visit g c.args.pos.0 c.args.state.0 (told (heights_of g (known_of c.args.work.now)) at.number n) (has at.context.promise) (slice_get g.spots c.args.pos.0) c.requires.visit
+    ∙ by_visit g c.args.pos.0 c.args.state.0 (implied (heights_of g (known_of c.args.work.now)) at.number n) (has at.context.promise) (slice_get g.spots c.args.pos.0) c.requires.visit
 
 pub returns-clause-high : goal.returns-clause-high
 returns-clause-high c most up =

@@ -1,7 +1,7 @@
 use Rattle.std.proofs.Common.{◌≡◌, ◌<◌, ◌+◌, ◌∙◌, ℕ, Bool, List, Option, length, subst, sym, arith}
 use Rattle.std.specs.Prelude.{slice_get, IfSome}
 use Rattle.cw_links.specs.Lists.{list_at}
-use Rattle.cw_links.specs.Marks.{number}
+use Rattle.cw_links.specs.Flags.{number}
 use Rattle.cw_product.specs.Product.{game_of}
 use Rattle.cw_solve.proofs.Keeping.{few}
 use Rattle.cw_linked.specs.Calls.{CallsLeft}
@@ -42,16 +42,16 @@ walk-init c =
       known = c.first-next.ensures.known;
       step = nothing g w c.requires.long c.requires.high c.requires.right;
       at = begins.1;
-      left = subst (λ (ys : List ℕ). AllCalled g w.blocks.contexts.items (found_of g w) (CallsLeft g w.blocks.contexts.items w.store.marks (found_of g w) ys cell.at.number cell.pos.0 cell.state.0))
+      left = subst (λ (ys : List ℕ). AllCalled g w.blocks.contexts.items (found_of g w) (CallsLeft g w.blocks.contexts.items w.store.flags (found_of g w) ys cell.at.number cell.pos.0 cell.state.0))
           (sym begins.0)
           (all_calls g (length c.args.game.now.graph.parts.items) c.requires.routed (alike c.args.game.now) w c.requires.known
-          c.requires.marked c.first-next.ensures.there cell.at.number cell.pos.0 cell.state.0 c.requires.called);
+          c.requires.flagged c.first-next.ensures.there cell.at.number cell.pos.0 cell.state.0 c.requires.called);
     }
 
 pub next-next-requires : goal.next-next-requires
 next-next-requires c =
-    subst (λ (ms : List Bool). c.in-Some.link < number ms) (sym c.in_ok-ask_call.ensures.step.others.marks)
-    (subst (λ (o : Option ℕ). IfSome o (λ link. link < number c.walk.work.store.marks)) c.in-Some.is c.walk.invariant.known)
+    subst (λ (ms : List Bool). c.in-Some.link < number ms) (sym c.in_ok-ask_call.ensures.step.others.flags)
+    (subst (λ (o : Option ℕ). IfSome o (λ link. link < number c.walk.work.store.flags)) c.in-Some.is c.walk.invariant.known)
 
 pub ask_call-requires-clause-right : goal.ask_call-requires-clause-right
 ask_call-requires-clause-right c =
@@ -60,7 +60,7 @@ ask_call-requires-clause-right c =
 pub walk-smaller : goal.walk-smaller
 walk-smaller c =
     (walk_goes_on c.ask_call.new.work.store.lists c.args.work.now.store.lists (c.in_ok-ask_call.ensures.step.others.lists ∙ c.walk.invariant.step.others.lists)
-    (number c.ask_call.new.work.store.marks) (c.args.cell.now.at.number + 1) c.in-Some.link c.walk.next c.next-next.result
+    (number c.ask_call.new.work.store.flags) (c.args.cell.now.at.number + 1) c.in-Some.link c.walk.next c.next-next.result
     c.in-Some.is c.walk.invariant.at c.next-next.ensures.apart c.next-next.ensures.within).fewer
 
 pub walk-preserved : goal.walk-preserved
@@ -72,18 +72,18 @@ walk-preserved c =
     let l = cell.at.number + 1 in
     let link = c.in-Some.link in
     let s = walk_goes_on c.ask_call.new.work.store.lists c.args.work.now.store.lists (c.in_ok-ask_call.ensures.step.others.lists ∙ c.walk.invariant.step.others.lists)
-    (number c.ask_call.new.work.store.marks) l c.in-Some.link c.walk.next c.next-next.result
+    (number c.ask_call.new.work.store.flags) l c.in-Some.link c.walk.next c.next-next.result
     c.in-Some.is c.walk.invariant.at c.next-next.ensures.apart c.next-next.ensures.within in
     record {
       known = c.next-next.ensures.known;
       step = two_steps g w c.walk.work c.ask_call.new.work c.walk.invariant.step c.in_ok-ask_call.ensures.step;
       at = s.at;
       left = subst (λ (ys : List ℕ). AllCalled g w.blocks.contexts.items (found_of g c.ask_call.new.work)
-          (CallsLeft g w.blocks.contexts.items w.store.marks (found_of g w) ys cell.at.number cell.pos.0 cell.state.0)) (sym s.left)
-          (asked_call_left g functions c.requires.routed (alike c.args.game.now) w c.walk.work c.ask_call.new.work c.requires.known c.walk.invariant.step link c.place-place.result s.back cell
-          c.requires.marked c.place-place.ensures.marked c.place-place.ensures.rank c.in_ok-ask_call.ensures
+          (CallsLeft g w.blocks.contexts.items w.store.flags (found_of g w) ys cell.at.number cell.pos.0 cell.state.0)) (sym s.left)
+          (asked_call_left g functions c.requires.routed (alike c.args.game.now) w c.walk.work c.ask_call.new.work c.requires.known c.walk.invariant.step link c.index-index.result s.back cell
+          c.requires.flagged c.index-index.ensures.flagged c.index-index.ensures.rank c.in_ok-ask_call.ensures
           (subst (λ (ys : List ℕ). AllCalled g w.blocks.contexts.items (found_of g c.walk.work)
-          (CallsLeft g w.blocks.contexts.items w.store.marks (found_of g w) ys cell.at.number cell.pos.0 cell.state.0)) s.rest c.walk.invariant.left));
+          (CallsLeft g w.blocks.contexts.items w.store.flags (found_of g w) ys cell.at.number cell.pos.0 cell.state.0)) s.rest c.walk.invariant.left));
     }
 
 pub returns : goal.returns
@@ -94,7 +94,7 @@ returns c =
     let l = cell.at.number + 1 in
     record {
       step = c.walk.invariant.step;
-      called = no_calls_left g w.blocks.contexts.items w.store.marks (found_of g c.walk.work) (found_of g w) cell.at.number cell.pos.0 cell.state.0
+      called = no_calls_left g w.blocks.contexts.items w.store.flags (found_of g c.walk.work) (found_of g w) cell.at.number cell.pos.0 cell.state.0
           (subst (λ (o : Option ℕ). AllCalled g w.blocks.contexts.items (found_of g c.walk.work)
-          (CallsLeft g w.blocks.contexts.items w.store.marks (found_of g w) (rest_of (list_at w.store.lists l) o) cell.at.number cell.pos.0 cell.state.0)) c.in_default.is c.walk.invariant.left);
+          (CallsLeft g w.blocks.contexts.items w.store.flags (found_of g w) (rest_of (list_at w.store.lists l) o) cell.at.number cell.pos.0 cell.state.0)) c.in_default.is c.walk.invariant.left);
     }

@@ -2,7 +2,7 @@ use Rattle.std.proofs.Common.{◌+◌, ◌∙◌, length, arith}
 use Rattle.std.specs.Prelude.{slice_get, slice_index}
 use Rattle.cw_product.specs.Product.{game_of}
 use Rattle.cw_solve.proofs.Calling.{cell_within}
-use Rattle.cw_linked.specs.Works.{known_of, place_at, cell_of}
+use Rattle.cw_linked.specs.Works.{known_of, index_at, cell_of}
 use Rattle.cw_linked.proofs.Alike.{alike}
 use Rattle.cw_linked.proofs.Callers.{call_asked, call_unasked}
 use Rattle.cw_linked.proofs.Returning.{greater_low, other_class}
@@ -35,11 +35,11 @@ returns-then-is_same c =
     let s = c.in-Some.ensures.some in
     let most = c.greater-most.result in
     call_asked g (length c.args.game.now.graph.parts.items) c.requires.routed (alike c.args.game.now) w c.requires.known c.ask_cell.new.work c.requires.long c.requires.high c.requires.right cell c.requires.cell c.args.height
-    c.requires.some c.requires.taken c.args.link c.cell_at-caller.result c.cell_at-caller.ensures s.0 s.1 (s.2 ∙ c.is_same.ensures.is c.if-is_same.true) c.requires.goes c.requires.entry most (most + 1) c.slot-place.result
+    c.requires.some c.requires.taken c.args.link c.cell_at-caller.result c.cell_at-caller.ensures s.0 s.1 (s.2 ∙ c.is_same.ensures.is c.if-is_same.true) c.requires.goes c.requires.entry most (most + 1) c.slot-index.result
     (omega arith) c.greater-most.ensures.one c.greater-most.ensures.moves c.greater-most.ensures.high
     (greater_low most c.args.height (slice_index w.store.waves c.args.link) w.written c.greater-most.ensures.one (c.requires.high.waves c.args.link)
-    (let h = c.requires.high.heights (place_at g w.blocks.contexts.items cell.at.number cell.pos.0 cell.state.0) in omega (arith, h, c.requires.taken)))
-    c.slot-place.ensures.is c.in_ok-ask_cell-in-Some.ensures
+    (let h = c.requires.high.heights (index_at g w.blocks.contexts.items cell.at.number cell.pos.0 cell.state.0) in omega (arith, h, c.requires.taken)))
+    c.slot-index.ensures.is c.in_ok-ask_cell-in-Some.ensures
 
 pub overflow_add-within : goal.overflow_add-within
 overflow_add-within c =
@@ -48,7 +48,7 @@ overflow_add-within c =
     let cell = cell_of c.args.at.now c.args.pos c.args.state in
     let most = c.greater-most.result in
     let l = (greater_low most c.args.height (slice_index w.store.waves c.args.link) w.written c.greater-most.ensures.one (c.requires.high.waves c.args.link)
-    (let h = c.requires.high.heights (place_at g w.blocks.contexts.items cell.at.number cell.pos.0 cell.state.0) in omega (arith, h, c.requires.taken))) in
+    (let h = c.requires.high.heights (index_at g w.blocks.contexts.items cell.at.number cell.pos.0 cell.state.0) in omega (arith, h, c.requires.taken))) in
     let f = few_written g (known_of w) c.requires.known in
     omega (arith, l, f)
 
@@ -59,6 +59,6 @@ ask_cell-requires-clause-few c =
     let cell = cell_of c.args.at.now c.args.pos c.args.state in
     let most = c.greater-most.result in
     let l = (greater_low most c.args.height (slice_index w.store.waves c.args.link) w.written c.greater-most.ensures.one (c.requires.high.waves c.args.link)
-    (let h = c.requires.high.heights (place_at g w.blocks.contexts.items cell.at.number cell.pos.0 cell.state.0) in omega (arith, h, c.requires.taken))) in
+    (let h = c.requires.high.heights (index_at g w.blocks.contexts.items cell.at.number cell.pos.0 cell.state.0) in omega (arith, h, c.requires.taken))) in
     let f = few_written g (known_of w) c.requires.known in
     omega (arith, l, f)

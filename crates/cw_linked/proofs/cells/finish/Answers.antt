@@ -8,7 +8,7 @@ use Rattle.cw_linked.specs.Queues.{found_of}
 use Rattle.cw_linked.specs.Waiting.{ChangesFor}
 use Rattle.cw_linked.specs.Works.{Known}
 use Rattle.cw_linked.proofs.Alike.{alike}
-use Rattle.cw_linked.proofs.Finishing.{next_known, next_callers, next_marked, next_right, next_cell, next_height, one_known, one_called, two_known, two_few, two_standing, finished}
+use Rattle.cw_linked.proofs.Finishing.{next_known, next_callers, next_flagged, next_right, next_cell, next_height, one_known, one_called, two_known, two_few, two_standing, finished}
 use Rattle.cw_linked.proofs.Plain.{plain_finished}
 use Rattle.cw_linked.proofs.Telling.{two_steps}
 use Rattle.cw_linked.proofs.Waits.{asked_both}
@@ -48,9 +48,9 @@ returns-then-is_plain c =
     let t = c.requires.taken in
     let there = there_at g functions c.requires.routed w.blocks t.known.blocks cell.at.number cell.at.context t.there.at in
     let many : cell.at.context.function < min functions 65536 = omega (arith, there.below, c.fits.ensures) in
-    let marked : get_or c.args.edges.now.plain.items cell.pos.0 false ≡ true = sym c.is_plain.ensures ∙ c.if-is_plain.true in
+    let flagged : get_or c.args.edges.now.plain.items cell.pos.0 false ≡ true = sym c.is_plain.ensures ∙ c.if-is_plain.true in
     plain_finished g functions c.requires.routed (alike c.args.game.now) w c.ask_sources.new.work cell c.args.height t c.in_ok-ask_sources.ensures (min functions 65536)
-    (c.requires.plain.are cell.pos.0 marked) many
+    (c.requires.plain.are cell.pos.0 flagged) many
 
 pub ask_changes-requires : goal.ask_changes-requires
 ask_changes-requires c =
@@ -90,7 +90,7 @@ ask_entry-requires c =
       taken = next_height g functions c.requires.routed (alike c.args.game.now) w one t.known waiting.step cell c.args.height t.taken;
       some = t.some;
       callers = next_callers g functions c.requires.routed (alike c.args.game.now) w one t.known waiting.step t.callers;
-      marked = next_marked g functions c.requires.routed (alike c.args.game.now) w one t.known waiting.step t.marked;
+      flagged = next_flagged g functions c.requires.routed (alike c.args.game.now) w one t.known waiting.step t.flagged;
       long = waiting.step.long;
       high = waiting.step.high;
       right = next_right g functions c.requires.routed (alike c.args.game.now) w one t.known waiting.step;
@@ -117,7 +117,7 @@ ask_returns-requires c =
       taken = next_height g functions c.requires.routed (alike c.args.game.now) w two t.known step cell c.args.height t.taken;
       some = t.some;
       few = two_few g functions c.requires.routed (alike c.args.game.now) w one two two cell c.args.height t waiting callers;
-      marked = next_marked g functions c.requires.routed (alike c.args.game.now) w two t.known step t.marked;
+      flagged = next_flagged g functions c.requires.routed (alike c.args.game.now) w two t.known step t.flagged;
       long = step.long;
       high = step.high;
       right = next_right g functions c.requires.routed (alike c.args.game.now) w two t.known step;

@@ -4,17 +4,17 @@ use Rattle.cw_linked.proofs.Edging.{a_pair_more, no_pair_more, a_position_more}
 use Rattle.cw_linked.proofs.edges.add_pairs.Goals as goal
 
 pub returns-then-keeps : goal.returns-then-keeps
-returns-then-keeps c = no_pair_more (game_of c.args.game.now) c.args.marks.now c.args.pairs.now c.args.pos.0 c.if-keeps.ensures c.requires.before
+returns-then-keeps c = no_pair_more (game_of c.args.game.now) c.args.flags.now c.args.pairs.now c.args.pos.0 c.if-keeps.ensures c.requires.before
 
-pub add_moves-requires-clause-marked : goal.add_moves-requires-clause-marked
-add_moves-requires-clause-marked c r x =
-    c.requires.marked.leads c.args.pos.0 c.loop-q.q r x c.requires.position (omega (arith, c.states-q-end.ensures, c.loop-q-test.true)) c.if-keeps.ensures
+pub add_moves-requires-clause-flagged : goal.add_moves-requires-clause-flagged
+add_moves-requires-clause-flagged c r x =
+    c.requires.flagged.leads c.args.pos.0 c.loop-q.q r x c.requires.position (omega (arith, c.states-q-end.ensures, c.loop-q-test.true)) c.if-keeps.ensures
 
 pub loop-q-preserved : goal.loop-q-preserved
 loop-q-preserved c =
-    a_pair_more (game_of c.args.game.now) c.args.marks.now c.loop-q.pairs c.add_moves.new.pairs c.args.pos.0 c.loop-q.q c.loop-q.invariant c.in_ok-add_moves.ensures
+    a_pair_more (game_of c.args.game.now) c.args.flags.now c.loop-q.pairs c.add_moves.new.pairs c.args.pos.0 c.loop-q.q c.loop-q.invariant c.in_ok-add_moves.ensures
 
 pub returns : goal.returns
 returns c =
-    a_position_more (game_of c.args.game.now) c.args.marks.now c.loop-q.pairs c.args.pos.0 c.loop-q.q
+    a_position_more (game_of c.args.game.now) c.args.flags.now c.loop-q.pairs c.args.pos.0 c.loop-q.q
     (omega (arith, c.states-q-end.ensures, c.loop-q-test.false, c.loop-q.auto.q-end)) c.loop-q.invariant

@@ -3,4 +3,4 @@ use Rattle.cw_linked.specs.Edges.{AreChangesTo}
 use Rattle.cw_linked.proofs.edges.add_pairs.Given as goal
 
 abbrev pub invariant-loop-q : goal.invariant-loop-q
-invariant-loop-q l = AreChangesTo (game_of l.game) l.marks l.pairs l.pos.0 l.q
+invariant-loop-q l = AreChangesTo (game_of l.game) l.flags l.pairs l.pos.0 l.q

@@ -3,4 +3,4 @@ use Rattle.cw_linked.specs.Edges.{AreChangesTo}
 use Rattle.cw_linked.proofs.edges.make_pairs.Given as goal
 
 abbrev pub invariant-loop-p : goal.invariant-loop-p
-invariant-loop-p l = AreChangesTo (game_of l.game) l.marks l.pairs l.p 0
+invariant-loop-p l = AreChangesTo (game_of l.game) l.flags l.pairs l.p 0

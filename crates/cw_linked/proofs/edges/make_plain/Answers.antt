@@ -1,13 +1,13 @@
 use Rattle.std.proofs.Common.{◌≡◌, ◌≤◌, ℕ, length, min, ap, ◌∙◌, arith}
 use Rattle.cw_points.specs.declared.graph.Graph.{Graph}
 use Rattle.cw_product.specs.Product.{game_of}
-use Rattle.cw_linked.proofs.Plain.{entry_marked, fewer_functions}
+use Rattle.cw_linked.proofs.Plain.{entry_flagged, fewer_functions}
 use Rattle.cw_linked.proofs.edges.make_plain.Goals as goal
 
 pub loop-f-preserved : goal.loop-f-preserved
 loop-f-preserved c =
     let g = game_of c.args.game.now in
-    entry_marked g c.loop-f.f (length g.spots) c.loop-f.plain.items c.entry-entry.result.0 c.loop-f.invariant c.entry-entry.ensures.is c.entry-entry.ensures.within
+    entry_flagged g c.loop-f.f (length g.spots) c.loop-f.plain.items c.entry-entry.result.0 c.loop-f.invariant c.entry-entry.ensures.is c.entry-entry.ensures.within
 
 pub returns : goal.returns
 returns c =

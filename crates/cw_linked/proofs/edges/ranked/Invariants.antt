@@ -1,5 +1,5 @@
 use Rattle.std.proofs.Common.{◌≡◌, take}
 use Rattle.cw_linked.proofs.edges.ranked.Given as goal
 
-abbrev pub invariant-loop-mark : goal.invariant-loop-mark
-invariant-loop-mark l = l.all ≡ take l.mark-index l.marks
+abbrev pub invariant-loop-flag : goal.invariant-loop-flag
+invariant-loop-flag l = l.all ≡ take l.flag-index l.flags

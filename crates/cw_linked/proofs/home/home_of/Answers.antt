@@ -38,9 +38,9 @@ returns-clause-home c =
 pub returns-clause-from : goal.returns-clause-from
 returns-clause-from c =
     (block_has (game_of c.args.game.now) c.args.blocks.now c.requires.blocks c.numbered-at.result c.numbered-at.ensures.there c.block_by-block.result c.block_by-block.ensures c.states.result
-    c.states.ensures c.owner_near.result c.args.place c.numbered-at.ensures.number c.owner_near.ensures).0
+    c.states.ensures c.owner_near.result c.args.index c.numbered-at.ensures.number c.owner_near.ensures).0
 
 pub returns-clause-before : goal.returns-clause-before
 returns-clause-before c =
     (block_has (game_of c.args.game.now) c.args.blocks.now c.requires.blocks c.numbered-at.result c.numbered-at.ensures.there c.block_by-block.result c.block_by-block.ensures c.states.result
-    c.states.ensures c.owner_near.result c.args.place c.numbered-at.ensures.number c.owner_near.ensures).1
+    c.states.ensures c.owner_near.result c.args.index c.numbered-at.ensures.number c.owner_near.ensures).1

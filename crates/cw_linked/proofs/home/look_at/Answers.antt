@@ -6,13 +6,13 @@ use Rattle.cw_linked.proofs.home.look_at.Goals as goal
 pub overflow_add-pos : goal.overflow_add-pos
 overflow_add-pos c =
     let low = pos_low (game_of c.args.game.now) (length c.args.game.now.graph.parts.items) c.requires.routed c.args.work.now c.requires.known c.args.home.now c.requires.home
-    c.args.place c.requires.from c.requires.before c.by.result c.quotient-state.result c.by.ensures c.quotient-state.ensures in
+    c.args.index c.requires.from c.requires.before c.by.result c.quotient-state.result c.by.ensures c.quotient-state.ensures in
     omega (arith, low)
 
 pub overflow_cast-state : goal.overflow_cast-state
 overflow_cast-state c =
     let below = state_here (game_of c.args.game.now) (length c.args.game.now.graph.parts.items) c.requires.routed c.args.work.now c.requires.known c.args.home.now c.requires.home
-    c.args.place c.requires.from c.requires.before c.by.result c.quotient-state.result c.by.ensures c.quotient-state.ensures in
+    c.args.index c.requires.from c.requires.before c.by.result c.quotient-state.result c.by.ensures c.quotient-state.ensures in
     omega (arith, below, c.requires.routed.few)
 
 pub returns-clause-home : goal.returns-clause-home
@@ -23,7 +23,7 @@ returns-clause-home c =
 pub returns-clause-cell : goal.returns-clause-cell
 returns-clause-cell c =
     cell_here (game_of c.args.game.now) (length c.args.game.now.graph.parts.items) c.requires.routed c.args.work.now c.requires.known c.args.home.now c.requires.home
-    c.args.place c.requires.from c.requires.before c.by.result c.quotient-state.result c.by.ensures c.quotient-state.ensures
+    c.args.index c.requires.from c.requires.before c.by.result c.quotient-state.result c.by.ensures c.quotient-state.ensures
 
 pub returns-clause-block : goal.returns-clause-block
 returns-clause-block c =

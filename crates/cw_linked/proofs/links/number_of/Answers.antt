@@ -19,8 +19,8 @@ returns-in-Some c =
 pub size-requires-clause-there : goal.size-requires-clause-there
 size-requires-clause-there c = there (game_of c.args.game.now) (length c.args.game.now.graph.parts.items) c.requires.routed c.args.context.now c.requires.needed
 
-pub returns-then-places-size : goal.returns-then-places-size
-returns-then-places-size c =
+pub returns-then-indices-size : goal.returns-then-indices-size
+returns-then-indices-size c =
     let w = c.args.work.now in
     let d = c.args.context.now in (
       refl,
@@ -29,31 +29,31 @@ returns-then-places-size c =
           needed = c.requires.needed;
           new = subst (λ (cs : List Context). Contains cs d → ⊥) c.deref.ensures.value c.in-None.ensures.none;
         };
-        many = omega (arith, c.places.ensures, c.requires.firm.long.marks, c.size.ensures.is, c.if-places-size.true);
+        many = omega (arith, c.indices.ensures, c.requires.firm.long.flags, c.size.ensures.is, c.if-indices-size.true);
       },
     )
 
-pub add_placed-requires-clause-kept : goal.add_placed-requires-clause-kept
-add_placed-requires-clause-kept c = firm_open (game_of c.args.game.now) c.args.work.now c.requires.firm
+pub add_indexed-requires-clause-kept : goal.add_indexed-requires-clause-kept
+add_indexed-requires-clause-kept c = firm_open (game_of c.args.game.now) c.args.work.now c.requires.firm
 
-pub add_placed-requires-clause-contexts : goal.add_placed-requires-clause-contexts
-add_placed-requires-clause-contexts c =
+pub add_indexed-requires-clause-contexts : goal.add_indexed-requires-clause-contexts
+add_indexed-requires-clause-contexts c =
     let g = game_of c.args.game.now in
     let w = c.args.work.now in
     let d = c.args.context.now in
     let new = subst (λ (cs : List Context). Contains cs d → ⊥) c.deref.ensures.value c.in-None.ensures.none in
     (longer_tabled g (length c.args.game.now.graph.parts.items) c.requires.routed w.blocks c.requires.firm.known.blocks d (record { needed = c.requires.needed; new = new })
     (w.blocks.contexts.items ++ d ∷ []) refl
-    (omega (arith, c.places.ensures, c.requires.firm.long.marks, c.requires.firm.known.cells, c.size.ensures.is, c.if-places-size.false)) (omega (arith, c.size.ensures.is, c.size.ensures.some))).0
+    (omega (arith, c.indices.ensures, c.requires.firm.long.flags, c.requires.firm.known.cells, c.size.ensures.is, c.if-indices-size.false)) (omega (arith, c.size.ensures.is, c.size.ensures.some))).0
 
-pub returns-in_ok-add_placed-in-None : goal.returns-in_ok-add_placed-in-None
-returns-in_ok-add_placed-in-None c =
+pub returns-in_ok-add_indexed-in-None : goal.returns-in_ok-add_indexed-in-None
+returns-in_ok-add_indexed-in-None c =
     let w = c.args.work.now in
-    let new = c.add_placed.new.work in
+    let new = c.add_indexed.new.work in
     let d = c.args.context.now in
     let here : c.len-number.result ≡ length w.blocks.contexts.items = omega (arith, c.len-number.ensures, w.blocks.contexts.ok.0) in
     record {
-      there = ap (slice_get new.blocks.contexts.items) here ∙ ap (λ (cs : List Context). slice_get cs (length w.blocks.contexts.items)) c.in_ok-add_placed-in-None.ensures.contexts
+      there = ap (slice_get new.blocks.contexts.items) here ∙ ap (λ (cs : List Context). slice_get cs (length w.blocks.contexts.items)) c.in_ok-add_indexed-in-None.ensures.contexts
           ∙ get_last w.blocks.contexts.items d;
-      grows = inr c.in_ok-add_placed-in-None.ensures;
+      grows = inr c.in_ok-add_indexed-in-None.ensures;
     }

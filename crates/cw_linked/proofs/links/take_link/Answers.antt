@@ -18,8 +18,8 @@ promise_of-requires-clause-cell c =
     let functions = length c.args.game.now.graph.parts.items in
     let w = c.args.work.now in
     let link = c.args.link.now in
-    let call = call_here g functions c.requires.routed w link c.args.place c.args.moves c.requires.freed c.in-Call.callee c.in-Call.split c.in-Call.back c.in-Call.ensures in
-    back_here g functions c.requires.routed w link c.args.place c.args.moves c.requires.freed call.0 call.1 c.in-Call.back.0 call.4
+    let call = call_here g functions c.requires.routed w link c.args.index c.args.moves c.requires.freed c.in-Call.callee c.in-Call.split c.in-Call.back c.in-Call.ensures in
+    back_here g functions c.requires.routed w link c.args.index c.args.moves c.requires.freed call.0 call.1 c.in-Call.back.0 call.4
 
 pub number_of-requires-clause-needed : goal.number_of-requires-clause-needed
 number_of-requires-clause-needed c =
@@ -27,11 +27,11 @@ number_of-requires-clause-needed c =
     let functions = length c.args.game.now.graph.parts.items in
     let w = c.args.work.now in
     let link = c.args.link.now in
-    let call = call_here g functions c.requires.routed w link c.args.place c.args.moves c.requires.freed c.in-Call.callee c.in-Call.split c.in-Call.back c.in-Call.ensures in
+    let call = call_here g functions c.requires.routed w link c.args.index c.args.moves c.requires.freed c.in-Call.callee c.in-Call.split c.in-Call.back c.in-Call.ensures in
     let to : Context = context c.in-Call.callee c.promise_of.result in
-    let read = read_here g functions c.requires.routed w link c.args.place c.args.moves c.requires.freed call.0 c.in-Call.split c.in-Call.back.0 c.promise_of.result call.2
+    let read = read_here g functions c.requires.routed w link c.args.index c.args.moves c.requires.freed call.0 c.in-Call.split c.in-Call.back.0 c.promise_of.result call.2
     call.4 c.promise_of.ensures in
-    is_needed g functions c.requires.routed w link c.args.place c.args.moves c.requires.freed call.0 call.1 to call.3 read
+    is_needed g functions c.requires.routed w link c.args.index c.args.moves c.requires.freed call.0 call.1 to call.3 read
 
 pub numbered-to-requires : goal.numbered-to-requires
 numbered-to-requires c =
@@ -39,12 +39,12 @@ numbered-to-requires c =
     let functions = length c.args.game.now.graph.parts.items in
     let w = c.args.work.now in
     let link = c.args.link.now in
-    let call = call_here g functions c.requires.routed w link c.args.place c.args.moves c.requires.freed c.in-Call.callee c.in-Call.split c.in-Call.back c.in-Call.ensures in
+    let call = call_here g functions c.requires.routed w link c.args.index c.args.moves c.requires.freed c.in-Call.callee c.in-Call.split c.in-Call.back c.in-Call.ensures in
     let to : Context = context c.in-Call.callee c.promise_of.result in
-    let read = read_here g functions c.requires.routed w link c.args.place c.args.moves c.requires.freed call.0 c.in-Call.split c.in-Call.back.0 c.promise_of.result call.2
+    let read = read_here g functions c.requires.routed w link c.args.index c.args.moves c.requires.freed call.0 c.in-Call.split c.in-Call.back.0 c.promise_of.result call.2
     call.4 c.promise_of.ensures in
     let numbered : IsNumbered g w c.number_of.new.work to c.in-Some.number = subst (λ (o : Option ℕ). NumbersContext g w c.number_of.new.work to o) c.in-Some.is c.in_ok-number.ensures in
-    let tieable = is_tieable g functions c.requires.routed w link c.args.place c.args.moves c.requires.freed call.0 call.1 to call.3 read c.number_of.new.work c.in-Some.number numbered in
+    let tieable = is_tieable g functions c.requires.routed w link c.args.index c.args.moves c.requires.freed call.0 call.1 to call.3 read c.number_of.new.work c.in-Some.number numbered in
     record {
       routed = c.requires.routed;
       blocks = tieable.firm.known.blocks;
@@ -57,15 +57,15 @@ tie_link-requires-clause-tieable c =
     let functions = length c.args.game.now.graph.parts.items in
     let w = c.args.work.now in
     let link = c.args.link.now in
-    let call = call_here g functions c.requires.routed w link c.args.place c.args.moves c.requires.freed c.in-Call.callee c.in-Call.split c.in-Call.back c.in-Call.ensures in
+    let call = call_here g functions c.requires.routed w link c.args.index c.args.moves c.requires.freed c.in-Call.callee c.in-Call.split c.in-Call.back c.in-Call.ensures in
     let to : Context = context c.in-Call.callee c.promise_of.result in
-    let read = read_here g functions c.requires.routed w link c.args.place c.args.moves c.requires.freed call.0 c.in-Call.split c.in-Call.back.0 c.promise_of.result call.2
+    let read = read_here g functions c.requires.routed w link c.args.index c.args.moves c.requires.freed call.0 c.in-Call.split c.in-Call.back.0 c.promise_of.result call.2
     call.4 c.promise_of.ensures in
     let numbered : IsNumbered g w c.number_of.new.work to c.in-Some.number = subst (λ (o : Option ℕ). NumbersContext g w c.number_of.new.work to o) c.in-Some.is c.in_ok-number.ensures in
     let same = same_tabled c.number_of.new.work.blocks c.numbered-to.result c.in-Some.number to c.numbered-to.ensures.number c.numbered-to.ensures.there numbered.there in
-    subst (λ (a : Tabled). IsTieable g c.number_of.new.work link c.args.place c.args.moves a.number c.in-Call.back.0 a.context) (sym same)
-    (subst (λ (b : ℕ). IsTieable g c.number_of.new.work link c.args.place c.args.moves c.in-Some.number b to) call.4
-    (is_tieable g functions c.requires.routed w link c.args.place c.args.moves c.requires.freed call.0 call.1 to call.3 read c.number_of.new.work c.in-Some.number numbered))
+    subst (λ (a : Tabled). IsTieable g c.number_of.new.work link c.args.index c.args.moves a.number c.in-Call.back.0 a.context) (sym same)
+    (subst (λ (b : ℕ). IsTieable g c.number_of.new.work link c.args.index c.args.moves c.in-Some.number b to) call.4
+    (is_tieable g functions c.requires.routed w link c.args.index c.args.moves c.requires.freed call.0 call.1 to call.3 read c.number_of.new.work c.in-Some.number numbered))
 
 pub returns : goal.returns
 returns c =
@@ -73,15 +73,15 @@ returns c =
     let functions = length c.args.game.now.graph.parts.items in
     let w = c.args.work.now in
     let link = c.args.link.now in
-    let call = call_here g functions c.requires.routed w link c.args.place c.args.moves c.requires.freed c.in-Call.callee c.in-Call.split c.in-Call.back c.in-Call.ensures in
+    let call = call_here g functions c.requires.routed w link c.args.index c.args.moves c.requires.freed c.in-Call.callee c.in-Call.split c.in-Call.back c.in-Call.ensures in
     let to : Context = context c.in-Call.callee c.promise_of.result in
-    let read = read_here g functions c.requires.routed w link c.args.place c.args.moves c.requires.freed call.0 c.in-Call.split c.in-Call.back.0 c.promise_of.result call.2
+    let read = read_here g functions c.requires.routed w link c.args.index c.args.moves c.requires.freed call.0 c.in-Call.split c.in-Call.back.0 c.promise_of.result call.2
     call.4 c.promise_of.ensures in
     let numbered : IsNumbered g w c.number_of.new.work to c.in-Some.number = subst (λ (o : Option ℕ). NumbersContext g w c.number_of.new.work to o) c.in-Some.is c.in_ok-number.ensures in
-    let to_number : ℕ → List ℕ = λ n. slice_set c.number_of.new.work.store.to c.args.place (n + 1) in
+    let to_number : ℕ → List ℕ = λ n. slice_set c.number_of.new.work.store.to c.args.index (n + 1) in
     let finishes = subst (λ (n : ℕ). Finishes g c.number_of.new.work c.tie_link.new.work (to_number n)) c.numbered-to.ensures.number c.in_ok-tie_link.ensures in (
       finishes.kept,
-      is_less g functions c.requires.routed w link c.args.place c.args.moves c.requires.freed call.0 call.1 to call.3 read c.number_of.new.work c.in-Some.number numbered
+      is_less g functions c.requires.routed w link c.args.index c.args.moves c.requires.freed call.0 call.1 to call.3 read c.number_of.new.work c.in-Some.number numbered
           c.requires.some c.tie_link.new.work
           finishes,
     )

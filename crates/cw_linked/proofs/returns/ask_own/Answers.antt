@@ -8,10 +8,10 @@ use Rattle.cw_linked.proofs.returns.ask_own.Goals as goal
 pub is_promised-requires-clause-state : goal.is_promised-requires-clause-state
 is_promised-requires-clause-state c = omega (arith, c.requires.cell.state, c.requires.routed.few)
 
-pub ask_link-requires-clause-marked : goal.ask_link-requires-clause-marked
-ask_link-requires-clause-marked c =
+pub ask_link-requires-clause-flagged : goal.ask_link-requires-clause-flagged
+ask_link-requires-clause-flagged c =
     let s = c.in-Some.ensures.some in
-    c.requires.marked c.slot-link.result
+    c.requires.flagged c.slot-link.result
     (own_link (game_of c.args.game.now) (length c.args.game.now.graph.parts.items) c.requires.routed (alike c.args.game.now) c.args.work.now c.requires.known c.requires.long
     c.requires.high c.requires.right (cell_of c.args.at.now c.args.back c.args.state) c.requires.cell c.args.height c.requires.some c.requires.taken c.args.pos.0 c.requires.of c.requires.returns s.0 s.1 c.in-Some.class.0 s.2
     c.slot-link.result c.slot-link.ensures.is)

@@ -9,7 +9,7 @@ use Rattle.cw_linked.specs.Founds.{AllStanding}
 use Rattle.cw_linked.specs.Queues.{found_of}
 use Rattle.cw_linked.proofs.Alike.{alike}
 use Rattle.cw_linked.proofs.Backs.{ReturnsLeft, all_returns, no_returns}
-use Rattle.cw_linked.proofs.Finishing.{next_marked}
+use Rattle.cw_linked.proofs.Finishing.{next_flagged}
 use Rattle.cw_linked.proofs.Returning.{asked_return_left}
 use Rattle.cw_linked.proofs.Telling.{nothing, two_steps}
 use Rattle.cw_linked.proofs.returns.ask_returns.Goals as goal
@@ -42,10 +42,10 @@ ask_return-requires-clause-position c =
     let lt : n < length row = c.loop-pos-test.true in
     c.requires.returns.fine c.args.cell.now.pos.0 pos (subst (λ (xs : List PosId). Contains xs pos) c.row-row.ensures (Contains-get_or row n (record { 0 = 0 }) lt))
 
-pub ask_return-requires-clause-marked : goal.ask_return-requires-clause-marked
-ask_return-requires-clause-marked c =
-    next_marked (game_of c.args.game.now) (length c.args.game.now.graph.parts.items) c.requires.routed (alike c.args.game.now) c.args.work.now c.loop-pos.work c.requires.known
-    c.loop-pos.invariant.step c.requires.marked
+pub ask_return-requires-clause-flagged : goal.ask_return-requires-clause-flagged
+ask_return-requires-clause-flagged c =
+    next_flagged (game_of c.args.game.now) (length c.args.game.now.graph.parts.items) c.requires.routed (alike c.args.game.now) c.args.work.now c.loop-pos.work c.requires.known
+    c.loop-pos.invariant.step c.requires.flagged
 
 pub loop-pos-preserved : goal.loop-pos-preserved
 loop-pos-preserved c =

@@ -1,9 +1,9 @@
 use Rattle.std.proofs.Common.{ℕ, subst, arith}
 use Rattle.std.specs.Prelude.{slice_get}
 use Rattle.cw_product.specs.Product.{game_of}
-use Rattle.cw_linked.specs.Added.{PushesPlaces}
+use Rattle.cw_linked.specs.Added.{PushesIndices}
 use Rattle.cw_linked.proofs.Blocking.{uncalled}
-use Rattle.cw_linked.proofs.Lengthening.{plain_places}
+use Rattle.cw_linked.proofs.Lengthening.{plain_indices}
 use Rattle.cw_linked.proofs.room.push_plain.Goals as goal
 
 pub push_plain-requires : goal.push_plain-requires
@@ -15,6 +15,6 @@ returns c =
     let old = c.args.store.now in
     let new = c.push_plain.new.self in
     record {
-      places = subst (λ (n : ℕ). PushesPlaces old new n) c.size-many.ensures.is (plain_places old new c.size-many.result c.in_ok-push_plain.ensures.pushed);
-      marked = λ p x call of calls class lt. absurd (uncalled (slice_get g.spots p) call (c.requires.plain p of) calls);
+      indices = subst (λ (n : ℕ). PushesIndices old new n) c.size-many.ensures.is (plain_indices old new c.size-many.result c.in_ok-push_plain.ensures.pushed);
+      flagged = λ p x call of calls class lt. absurd (uncalled (slice_get g.spots p) call (c.requires.plain p of) calls);
     }

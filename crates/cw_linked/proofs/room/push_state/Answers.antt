@@ -1,7 +1,7 @@
 use Rattle.std.proofs.Common.{◌≡◌, ◌+◌, ℕ, sym, subst, arith}
 use Rattle.cw_product.specs.Product.{game_of}
 use Rattle.cw_linked.specs.Added.{ArePushed}
-use Rattle.cw_linked.proofs.Lengthening.{none_pushed, more_pushed, all_pushed, all_marked}
+use Rattle.cw_linked.proofs.Lengthening.{none_pushed, more_pushed, all_pushed, all_flagged}
 use Rattle.cw_linked.proofs.room.push_state.Goals as goal
 
 pub overflow_add-p-end : goal.overflow_add-p-end
@@ -18,7 +18,7 @@ push_next-requires c =
     record {
       position = (let lt = c.exit-p-end.ensures.within in omega (arith, lt, c.loop-p-test.true));
       state = c.requires.state;
-      few = omega (arith, inv.places.long, inv.ahead, c.requires.few, c.loop-p-test.true, c.exit-p-end.ensures.is);
+      few = omega (arith, inv.indices.long, inv.ahead, c.requires.few, c.loop-p-test.true, c.exit-p-end.ensures.is);
     }
 
 pub loop-p-preserved : goal.loop-p-preserved
@@ -29,7 +29,7 @@ loop-p-preserved c =
 pub push_plain-requires : goal.push_plain-requires
 push_plain-requires c =
     let inv = c.loop-p.invariant in
-    record { few = omega (arith, inv.places.long, inv.ahead, c.requires.few, c.loop-p.auto.p-end, c.exit-p-end.ensures.is, c.entry-p.ensures.is, c.requires.there.begins) }
+    record { few = omega (arith, inv.indices.long, inv.ahead, c.requires.few, c.loop-p.auto.p-end, c.exit-p-end.ensures.is, c.entry-p.ensures.is, c.requires.there.begins) }
 
 pub returns : goal.returns
 returns c =
@@ -41,6 +41,6 @@ returns c =
     let e : c.loop-p.p ≡ g.exit c.args.function + 1 = omega (arith, c.loop-p-test.false, le, c.requires.there.begins, c.entry-p.ensures.is, c.exit-p-end.ensures.is) in
     let are = subst (λ (p : ℕ). ArePushed g old mid c.args.function c.args.state.0 p c.loop-p.plain) e c.loop-p.invariant in
     record {
-      places = all_pushed g old mid new c.args.function c.args.state.0 c.loop-p.plain are c.in_ok-push_plain.ensures.pushed;
-      marked = all_marked g old mid new c.args.function c.args.state.0 c.loop-p.plain are c.in_ok-push_plain.ensures.pushed;
+      indices = all_pushed g old mid new c.args.function c.args.state.0 c.loop-p.plain are c.in_ok-push_plain.ensures.pushed;
+      flagged = all_flagged g old mid new c.args.function c.args.state.0 c.loop-p.plain are c.in_ok-push_plain.ensures.pushed;
     }

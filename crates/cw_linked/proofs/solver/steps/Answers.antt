@@ -24,12 +24,12 @@ returns-in-Nothing c =
 pub finish_at-requires-clause-known : goal.finish_at-requires-clause-known
 finish_at-requires-clause-known c =
     is_known (game_of c.args.game.now) (length c.args.game.now.graph.parts.items) c.requires.routed
-    (alike c.args.game.now) c.steps.work c.pop.new.work c.steps.invariant.work c.in-Cell.place c.in-Cell.height c.in-Cell.ensures
+    (alike c.args.game.now) c.steps.work c.pop.new.work c.steps.invariant.work c.in-Cell.index c.in-Cell.height c.in-Cell.ensures
 
 pub finish_at-requires-clause-taken : goal.finish_at-requires-clause-taken
 finish_at-requires-clause-taken c cell at =
     is_taken (game_of c.args.game.now) (length c.args.game.now.graph.parts.items) c.requires.routed
-    (alike c.args.game.now) c.steps.work c.pop.new.work c.steps.invariant.work c.in-Cell.place c.in-Cell.height c.in-Cell.ensures cell at
+    (alike c.args.game.now) c.steps.work c.pop.new.work c.steps.invariant.work c.in-Cell.index c.in-Cell.height c.in-Cell.ensures cell at
 
 pub finish_at-requires-clause-home : goal.finish_at-requires-clause-home
 finish_at-requires-clause-home c = subst (λ (b : Blocks). IsHome (game_of c.args.game.now) b.contexts.items c.steps.home) (sym c.in-Cell.ensures.blocks) c.steps.invariant.home
@@ -51,17 +51,17 @@ steps-preserved-in-Continue-1 c =
 pub steps-smaller-in-Continue-1 : goal.steps-smaller-in-Continue-1
 steps-smaller-in-Continue-1 c =
     finished_less (game_of c.args.game.now) (length c.args.game.now.graph.parts.items) c.requires.routed
-    (alike c.args.game.now) c.steps.work c.pop.new.work c.finish_at.new.work c.steps.invariant.work c.in-Cell.place c.in-Cell.height c.in-Cell.ensures c.in_ok-finish_at-in-Cell.ensures.finishes
+    (alike c.args.game.now) c.steps.work c.pop.new.work c.finish_at.new.work c.steps.invariant.work c.in-Cell.index c.in-Cell.height c.in-Cell.ensures c.in_ok-finish_at-in-Cell.ensures.finishes
 
 pub tie_at-requires-clause-known : goal.tie_at-requires-clause-known
 tie_at-requires-clause-known c =
     freed_known (game_of c.args.game.now) (length c.args.game.now.graph.parts.items) c.requires.routed
-    (alike c.args.game.now) c.steps.work c.pop.new.work c.steps.invariant.work c.in-Link.place c.in-Link.moves c.in-Link.ensures
+    (alike c.args.game.now) c.steps.work c.pop.new.work c.steps.invariant.work c.in-Link.index c.in-Link.moves c.in-Link.ensures
 
 pub tie_at-requires-clause-freed : goal.tie_at-requires-clause-freed
 tie_at-requires-clause-freed c link at =
     is_freed (game_of c.args.game.now) (length c.args.game.now.graph.parts.items) c.requires.routed
-    (alike c.args.game.now) c.steps.work c.pop.new.work c.steps.invariant.work c.in-Link.place c.in-Link.moves c.in-Link.ensures link at
+    (alike c.args.game.now) c.steps.work c.pop.new.work c.steps.invariant.work c.in-Link.index c.in-Link.moves c.in-Link.ensures link at
 
 pub steps-preserved : goal.steps-preserved
 steps-preserved c =
@@ -74,11 +74,11 @@ steps-smaller c =
     let g = game_of c.args.game.now in
     let takes = subst (λ (s : Stepped). TakesLink g c.pop.new.work c.tie_at.new.work s) c.in-More.is c.in_ok-tie_at-in-Link.ensures.takes in
     linked_less g (length c.args.game.now.graph.parts.items) c.requires.routed (alike c.args.game.now)
-    c.steps.work c.pop.new.work c.tie_at.new.work c.in-Link.place c.in-Link.moves c.in-Link.ensures takes.1
+    c.steps.work c.pop.new.work c.tie_at.new.work c.in-Link.index c.in-Link.moves c.in-Link.ensures takes.1
 
 pub returns-in-TooMany : goal.returns-in-TooMany
 returns-in-TooMany c =
     let g = game_of c.args.game.now in
     let takes = subst (λ (s : Stepped). TakesLink g c.pop.new.work c.tie_at.new.work s) c.in-TooMany.is c.in_ok-tie_at-in-Link.ensures.takes in
     linked_beyond g (length c.args.game.now.graph.parts.items) c.requires.routed (alike c.args.game.now)
-    c.steps.work c.pop.new.work c.tie_at.new.work c.steps.invariant.work c.in-Link.place c.in-Link.moves c.in-Link.ensures c.in-TooMany.context takes
+    c.steps.work c.pop.new.work c.tie_at.new.work c.steps.invariant.work c.in-Link.index c.in-Link.moves c.in-Link.ensures c.in-TooMany.context takes

@@ -2,15 +2,15 @@ use Rattle.std.proofs.Common.{length, refl, arith}
 use Rattle.cw_product.specs.Product.{game_of}
 use Rattle.cw_linked.specs.declared.work.Cell.{Cell}
 use Rattle.cw_linked.proofs.Alike.{alike}
-use Rattle.cw_linked.proofs.Finishing.{next_marked}
+use Rattle.cw_linked.proofs.Finishing.{next_flagged}
 use Rattle.cw_linked.proofs.Telling.{two_steps}
 use Rattle.cw_linked.proofs.Tieing.{one_again, others_again, all_again}
 use Rattle.cw_linked.proofs.ties.ask_again.Goals as goal
 
-pub ask_back-requires-clause-marked : goal.ask_back-requires-clause-marked
-ask_back-requires-clause-marked c =
-    next_marked (game_of c.args.game.now) (length c.args.game.now.graph.parts.items) c.requires.routed (alike c.args.game.now) c.args.work.now c.loop-q.work c.requires.known
-    c.loop-q.invariant.step c.requires.marked
+pub ask_back-requires-clause-flagged : goal.ask_back-requires-clause-flagged
+ask_back-requires-clause-flagged c =
+    next_flagged (game_of c.args.game.now) (length c.args.game.now.graph.parts.items) c.requires.routed (alike c.args.game.now) c.args.work.now c.loop-q.work c.requires.known
+    c.loop-q.invariant.step c.requires.flagged
 
 pub loop-q-preserved : goal.loop-q-preserved
 loop-q-preserved c =

@@ -51,7 +51,7 @@ loop-q-preserved c =
     let new = c.ask_lost.new.work in
     record {
       step = two_steps g w mid new c.loop-q.invariant.step c.in_ok-ask_lost.ensures.step;
-      left = one_from g functions c.requires.routed (alike c.args.game.now) w mid new c.requires.known c.loop-q.invariant.step c.args.place c.args.link.now c.requires.at
+      left = one_from g functions c.requires.routed (alike c.args.game.now) w mid new c.requires.known c.loop-q.invariant.step c.args.index c.args.link.now c.requires.at
           (record { at = c.args.callee.now; pos = c.entry-entry.result; state = record { 0 = c.loop-q.q } }) c.requires.callee
           (c.entry-entry.ensures.is ∙ ap g.entry c.function.ensures) c.requires.goes c.in_ok-ask_lost.ensures c.loop-q.invariant.left;
     }

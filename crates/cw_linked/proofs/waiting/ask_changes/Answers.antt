@@ -15,15 +15,15 @@ use Rattle.cw_linked.proofs.Waits.{AreLeft, change_pairs, changes_left, unmarked
 use Rattle.cw_linked.proofs.Walking.{walk_begins, walk_steps}
 use Rattle.cw_linked.proofs.waiting.ask_changes.Goals as goal
 
-pub is_marked-requires : goal.is_marked-requires
-is_marked-requires c =
+pub is_flagged-requires : goal.is_flagged-requires
+is_flagged-requires c =
     let g = game_of c.args.game.now in
     let cell = c.args.cell.now in
     let lt = cell_within g (length c.args.game.now.graph.parts.items) c.requires.routed c.args.work.now.blocks c.requires.known.blocks cell.at cell.pos.0 cell.state.0 c.requires.cell in
-    omega (arith, lt, c.requires.changes.marks)
+    omega (arith, lt, c.requires.changes.flags)
 
-pub returns-then-not-is_marked : goal.returns-then-not-is_marked
-returns-then-not-is_marked c =
+pub returns-then-not-is_flagged : goal.returns-then-not-is_flagged
+returns-then-not-is_flagged c =
     let g = game_of c.args.game.now in
     let w = c.args.work.now in
     let cell = c.args.cell.now in
@@ -31,11 +31,11 @@ returns-then-not-is_marked c =
       step = nothing g w c.requires.long c.requires.high c.requires.right;
       closed = unmarked_left g w.blocks.contexts.items c.args.changes.now (found_of g w) c.requires.changes cell.at.number cell.pos.0 cell.state.0
           (λ i d p q is. cell_within g (length c.args.game.now.graph.parts.items) c.requires.routed w.blocks c.requires.known.blocks (record { number = i; context = d }) p q is)
-          (sym c.if-not-is_marked.ensures) c.requires.closed;
+          (sym c.if-not-is_flagged.ensures) c.requires.closed;
     }
 
-pub list_of-list-requires-clause-marked : goal.list_of-list-requires-clause-marked
-list_of-list-requires-clause-marked c = sym c.if-not-is_marked.ensures
+pub list_of-list-requires-clause-flagged : goal.list_of-list-requires-clause-flagged
+list_of-list-requires-clause-flagged c = sym c.if-not-is_flagged.ensures
 
 pub walk-init : goal.walk-init
 walk-init c =
@@ -43,7 +43,7 @@ walk-init c =
     let w = c.args.work.now in
     let cell = c.args.cell.now in
     let changes = c.args.changes.now in
-    let list = list_at changes.pairs.lists (list_of g changes.marks cell.pos.0 cell.state.0) in
+    let list = list_at changes.pairs.lists (list_of g changes.flags cell.pos.0 cell.state.0) in
     let first : c.first-next.result ≡ slice_get list 0 = c.first-next.ensures.first ∙ ap (λ (y : ℕ). slice_get (list_at changes.pairs.lists y) 0) c.list_of-list.ensures.is in
     let begins = walk_begins list c.first-next.result first in
     record {
@@ -69,7 +69,7 @@ pub walk-smaller : goal.walk-smaller
 walk-smaller c =
     let cell = c.args.cell.now in
     let changes = c.args.changes.now in
-    (walk_steps changes.pairs.lists (length changes.pairs.values) (list_of (game_of c.args.game.now) changes.marks cell.pos.0 cell.state.0) c.in-Some.edge c.walk.next c.next-next.result
+    (walk_steps changes.pairs.lists (length changes.pairs.values) (list_of (game_of c.args.game.now) changes.flags cell.pos.0 cell.state.0) c.in-Some.edge c.walk.next c.next-next.result
     c.in-Some.is c.walk.invariant.at c.next-next.ensures.apart c.next-next.ensures.within).fewer
 
 pub walk-preserved : goal.walk-preserved
@@ -79,7 +79,7 @@ walk-preserved c =
     let w = c.args.work.now in
     let cell = c.args.cell.now in
     let changes = c.args.changes.now in
-    let l = list_of g changes.marks cell.pos.0 cell.state.0 in
+    let l = list_of g changes.flags cell.pos.0 cell.state.0 in
     let s = walk_steps changes.pairs.lists (length changes.pairs.values) l c.in-Some.edge c.walk.next c.next-next.result
     c.in-Some.is c.walk.invariant.at c.next-next.ensures.apart c.next-next.ensures.within in
     record {
@@ -99,7 +99,7 @@ returns c =
     let w = c.args.work.now in
     let cell = c.args.cell.now in
     let changes = c.args.changes.now in
-    let l = list_of g changes.marks cell.pos.0 cell.state.0 in
+    let l = list_of g changes.flags cell.pos.0 cell.state.0 in
     record {
       step = c.walk.invariant.step;
       closed = none_left g w.blocks.contexts.items (change_pairs changes) Nothing (found_of g c.walk.work) cell.at.number

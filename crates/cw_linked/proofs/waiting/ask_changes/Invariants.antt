@@ -13,10 +13,10 @@ abbrev pub invariant-walk : goal.invariant-walk
 invariant-walk l = record {
   known : IfSome l.next (λ edge. edge < length l.changes.pairs.values);
   step : LowersKeys (game_of l.game) l.fn.work l.work;
-  at : slice_get (rest_of (list_at l.changes.pairs.lists (list_of (game_of l.game) l.changes.marks l.cell.pos.0 l.cell.state.0)) l.next) 0 ≡ l.next;
+  at : slice_get (rest_of (list_at l.changes.pairs.lists (list_of (game_of l.game) l.changes.flags l.cell.pos.0 l.cell.state.0)) l.next) 0 ≡ l.next;
   left : AllClosed (game_of l.game) l.fn.work.blocks.contexts.items (found_of (game_of l.game) l.work)
-      (AreLeft (change_pairs l.changes) Nothing l.cell.at.number (rest_of (list_at l.changes.pairs.lists (list_of (game_of l.game) l.changes.marks l.cell.pos.0 l.cell.state.0)) l.next));
+      (AreLeft (change_pairs l.changes) Nothing l.cell.at.number (rest_of (list_at l.changes.pairs.lists (list_of (game_of l.game) l.changes.flags l.cell.pos.0 l.cell.state.0)) l.next));
 }
 
 abbrev pub decreases-walk : goal.decreases-walk
-decreases-walk l = length (rest_of (list_at l.changes.pairs.lists (list_of (game_of l.game) l.changes.marks l.cell.pos.0 l.cell.state.0)) l.next)
+decreases-walk l = length (rest_of (list_at l.changes.pairs.lists (list_of (game_of l.game) l.changes.flags l.cell.pos.0 l.cell.state.0)) l.next)

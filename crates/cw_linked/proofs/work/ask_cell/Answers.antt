@@ -9,7 +9,7 @@ returns c =
     record {
       others = record {
         known = known_on c.args.work.now c.ask_cell.new.self.heights (ap (λ (s : Stored). s.heights) asks);
-        marks = ap (λ (s : Stored). s.marks) asks;
+        flags = ap (λ (s : Stored). s.flags) asks;
         to = ap (λ (s : Stored). s.to) asks;
         waves = ap (λ (s : Stored). s.waves) asks;
         lists = ap (λ (s : Stored). s.lists) asks;

@@ -11,15 +11,15 @@ overflow_sub-result c =
     let g = game_of c.args.game.now in
     let blocks = c.args.blocks.now in
     let rise = subst IsNonDecreasing (sym c.deref.ensures.value) (bases_rise g blocks c.requires.blocks) in
-    let point = IsPartitionPoint-from_clause (λ base. nat_le base c.args.place) c.deref.result.now _ c.partition_point.ensures.partitioned
-    (IsPartitionedBy-leb (λ base. base) c.deref.result.now c.args.place rise) (λ a r q k. search rules) in
-    some_begun g blocks c.requires.blocks c.args.place c.partition_point.result c.requires.within c.deref.result.now c.deref.ensures.value c.partition_point.ensures.bound point
+    let point = IsPartitionPoint-from_clause (λ base. nat_le base c.args.index) c.deref.result.now _ c.partition_point.ensures.partitioned
+    (IsPartitionedBy-leb (λ base. base) c.deref.result.now c.args.index rise) (λ a r q k. search rules) in
+    some_begun g blocks c.requires.blocks c.args.index c.partition_point.result c.requires.within c.deref.result.now c.deref.ensures.value c.partition_point.ensures.bound point
 
 pub returns : goal.returns
 returns c =
     let g = game_of c.args.game.now in
     let blocks = c.args.blocks.now in
     let rise = subst IsNonDecreasing (sym c.deref.ensures.value) (bases_rise g blocks c.requires.blocks) in
-    let point = IsPartitionPoint-from_clause (λ base. nat_le base c.args.place) c.deref.result.now _ c.partition_point.ensures.partitioned
-    (IsPartitionedBy-leb (λ base. base) c.deref.result.now c.args.place rise) (λ a r q k. search rules) in
-    last_begun g blocks c.requires.blocks c.args.place c.partition_point.result c.requires.within c.deref.result.now c.deref.ensures.value c.partition_point.ensures.bound point
+    let point = IsPartitionPoint-from_clause (λ base. nat_le base c.args.index) c.deref.result.now _ c.partition_point.ensures.partitioned
+    (IsPartitionedBy-leb (λ base. base) c.deref.result.now c.args.index rise) (λ a r q k. search rules) in
+    last_begun g blocks c.requires.blocks c.args.index c.partition_point.result c.requires.within c.deref.result.now c.deref.ensures.value c.partition_point.ensures.bound point

@@ -4,10 +4,10 @@ use Rattle.std.proofs.lemmas.List.Edits.{map_over_more}
 use Rattle.cw_links.specs.Cells.{height_in}
 use Rattle.cw_links.proofs.cells.into_heights.Goals as goal
 
-pub loop-word-preserved : goal.loop-word-preserved
-loop-word-preserved c =
-    let words = c.loop-word.words in
-    let i = c.loop-word.word-index in
-    let word = get_or words i 0 in
-    let inside : i < length words = omega arith in
-    rw c.height_in.ensures (map_over_more height_in c.args.words.now words i word (omega arith) c.loop-word.invariant (get_or_default words i 0 word inside))
+pub loop-number-preserved : goal.loop-number-preserved
+loop-number-preserved c =
+    let numbers = c.loop-number.numbers in
+    let i = c.loop-number.number-index in
+    let number = get_or numbers i 0 in
+    let inside : i < length numbers = omega arith in
+    rw c.height_in.ensures (map_over_more height_in c.args.numbers.now numbers i number (omega arith) c.loop-number.invariant (get_or_default numbers i 0 number inside))

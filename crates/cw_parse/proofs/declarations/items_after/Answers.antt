@@ -1,7 +1,7 @@
 use Rattle.std.proofs.Common.{◌≡◌, true, false, sym, ◌∙◌}
 use Rattle.std.proofs.lemmas.Result.{err_from_is_err_and}
 use Rattle.cw_expressions.specs.Cursor.{begins}
-use Rattle.cw_grammar.specs.declared.words.Word.TheVariants as w
+use Rattle.cw_grammar.specs.declared.terminals.Terminal.TheVariants as w
 use Rattle.cw_grammar.specs.Declarations.{IsItem}
 use Rattle.cw_parse.specs.DeclarationReading.{item}
 use Rattle.cw_parse.specs.DeclarationView.{items, specifiers_of}

@@ -1,6 +1,6 @@
 use Rattle.std.proofs.Common.{◌≡◌, length}
 use Rattle.cw_expressions.specs.Cursor.{begins}
-use Rattle.cw_grammar.specs.declared.words.Word.TheVariants.{Comma}
+use Rattle.cw_grammar.specs.declared.terminals.Terminal.TheVariants.{Comma}
 use Rattle.cw_parse.specs.Lists.{many, behind}
 use Rattle.cw_parse.specs.DeclarationReading.{param}
 use Rattle.cw_parse.specs.DeclarationView.{parameters}

@@ -1,5 +1,5 @@
 use Rattle.std.proofs.Common.{◌≡◌, true, refl, sym, ◌∙◌}
-use Rattle.cw_grammar.specs.declared.words.Word.TheVariants as w
+use Rattle.cw_grammar.specs.declared.terminals.Terminal.TheVariants as w
 use Rattle.cw_grammar.proofs.TreeRows.{trees_map}
 use Rattle.cw_expressions.specs.Cursor.{begins}
 use Rattle.cw_parse.specs.DeclarationReading.{value}

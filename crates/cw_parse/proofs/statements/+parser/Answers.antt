@@ -1,7 +1,7 @@
 use Rattle.std.proofs.Common.{◌≡◌, true, false, not, map, Ok, arith, sym, ap, refl, ◌∙◌}
 use Rattle.cw_syntax.specs.Trees.{statement_of}
 use Rattle.std.proofs.lemmas.Result.{err_from_is_err_and}
-use Rattle.cw_grammar.specs.declared.words.Word.TheVariants as w
+use Rattle.cw_grammar.specs.declared.terminals.Terminal.TheVariants as w
 use Rattle.cw_expressions.specs.Cursor.{begins}
 use Rattle.cw_parse.specs.Lists.{one_more}
 use Rattle.cw_parse.proofs.Listed.{many_ends, many_fails, many_further}

@@ -8,7 +8,7 @@ use Rattle.cw_source_laws.proofs.Opening.{read_programs_assign}
 use Rattle.cw_points.specs.Graphs.{IsGraph}
 use Rattle.cw_echeck.specs.Checks.{fault_of}
 use Rattle.cw_product.specs.Product.{game_of}
-use Rattle.cw_trace.specs.Labels.{told}
+use Rattle.cw_trace.specs.Labels.{name_lists}
 use Rattle.cw_stages.specs.Stops.{file_in, source_of, told_of, whole_of}
 use Rattle.cw_stages.proofs.Made.{graph_over}
 use Rattle.cw_playing.specs.Playing.{IsPlayTold}
@@ -52,7 +52,7 @@ returns-in-Ok-clause-due g c =
     let played = c.in_ok-end-in-Ok.ensures.play source file graph (runnable (names_of policy) source file reads) (read_programs_assign source file reads) in
     let named = c.in_ok-names-in-Ok.ensures.names (names_of policy) (subst (IsGraph (names_of policy) source file) (sym c.graph.ensures) graph) in
     let due = told_of c.play_told.result in
-    let shown = play_is_told source policy file (game_of held) strategy tape (policy_of c.policy.result.now) (told c.in_ok-names-in-Ok.names)
+    let shown = play_is_told source policy file (game_of held) strategy tape (policy_of c.policy.result.now) (name_lists c.in_ok-names-in-Ok.names)
     c.in_ok-end-in-Ok.end c.begin-writer.result.text c.play_env.new.writer.text due
     (ap policy_of c.policy.ensures) c.begin-writer.ensures.text named played c.play_told.ensures.due in
     let play = subst (λ (p : PlainPolicy). IsPlayTold source p file (game_of held) strategy tape due) made.game.policy_is shown in

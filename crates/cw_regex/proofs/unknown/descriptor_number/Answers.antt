@@ -12,11 +12,11 @@ returns-then-eq c =
     let lt : c.loop-i.i < length ds = search rules in
     let at : get_or ds c.loop-i.i c.index-descriptors-i.result ≡ c.index-descriptors-i.result = search rules in
     let cut = drop_item ds c.loop-i.i c.index-descriptors-i.result lt at in
-    let is : bytes_eq c.args.word.now c.index-descriptors-i.result.name.items ≡ true = search rules in
-    found_here (drop c.loop-i.i ds) c.index-descriptors-i.result (drop (c.loop-i.i + 1) ds) c.args.word.now c.loop-i.i cut is _ c.loop-i.invariant ∙ sym (number_is (names_of ds) c.args.word.now)
+    let is : bytes_eq c.args.identifier.now c.index-descriptors-i.result.name.items ≡ true = search rules in
+    found_here (drop c.loop-i.i ds) c.index-descriptors-i.result (drop (c.loop-i.i + 1) ds) c.args.identifier.now c.loop-i.i cut is _ c.loop-i.invariant ∙ sym (number_is (names_of ds) c.args.identifier.now)
 
 pub returns : goal.returns
 returns c =
     let ds = c.args.descriptors.now in
     let far : length ds ≤ c.loop-i.i = search rules in
-    found_none (drop c.loop-i.i ds) c.args.word.now c.loop-i.i (drop_all c.loop-i.i ds far) _ c.loop-i.invariant ∙ sym (number_is (names_of ds) c.args.word.now)
+    found_none (drop c.loop-i.i ds) c.args.identifier.now c.loop-i.i (drop_all c.loop-i.i ds far) _ c.loop-i.invariant ∙ sym (number_is (names_of ds) c.args.identifier.now)

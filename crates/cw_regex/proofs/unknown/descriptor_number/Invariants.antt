@@ -5,4 +5,4 @@ use Rattle.cw_regex.specs.Meaning.{names_of}
 use Rattle.cw_regex.proofs.unknown.descriptor_number.Given as goal
 
 abbrev pub invariant-loop-i : goal.invariant-loop-i
-invariant-loop-i l = position_from (bytes_eq l.word) l.i (names_of (drop l.i l.descriptors)) ≡ position_from (bytes_eq l.word) 0 (names_of l.descriptors)
+invariant-loop-i l = position_from (bytes_eq l.identifier) l.i (names_of (drop l.i l.descriptors)) ≡ position_from (bytes_eq l.identifier) 0 (names_of l.descriptors)

@@ -3,7 +3,7 @@ use Rattle.std.specs.Str.{bytes_eq}
 use Rattle.cw_syntax.specs.declared.program.Function.{Function}
 use Rattle.cw_syntax.specs.Names.{text}
 use Rattle.cw_syntax.specs.Trees.{definition_of}
-use Rattle.cw_resolve.proofs.Places.{seeks_found, seeks_none, position_map}
+use Rattle.cw_resolve.proofs.Indices.{seeks_found, seeks_none, position_map}
 use Rattle.cw_resolve.proofs.names.function_named.Goals as goal
 
 pub returns-then-is_same : goal.returns-then-is_same

@@ -4,7 +4,7 @@ use Rattle.cw_rights.specs.Trees.{tree_of, seq_of, alt_of}
 use Rattle.cw_rights.specs.Plain.{plain, some_below, chain, cost}
 use Rattle.cw_rights.proofs.Rows.{cat_of, or_of}
 use Rattle.cw_rights.proofs.Along.{drop_item}
-use Rattle.cw_rights.proofs.Plainly.{cost_rises, star_piece, star_rest, star_ends, star_finds, cat_finds, if_some}
+use Rattle.cw_rights.proofs.Plainly.{cost_rises, star_factor, star_rest, star_ends, star_finds, cat_finds, if_some}
 use Rattle.cw_rights.proofs.plain.+plain.Goals as goal
 
 pub plain-plain_cat-requires : goal.plain-plain_cat-requires
@@ -58,7 +58,7 @@ plain_cat-returns-then-plain_cat t c =
 pub plain_star-plain-requires : goal.plain_star-plain-requires
 plain_star-plain-requires t c =
     let le : length (take (c.loop-i.i + 1) c.args.word.now) ≤ length c.args.word.now = grind (arith, length-take) in
-    let r = star_piece (tree_of c.args.body.now) _ _ le in
+    let r = star_factor (tree_of c.args.body.now) _ _ le in
     (omega (arith, c.decreases, r), tt)
 
 pub plain_star-plain_star-requires : goal.plain_star-plain_star-requires

@@ -3,10 +3,10 @@ use Rattle.std.specs.Prelude.{option_and_then}
 use Rattle.cw_product.specs.Product.{game_of}
 use Rattle.cw_states.specs.States.{lists_of, caps_at}
 use Rattle.cw_rights.specs.Policies.{PlainPolicy, policy_of}
-use Rattle.cw_trace.specs.Labels.{told}
+use Rattle.cw_trace.specs.Labels.{name_lists}
 use Rattle.cw_trace.specs.Told.{lines_at}
 use Rattle.cw_run.specs.Lines.{own_of}
-use Rattle.cw_run.specs.Walks.{here_of, wait_of, next_is, next_of, innermost, first_of, place_of, place_in, LandsAt}
+use Rattle.cw_run.specs.Walks.{here_of, wait_of, next_is, next_of, innermost, first_of, landing_of, landing_in, LandsAt}
 use Rattle.cw_run.proofs.Entries.{entered_by}
 use Rattle.cw_run.proofs.Waits.{first_leads}
 use Rattle.cw_run.proofs.run.answer.Goals as goal
@@ -29,7 +29,7 @@ returns-in-Some-clause-waits g c = c.follow.ensures.all (game_of c.args.game.now
 pub returns-in-Some-clause-answered : goal.returns-in-Some-clause-answered
 returns-in-Some-clause-answered g c =
     let gm = game_of c.args.game.now in
-    let names = told c.args.names.now in
+    let names = name_lists c.args.names.now in
     let h = here_of c.args.here in
     let waits = innermost c.args.waits.now.items in
     let spot = c.spot-spot.result in
@@ -48,7 +48,7 @@ returns-in-Some-clause-answered g c =
       record {
         waiting = c.follow.ensures.waiting;
         lands = subst
-            (λ l. LandsAt names gm c.args.table.now (caps_at (lists_of c.args.game.now.states)) (own_of None) (next_is c.in-Some.next) (place_of (next_is c.in-Some.next))
-            (place_in c.land.result) l c.land.new.writer.text) text c.land.ensures.lands;
+            (λ l. LandsAt names gm c.args.table.now (caps_at (lists_of c.args.game.now.states)) (own_of None) (next_is c.in-Some.next) (landing_of (next_is c.in-Some.next))
+            (landing_in c.land.result) l c.land.new.writer.text) text c.land.ensures.lands;
       },
     )

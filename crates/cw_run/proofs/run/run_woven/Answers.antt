@@ -5,10 +5,10 @@ use Rattle.cw_rights.specs.Policies.{policy_of}
 use Rattle.cw_resolve.specs.Scenes.{names_of}
 use Rattle.cw_syntax.specs.Trees.{file_of}
 use Rattle.cw_points.specs.Graphs.{IsGraph}
-use Rattle.cw_trace.specs.Labels.{told}
+use Rattle.cw_trace.specs.Labels.{name_lists}
 use Rattle.std.specs.Prelude.{IfSome}
 use Rattle.cw_product.specs.Product.{game_of}
-use Rattle.cw_run.specs.Walks.{IsPlace, place_in}
+use Rattle.cw_run.specs.Walks.{IsLanding, landing_in}
 use Rattle.cw_run.proofs.Entries.{few_after, room_for}
 use Rattle.cw_run.proofs.Looping.{loop_begun, loop_went, loop_bad, loop_past, loop_spent, loop_over}
 use Rattle.cw_run.proofs.run.run_woven.Goals as goal
@@ -17,7 +17,7 @@ pub loop-i-init : goal.loop-i-init
 loop-i-init g c =
     let q = c.requires in
     record {
-      run = loop_begun c.args.game.now c.args.checked.now.source.now (file_of c.args.checked.now.program) c.args.table.now (told c.in_ok-names.names) q.valid q.lists q.drawn q.runnable q.assigns q.good
+      run = loop_begun c.args.game.now c.args.checked.now.source.now (file_of c.args.checked.now.program) c.args.table.now (name_lists c.in_ok-names.names) q.valid q.lists q.drawn q.runnable q.assigns q.good
           c.begin.result c.in_ok-waits.waits.items _ _ c.begin.ensures.arrives c.begin.ensures.range c.in_ok-waits.ensures.items;
       few = omega (arith, c.in_ok-waits.ensures.len);
       room = omega (arith, c.in_ok-waits.ensures.capacity, c.entries.ensures);
@@ -35,7 +35,7 @@ returns-in-Over-clause-run g c =
     let e =
     c.in_ok-names.ensures.names (names_of (policy_of c.args.game.now.states.policy))
     (subst (λ gr. IsGraph (names_of (policy_of c.args.game.now.states.policy)) c.args.checked.now.source.now (file_of c.args.checked.now.program) gr) (sym c.graph.ensures) q.drawn) in
-    loop_past c.args.game.now c.args.checked.now.source.now (file_of c.args.checked.now.program) c.args.table.now (told c.in_ok-names.names) q.valid q.lists q.drawn q.runnable q.assigns q.good
+    loop_past c.args.game.now c.args.checked.now.source.now (file_of c.args.checked.now.program) c.args.table.now (name_lists c.in_ok-names.names) q.valid q.lists q.drawn q.runnable q.assigns q.good
     c.args.tape.now c.loop-i.i (get_or c.args.tape.now c.loop-i.i On) _ _ _ _ e c.loop-i-test.true (get_or_default c.args.tape.now c.loop-i.i _ _ c.loop-i-test.true) c.in-Over.is
     c.loop-i.invariant.run
 
@@ -45,7 +45,7 @@ returns-in-None-clause-run g c =
     let e =
     c.in_ok-names.ensures.names (names_of (policy_of c.args.game.now.states.policy))
     (subst (λ gr. IsGraph (names_of (policy_of c.args.game.now.states.policy)) c.args.checked.now.source.now (file_of c.args.checked.now.program) gr) (sym c.graph.ensures) q.drawn) in
-    loop_bad c.args.game.now c.args.checked.now.source.now (file_of c.args.checked.now.program) c.args.table.now (told c.in_ok-names.names) q.valid q.lists q.drawn q.runnable q.assigns q.good
+    loop_bad c.args.game.now c.args.checked.now.source.now (file_of c.args.checked.now.program) c.args.table.now (name_lists c.in_ok-names.names) q.valid q.lists q.drawn q.runnable q.assigns q.good
     c.args.tape.now c.loop-i.i _ c.in-At.here _ _ _ c.answer.new.waits.items _ _ _ e c.loop-i-test.true (get_or_default c.args.tape.now c.loop-i.i _ _ c.loop-i-test.true)
     c.in-At.is c.in-None.is
     c.loop-i.invariant.run c.answer.ensures.answered
@@ -54,10 +54,10 @@ pub loop-i-preserved : goal.loop-i-preserved
 loop-i-preserved g c =
     let q = c.requires in
     record {
-      run = loop_went c.args.game.now c.args.checked.now.source.now (file_of c.args.checked.now.program) c.args.table.now (told c.in_ok-names.names) q.valid q.lists q.drawn q.runnable q.assigns q.good
+      run = loop_went c.args.game.now c.args.checked.now.source.now (file_of c.args.checked.now.program) c.args.table.now (name_lists c.in_ok-names.names) q.valid q.lists q.drawn q.runnable q.assigns q.good
           c.args.tape.now c.loop-i.i _ c.in-At.here _ c.in-Some.next _ _ _ _ _ _ c.loop-i-test.true (get_or_default c.args.tape.now c.loop-i.i _ _ c.loop-i-test.true) c.in-At.is c.in-Some.is
           c.loop-i.invariant.run c.answer.ensures.answered
-          (subst (λ o. IfSome o (λ place. IsPlace (game_of c.args.game.now) (place_in place))) c.in-Some.is c.answer.ensures.range)
+          (subst (λ o. IfSome o (λ landing. IsLanding (game_of c.args.game.now) (landing_in landing))) c.in-Some.is c.answer.ensures.range)
           c.answer.ensures.waits;
       few = few_after c.args.tape.now c.loop-i.i _ _ _ c.loop-i-test.true (get_or_default c.args.tape.now c.loop-i.i _ _ c.loop-i-test.true)
           c.loop-i.invariant.few c.answer.ensures.length;
@@ -66,15 +66,15 @@ loop-i-preserved g c =
       follows = c.answer.ensures.follows;
     }
 
-pub returns-in-At-place-clause-run : goal.returns-in-At-place-clause-run
-returns-in-At-place-clause-run g c =
+pub returns-in-At-landing-clause-run : goal.returns-in-At-landing-clause-run
+returns-in-At-landing-clause-run g c =
     let q = c.requires in
     let e =
     c.in_ok-names.ensures.names (names_of (policy_of c.args.game.now.states.policy))
     (subst (λ gr. IsGraph (names_of (policy_of c.args.game.now.states.policy)) c.args.checked.now.source.now (file_of c.args.checked.now.program) gr) (sym c.graph.ensures) q.drawn) in
     let f = c.loop-i-test.false in
-    loop_spent c.args.game.now c.args.checked.now.source.now (file_of c.args.checked.now.program) c.args.table.now (told c.in_ok-names.names) q.valid q.lists q.drawn q.runnable q.assigns q.good
-    c.args.tape.now c.loop-i.i c.in-At-place.field-0 _ _ _ _ e (omega (arith, f)) c.in-At-place.is c.loop-i.invariant.run
+    loop_spent c.args.game.now c.args.checked.now.source.now (file_of c.args.checked.now.program) c.args.table.now (name_lists c.in_ok-names.names) q.valid q.lists q.drawn q.runnable q.assigns q.good
+    c.args.tape.now c.loop-i.i c.in-At-landing.field-0 _ _ _ _ e (omega (arith, f)) c.in-At-landing.is c.loop-i.invariant.run
 
 pub returns-clause-run : goal.returns-clause-run
 returns-clause-run g c =
@@ -83,5 +83,5 @@ returns-clause-run g c =
     c.in_ok-names.ensures.names (names_of (policy_of c.args.game.now.states.policy))
     (subst (λ gr. IsGraph (names_of (policy_of c.args.game.now.states.policy)) c.args.checked.now.source.now (file_of c.args.checked.now.program) gr) (sym c.graph.ensures) q.drawn) in
     let f = c.loop-i-test.false in
-    loop_over c.args.game.now c.args.checked.now.source.now (file_of c.args.checked.now.program) c.args.table.now (told c.in_ok-names.names) q.valid q.lists q.drawn q.runnable q.assigns q.good
-    c.args.tape.now c.loop-i.i _ _ _ _ e (omega (arith, f)) c.in-Over-place.is c.loop-i.invariant.run
+    loop_over c.args.game.now c.args.checked.now.source.now (file_of c.args.checked.now.program) c.args.table.now (name_lists c.in_ok-names.names) q.valid q.lists q.drawn q.runnable q.assigns q.good
+    c.args.tape.now c.loop-i.i _ _ _ _ e (omega (arith, f)) c.in-Over-landing.is c.loop-i.invariant.run

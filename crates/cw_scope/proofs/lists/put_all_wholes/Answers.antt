@@ -1,14 +1,14 @@
 use Rattle.std.proofs.Common.{map, refl}
 use Rattle.std.specs.List.{flat_map}
 use Rattle.cw_scope.specs.Walks.{wholes_of}
-use Rattle.cw_scope.specs.Held.{placed_of}
+use Rattle.cw_scope.specs.Held.{nested_of}
 use Rattle.cw_scope.proofs.Pushed.{further, all_gone}
 use Rattle.cw_scope.proofs.lists.put_all_wholes.Goals as goal
 
-pub loop-placed-preserved : goal.loop-placed-preserved
-loop-placed-preserved c =
-    let x = c.placed-item.result in
-    further (λ l. flat_map (λ p. wholes_of p.statement) (map placed_of l)) c.args.statements.now c.loop-placed.placed-index x _ _ (wholes_of (placed_of x).statement) _ c.loop-placed-test.true c.placed-item.is (λ ys. refl) (c.in_ok-put_wholes.ensures) c.loop-placed.invariant
+pub loop-nested-preserved : goal.loop-nested-preserved
+loop-nested-preserved c =
+    let x = c.nested-item.result in
+    further (λ l. flat_map (λ p. wholes_of p.statement) (map nested_of l)) c.args.statements.now c.loop-nested.nested-index x _ _ (wholes_of (nested_of x).statement) _ c.loop-nested-test.true c.nested-item.is (λ ys. refl) (c.in_ok-put_wholes.ensures) c.loop-nested.invariant
 
 pub returns : goal.returns
-returns c = all_gone (λ l. flat_map (λ p. wholes_of p.statement) (map placed_of l)) c.args.statements.now c.loop-placed.placed-index _ _ refl c.loop-placed-test.false c.loop-placed.invariant
+returns c = all_gone (λ l. flat_map (λ p. wholes_of p.statement) (map nested_of l)) c.args.statements.now c.loop-nested.nested-index _ _ refl c.loop-nested-test.false c.loop-nested.invariant

@@ -1,7 +1,7 @@
 use Rattle.std.proofs.Common.{◌∙◌, ◌≤◌, Bool, length, List, ℕ, sym, arith}
 use Rattle.std.specs.Borrow.{Bor}
 use Rattle.std.specs.Str.{bytes_eq}
-use Rattle.cw_resolve.proofs.Places.{seeks_here, seeks_none, position_map}
+use Rattle.cw_resolve.proofs.Indices.{seeks_here, seeks_none, position_map}
 use Rattle.cw_slots.specs.Texts.{text_at}
 use Rattle.cw_slots.proofs.names.number_in.Goals as goal
 

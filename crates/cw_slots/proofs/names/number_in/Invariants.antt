@@ -1,5 +1,5 @@
 use Rattle.std.specs.Str.{bytes_eq}
-use Rattle.cw_resolve.proofs.Places.{Seeks}
+use Rattle.cw_resolve.proofs.Indices.{Seeks}
 use Rattle.cw_slots.specs.Texts.{text_at}
 use Rattle.cw_slots.proofs.names.number_in.Given as goal
 

@@ -5,7 +5,7 @@ use Rattle.cw_game.specs.Pairs.{has}
 use Rattle.cw_product.specs.Product.{game_of}
 use Rattle.cw_solve.specs.declared.contexts.Context.{Context}
 use Rattle.cw_solve.specs.Contexts.{context}
-use Rattle.cw_solve.proofs.Calling.{back_cell, callee_there, callee_cell, call_missing, call_asked, call_holds, place_is, place_none}
+use Rattle.cw_solve.proofs.Calling.{back_cell, callee_there, callee_cell, call_missing, call_asked, call_holds, index_is, index_none}
 use Rattle.cw_solve.proofs.Tabling.{same_context}
 use Rattle.cw_solve.proofs.look.call_holds.Goals as goal
 
@@ -33,8 +33,8 @@ holds-requires-clause-cell c =
     let set = c.promised-promise.result in
     let i = c.in-Some.number in
     let found : position (λ (x : Context). nat_eq x.function f && nat_eq x.promise set) contexts ≡ Some i
-    = sym (c.in-Some.ensures.place ∙ ap (position (λ (x : Context). nat_eq x.function f && nat_eq x.promise set)) c.deref.ensures.value) in
-    let at = place_is contexts f set i found in
+    = sym (c.in-Some.ensures.index ∙ ap (position (λ (x : Context). nat_eq x.function f && nat_eq x.promise set)) c.deref.ensures.value) in
+    let at = index_is contexts f set i found in
     let callee = c.numbered-callee.result in
     let same = same_context b callee i (context f set) c.numbered-callee.ensures.number c.numbered-callee.ensures.there at in
     rw c.entry.ensures.is (callee_cell g functions c.requires.routed b c.requires.table.blocks c.args.pos.0 c.args.state.0 f c.args.back.0 c.args.split callee
@@ -51,7 +51,7 @@ returns-in-None-clause-missing c =
     let set = c.promised-promise.result in
     call_missing g functions c.requires.routed b c.requires.table.blocks c.args.at.now c.args.n c.args.pos.0 c.args.state.0 f c.args.back.0 set c.args.split c.requires.cell c.requires.call
     c.promised-promise.ensures
-    (place_none contexts f set (sym (c.in-None.ensures.place ∙ ap (position (λ (x : Context). nat_eq x.function f && nat_eq x.promise set)) c.deref.ensures.value)))
+    (index_none contexts f set (sym (c.in-None.ensures.index ∙ ap (position (λ (x : Context). nat_eq x.function f && nat_eq x.promise set)) c.deref.ensures.value)))
 
 pub returns-in-Some-clause-holds : goal.returns-in-Some-clause-holds
 returns-in-Some-clause-holds c =
@@ -63,8 +63,8 @@ returns-in-Some-clause-holds c =
     let set = c.promised-promise.result in
     let i = c.in-Some.number in
     let found : position (λ (x : Context). nat_eq x.function f && nat_eq x.promise set) contexts ≡ Some i
-    = sym (c.in-Some.ensures.place ∙ ap (position (λ (x : Context). nat_eq x.function f && nat_eq x.promise set)) c.deref.ensures.value) in
-    let at = place_is contexts f set i found in
+    = sym (c.in-Some.ensures.index ∙ ap (position (λ (x : Context). nat_eq x.function f && nat_eq x.promise set)) c.deref.ensures.value) in
+    let at = index_is contexts f set i found in
     let same = same_context b c.numbered-callee.result i (context f set) c.numbered-callee.ensures.number c.numbered-callee.ensures.there at in
     c.holds.ensures ∙ ap₂ (λ (p : ℕ) (x : Context). Holds g c.args.n p c.args.state.0 (has x.promise)) c.entry.ensures.is same
     ∙ call_holds g functions c.requires.routed b c.requires.table.blocks c.args.at.now c.args.n c.args.pos.0 c.args.state.0 f c.args.back.0 set c.args.split c.requires.cell c.requires.call
@@ -80,6 +80,6 @@ returns-in-Some-clause-asked c =
     let set = c.promised-promise.result in
     let i = c.in-Some.number in
     let found : position (λ (x : Context). nat_eq x.function f && nat_eq x.promise set) contexts ≡ Some i
-    = sym (c.in-Some.ensures.place ∙ ap (position (λ (x : Context). nat_eq x.function f && nat_eq x.promise set)) c.deref.ensures.value) in
+    = sym (c.in-Some.ensures.index ∙ ap (position (λ (x : Context). nat_eq x.function f && nat_eq x.promise set)) c.deref.ensures.value) in
     call_asked g functions c.requires.routed b c.requires.table.blocks c.args.at.now c.args.n c.args.pos.0 c.args.state.0 f c.args.back.0 set i c.args.split c.requires.call
-    c.promised-promise.ensures (place_is contexts f set i found)
+    c.promised-promise.ensures (index_is contexts f set i found)

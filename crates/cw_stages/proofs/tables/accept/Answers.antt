@@ -20,11 +20,11 @@ returns-in-Ok-clause-graph c =
 
 pub returns-in-Ok-clause-points : goal.returns-in-Ok-clause-points
 returns-in-Ok-clause-points c =
-    nodes_few (names_of (policy_of c.args.policy.now)) c.args.opened.now.source.items
+    nodes_few (names_of (policy_of c.args.policy.now)) c.args.unwoven.now.source.items
     (file_of c.in-Ok.accepted.checked.program) c.in-Ok.accepted.graph c.in-Ok.ensures.graph c.in-Ok.ensures.reads.accepted.few
 
 pub returns-in-Ok-clause-few : goal.returns-in-Ok-clause-few
-returns-in-Ok-clause-few c = few_rows (policy_of c.args.policy.now) c.requires.opened.has.lines c.args.opened.now.table c.requires.opened.has.spells
+returns-in-Ok-clause-few c = few_rows (policy_of c.args.policy.now) c.requires.unwoven.has.lines c.args.unwoven.now.table c.requires.unwoven.has.spells
 
 pub returns-in-Err-clause-stop : goal.returns-in-Err-clause-stop
-returns-in-Err-clause-stop c = λ due d. (c.args.opened.now.source.items, c.in-Err.fault, c.in-Err.ensures.fault, d.0, d.1)
+returns-in-Err-clause-stop c = λ due d. (c.args.unwoven.now.source.items, c.in-Err.fault, c.in-Err.ensures.fault, d.0, d.1)

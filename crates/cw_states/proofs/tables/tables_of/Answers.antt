@@ -6,7 +6,7 @@ use Rattle.cw_rights.specs.declared.policy.Policy.{Policy}
 use Rattle.cw_rights.specs.Policies.{policy_of, descriptor_of}
 use Rattle.cw_states.specs.declared.acts.Act.TheVariants.{Granted, Opened, Closed}
 use Rattle.cw_states.specs.States.{Lists, lists_of}
-use Rattle.cw_states.specs.Tables.{places_after, entries, tabled}
+use Rattle.cw_states.specs.Tables.{indices_after, entries, tabled}
 use Rattle.cw_states.proofs.tables.tables_of.Goals as goal
 
 pub returns : goal.returns
@@ -25,8 +25,8 @@ returns c =
     record {
       entered = c.in_ok-entered.ensures;
       split = c.in_ok-split.ensures;
-      limited = c.in_ok-limited.ensures ∙ ap (map (λ (limit : ALimit). places_after v (Granted (Limit limit)))) limits;
-      opened = c.in_ok-opened.ensures ∙ ap (tabled (λ d. places_after v (Opened d))) (first ∙ size);
-      closed = c.in_ok-closed.ensures ∙ ap (tabled (λ d. places_after v (Closed d))) (second ∙ size);
+      limited = c.in_ok-limited.ensures ∙ ap (map (λ (limit : ALimit). indices_after v (Granted (Limit limit)))) limits;
+      opened = c.in_ok-opened.ensures ∙ ap (tabled (λ d. indices_after v (Opened d))) (first ∙ size);
+      closed = c.in_ok-closed.ensures ∙ ap (tabled (λ d. indices_after v (Closed d))) (second ∙ size);
       lettered = c.in_ok-lettered.ensures ∙ ap (λ n. tabled (entries v) (n + 1)) (third ∙ labels);
     }

@@ -1,4 +1,4 @@
--- A word that no answer spells leaves no row.
+-- A field that no answer spells leaves no row.
 use Rattle.cw_table_text.proofs.RowLines.{behind_first}
 use Rattle.cw_table_text.proofs.fields.take_try.Goals as goal
 

@@ -1,4 +1,4 @@
-use Rattle.cw_text.proofs.Fields.{the_empty_set}
+use Rattle.cw_text.proofs.FieldTexts.{the_empty_set}
 use Rattle.cw_text.proofs.field.spelled_of.Goals as goal
 
 pub returns-then-is_no_member : goal.returns-then-is_no_member

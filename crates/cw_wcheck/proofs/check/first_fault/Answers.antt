@@ -1,7 +1,7 @@
 -- Part by part.
 use Rattle.std.proofs.Common.{option_map, sym, ap, ◌∙◌}
 use Rattle.cw_product.specs.Product.{game_of}
-use Rattle.cw_wcheck.specs.Checking.{told}
+use Rattle.cw_wcheck.specs.Checking.{numbered}
 use Rattle.cw_game.proofs.Goods.{in_ranges}
 use Rattle.cw_wcheck.proofs.Faults.{mean_states}
 use Rattle.cw_wcheck.proofs.Lives.{all_positions, all_ranges, fault_in_ranges, fault_at_start, fault_in_rows}
@@ -29,4 +29,4 @@ pub returns : goal.returns
 returns c =
     let none = all_ranges (game_of c.args.game.now) c.args.cert.now c.range_fault.result c.range_fault.ensures c.in_default.is in
     c.row_fault.ensures
-    ∙ sym (ap (option_map told) (fault_in_rows (game_of c.args.game.now) c.args.cert.now (sym c.is_header.ensures ∙ c.if-not-is_header.false) none (sym c.begins.ensures ∙ c.if-not-begins.false)))
+    ∙ sym (ap (option_map numbered) (fault_in_rows (game_of c.args.game.now) c.args.cert.now (sym c.is_header.ensures ∙ c.if-not-is_header.false) none (sym c.begins.ensures ∙ c.if-not-begins.false)))

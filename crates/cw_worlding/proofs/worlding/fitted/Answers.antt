@@ -2,7 +2,7 @@ use Rattle.std.proofs.Common.{map, inl, inr, subst}
 use Rattle.std.proofs.lemmas.Result.{err_from_is_err_and}
 use Rattle.cw_rights.specs.Policies.{PlainPolicy}
 use Rattle.cw_product.specs.Product.{game_of}
-use Rattle.cw_procs.specs.Played.{word_of}
+use Rattle.cw_procs.specs.Played.{entry_of}
 use Rattle.cw_stages.specs.Games.{WhereWovenFits}
 use Rattle.cw_stages.specs.Stops.{file_in, source_of, whole_of, Answers}
 use Rattle.cw_stages.proofs.Answering.{weaker}
@@ -39,7 +39,7 @@ returns-clause-due g c =
     let held = c.in_ok-game.game in
     let made = c.in_ok-game.ensures in
     let table = c.args.table.now in
-    let tape = map word_of c.args.steps.now in
+    let tape = map entry_of c.args.steps.now in
     let due = subst (λ (p : PlainPolicy). Answers p source (IsWorldShownBy source p file table tape (game_of held)) c.judged.result) made.game.policy_is c.judged.ensures.due in
     weaker whole source (IsWorldShownBy source whole file table tape (game_of held)) (WhereWovenFits (IsWorldShown source whole file table tape) source whole file) c.judged.result
     (λ due h. inr (c.in_ok-fits.ensures.fits, c.args.graph.now, c.requires.graph, inr (held, made.game, made.made, made.is_game, world_shown_for source whole file table tape (game_of held) due h))) due

@@ -1,5 +1,5 @@
 use Rattle.std.proofs.Common.{map, inr, arith}
-use Rattle.cw_procs.specs.Played.{word_of}
+use Rattle.cw_procs.specs.Played.{entry_of}
 use Rattle.cw_stages.specs.Games.{WhereWovenFits}
 use Rattle.cw_stages.specs.Stops.{file_in, source_of, whole_of}
 use Rattle.cw_stages.proofs.Answering.{ended_due}
@@ -16,7 +16,7 @@ returns-in-Ok-clause-due g c =
     let whole = whole_of c.args.reading.now in
     let source = source_of c.args.reading.now in
     let file = file_in c.args.reading.now in
-    let list = map word_of c.in-Ok.list.items in
+    let list = map entry_of c.in-Ok.list.items in
     let due = rw c.deref.ensures.value at c.fitted.ensures.due in
     let d = ended_due whole source (WhereWovenFits (IsWorldShown source whole file c.args.table.now list) source whole file) c.fitted.result c.ended.result c.ended.ensures.ended due in
     if_ok c.ended.result d (λ o h. inr (c.in-Ok.list.items, c.in-Ok.ensures.spells, h))

@@ -5,7 +5,7 @@ use Rattle.cw_stages.proofs.Refusing.{if_ok}
 use Rattle.cw_worlding.proofs.worlding.world_due.Goals as goal
 
 pub returns-in-Ok-clause-due : goal.returns-in-Ok-clause-due
-returns-in-Ok-clause-due g c = if_ok c.opened.result c.opened.ensures.due (λ o d. inr (policy_of c.in-Ok.whole, c.in-Ok.ensures.policy, d))
+returns-in-Ok-clause-due g c = if_ok c.unwoven.result c.unwoven.ensures.due (λ o d. inr (policy_of c.in-Ok.whole, c.in-Ok.ensures.policy, d))
 
 pub returns-in-Err-clause-puts : goal.returns-in-Err-clause-puts
 returns-in-Err-clause-puts g c = unput g.O.Sink.taken g.O.Sink.faults g.O.Sink.refused c.args.out.now c.policy_refusal.result c.policy_refusal.ensures.refused

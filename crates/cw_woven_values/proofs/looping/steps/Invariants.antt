@@ -16,9 +16,9 @@ invariant-loop-i l =
     record {
       below : l.i ≤ most_steps;
       few : l.tries.made ≤ 14 * l.i;
-      here : IsHere (game_of l.game) (here_of l.place.here);
+      here : IsHere (game_of l.game) (here_of l.stand.here);
       waits : All (λ w. IsWait (game_of l.game) (wait_of w)) l.waits.items;
       leads : (w : IsWoven l.game (source_in l.run.known.source) l.table) (woven : Going) → IsRunOf (policy_of l.game.states.policy) l.run
           → StandsWoven l.game (source_in l.run.known.source) l.table w l.fn.start l.initial.m [] l.initial.tries.left.now l.initial.tries.made woven
-          → Leads l.game (source_in l.run.known.source) l.table w l.place l.m (map wait_of l.waits.items) l.tries.left.now l.tries.made woven (most_steps - l.i);
+          → Leads l.game (source_in l.run.known.source) l.table w l.stand l.m (map wait_of l.waits.items) l.tries.left.now l.tries.made woven (most_steps - l.i);
     }

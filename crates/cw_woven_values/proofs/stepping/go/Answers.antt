@@ -7,14 +7,14 @@ use Rattle.cw_run.specs.Walks.{Here, Wait, here_of, next_is, next_of, wait_of, w
 use Rattle.cw_value.specs.Runs.{move_of}
 use Rattle.cw_eval.specs.Passings.{way_in}
 use Rattle.cw_starts.specs.Sources.{source_in}
-use Rattle.cw_woven_values.specs.declared.stepping.Place.{Place}
+use Rattle.cw_woven_values.specs.declared.stepping.Stand.{Stand}
 use Rattle.cw_woven_values.specs.Stepping.{Steps}
 use Rattle.cw_woven_values.proofs.Stepped.{Led, stops, never_stuck, goes_on, together}
 use Rattle.cw_woven_values.proofs.stepping.go.Goals as goal
 
 pub returns-in-Err-clause-steps : goal.returns-in-Err-clause-steps
 returns-in-Err-clause-steps c = λ w left made plain woven is_run st on free.
-    stops c.args.game.now (source_in c.args.run.now.known.source) c.args.table.now w left made plain woven (here_of c.args.place.here)
+    stops c.args.game.now (source_in c.args.run.now.known.source) c.args.table.now w left made plain woven (here_of c.args.stand.here)
     (map wait_of c.args.waits.now.items) on free c.in-Err.halt c.advance.new.m
     (map wait_of c.args.waits.now.items) (c.in-Err.ensures (policy_of c.args.game.now.states.policy) plain is_run st)
 
@@ -24,7 +24,7 @@ returns-in-None-clause-steps c = λ w left made plain woven is_run st on free.
     let s = source_in c.args.run.now.known.source in
     let t = c.args.table.now in
     let g = game_of h in
-    let here = here_of c.args.place.here in
+    let here = here_of c.args.stand.here in
     let waits = map wait_of c.args.waits.now.items in
     let way = way_in c.in-Ok.onward.way in
     let a = c.in-Ok.ensures (policy_of h.states.policy) plain is_run st in
@@ -41,7 +41,7 @@ returns-in_ok-follow-in-Some-clause-steps c = λ w left made plain woven is_run 
     let s = source_in c.args.run.now.known.source in
     let t = c.args.table.now in
     let g = game_of h in
-    let here = here_of c.args.place.here in
+    let here = here_of c.args.stand.here in
     let waits = map wait_of c.args.waits.now.items in
     let way = way_in c.in-Ok.onward.way in
     let a = c.in-Ok.ensures (policy_of h.states.policy) plain is_run st in
@@ -53,11 +53,11 @@ returns-in_ok-follow-in-Some-clause-steps c = λ w left made plain woven is_run 
     c.lead_over.ensures.is ∙ ap (λ (b : Move). next_of g t here waits spot b) c.move_of-by.ensures
     in
     let k = goes_on h s t w left made plain woven here waits on free way a.0 m point a.1 a.3 spot n (sym c.spot-spot.ensures) (sym led ∙ ap (option_map next_is) c.in-Some.is) in
-    let there = subst (λ (o : Option Here). Led h s t w left made plain woven here waits on free way a.0 m point a.1 a.3 o (waits_after n waits)) (sym c.place_of.ensures.is) k in
-    let all = subst (λ (ws : List Wait). Led h s t w left made plain woven here waits on free way a.0 m point a.1 a.3 (option_map here_of c.place_of.result) ws)
+    let there = subst (λ (o : Option Here). Led h s t w left made plain woven here waits on free way a.0 m point a.1 a.3 o (waits_after n waits)) (sym c.landing_of.ensures.is) k in
+    let all = subst (λ (ws : List Wait). Led h s t w left made plain woven here waits on free way a.0 m point a.1 a.3 (option_map here_of c.landing_of.result) ws)
     (sym c.in_ok-follow-in-Some.ensures.waiting) there in
-    subst (λ (o : Option Place). Steps h s t w (map wait_of c.follow.new.waits.items) left made woven m (Ok o)) (sym c.together.ensures)
-    (together h s t w left made plain woven here waits on free way a.0 m point a.1 a.3 c.place_of.result (map wait_of c.follow.new.waits.items) all)
+    subst (λ (o : Option Stand). Steps h s t w (map wait_of c.follow.new.waits.items) left made woven m (Ok o)) (sym c.together.ensures)
+    (together h s t w left made plain woven here waits on free way a.0 m point a.1 a.3 c.landing_of.result (map wait_of c.follow.new.waits.items) all)
 
 pub returns-in_err-follow-in-Some-clause-waits : goal.returns-in_err-follow-in-Some-clause-waits
 returns-in_err-follow-in-Some-clause-waits c = c.follow.ensures.all (game_of c.args.game.now) c.in-Some.ensures.range c.requires.waits

@@ -1,6 +1,6 @@
 use Rattle.std.proofs.Common.{◌≡◌, ◌++◌, arith, ◌∙◌, refl}
 use Rattle.std.specs.Fmt.{decimal}
-use Rattle.cw_core.proofs.RunTexts.{after_first, after_mark, lone_put, long_put, between}
+use Rattle.cw_core.proofs.RunTexts.{after_first, after_prefix, lone_put, long_put, between}
 use Rattle.cw_core.proofs.line.Line.put_run.Goals as goal
 
 pub put_text-requires : goal.put_text-requires
@@ -13,7 +13,7 @@ pub put_number-requires-then-least-greatest : goal.put_number-requires-then-leas
 put_number-requires-then-least-greatest c =
     let first : c.put_number.new.self ≡ (c.args.self.now ++ between c.args.self.now) ++ decimal c.args.least = c.put_number.ensures.text ∙ rw (c.put_plus.ensures.text, c.from.ensures) refl in
     let left = after_first c.args.self.now c.put_number.new.self c.args.least first (omega (arith, c.requires.up, c.requires.below)) c.requires.room in
-    record { room = after_mark c.put_number.new.self c.put_text.new.self c.put_text.ensures.text left }
+    record { room = after_prefix c.put_number.new.self c.put_text.new.self c.put_text.ensures.text left }
 
 pub returns-then-least-greatest : goal.returns-then-least-greatest
 returns-then-least-greatest c =

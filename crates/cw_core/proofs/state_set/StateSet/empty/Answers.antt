@@ -1,5 +1,5 @@
 use Rattle.std.proofs.Common.{refl}
-use Rattle.cw_core.specs.Words.{number_of}
+use Rattle.cw_core.specs.Limbs.{number_of}
 use Rattle.cw_core.proofs.Sets.{has-zero}
 use Rattle.cw_core.proofs.state_set.StateSet.empty.Goals as goal
 

@@ -1,10 +1,10 @@
 use Rattle.std.proofs.Common.{arith}
 use Rattle.cw_core.proofs.Bits.{has-insert, with_bit-lt}
-use Rattle.cw_core.proofs.Words.{AreSixteenWords-set}
+use Rattle.cw_core.proofs.Limbs.{AreSixteenLimbs-set}
 use Rattle.cw_core.proofs.state_set.StateSet.insert.Goals as goal
 
 pub invariant_of-self : goal.invariant_of-self
-invariant_of-self c = AreSixteenWords-set c.self.inside.words _ _ c.self.invariant (with_bit-lt c.self.inside.words c.args.s.0 c.self.invariant.0)
+invariant_of-self c = AreSixteenLimbs-set c.self.inside.limbs _ _ c.self.invariant (with_bit-lt c.self.inside.limbs c.args.s.0 c.self.invariant.0)
 
 pub returns : goal.returns
-returns c = record { members = λ i. rw (← c.self.view_is) (has-insert c.self.inside.words c.args.s.0 c.self.invariant.0 (omega (arith, c.self.told)) i) }
+returns c = record { members = λ i. rw (← c.self.view_is) (has-insert c.self.inside.limbs c.args.s.0 c.self.invariant.0 (omega (arith, c.self.told)) i) }

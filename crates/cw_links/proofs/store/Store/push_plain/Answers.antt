@@ -7,9 +7,9 @@ pub invariant_of-self-2 : goal.invariant_of-self-2
 invariant_of-self-2 c =
     let s = c.self.inside in
     let keys = c.push_cells.new.self in
-    let view = ap (λ (v : Stored). length v.marks) c.self.view_is in
+    let view = ap (λ (v : Stored). length v.flags) c.self.view_is in
     subst (λ (ms : List Bool). AreStored ms keys s.callers s.waves.items) (sym c.in_ok-push_plain.ensures.pushed)
-    (plain_stored s.marks s.keys keys s.callers s.waves.items c.args.many c.self.invariant
+    (plain_stored s.flags s.keys keys s.callers s.waves.items c.args.many c.self.invariant
     (c.push_cells.ensures.asked ∙ ap (λ (xs : List ℕ). xs ++ replicate c.args.many 0) c.reserve_cells.ensures.asked)
     (c.push_cells.ensures.due ∙ c.reserve_cells.ensures.due)
     (omega (arith, view, c.requires)))
@@ -20,8 +20,8 @@ returns-clause-pushed c =
     let keys = c.push_cells.new.self in
     let many = c.args.many in
     subst (λ (v : Stored). PushesPlain v (stored c.push_plain.new.self keys s.callers s.waves.items) many) c.self.view_is
-    (subst (λ (ms : List Bool). PushesPlain (stored s.marks s.keys s.callers s.waves.items) (stored ms keys s.callers s.waves.items) many) (sym c.in_ok-push_plain.ensures.pushed)
-    (plain_at s.marks s.keys keys s.callers s.waves.items many c.self.invariant
+    (subst (λ (ms : List Bool). PushesPlain (stored s.flags s.keys s.callers s.waves.items) (stored ms keys s.callers s.waves.items) many) (sym c.in_ok-push_plain.ensures.pushed)
+    (plain_at s.flags s.keys keys s.callers s.waves.items many c.self.invariant
     (c.push_cells.ensures.asked ∙ ap (λ (xs : List ℕ). xs ++ replicate many 0) c.reserve_cells.ensures.asked)
     (c.push_cells.ensures.due ∙ c.reserve_cells.ensures.due)
     (c.push_cells.ensures.heights ∙ ap (λ (xs : List ℕ). xs ++ replicate many 0) c.reserve_cells.ensures.heights)))

@@ -1,27 +1,27 @@
 use Rattle.std.proofs.Common.{◌≡◌, ℕ, true, false, sym, ap, ◌∙◌, arith}
 use Rattle.std.specs.Prelude.{slice_index}
-use Rattle.cw_links.specs.Marks.{is_marked}
+use Rattle.cw_links.specs.Flags.{is_flagged}
 use Rattle.cw_links.proofs.Ranks.{rank_below}
-use Rattle.cw_links.proofs.Spreads.{spread_marked, spread_not_marked}
+use Rattle.cw_links.proofs.Spreads.{spread_flagged, spread_not_flagged}
 use Rattle.cw_links.specs.Stores.{Stored}
 use Rattle.cw_links.proofs.store.Store.to.Goals as goal
 
 pub to-requires : goal.to-requires
 to-requires c =
     let s = c.self.inside in
-    let marked : is_marked s.marks c.args.place ≡ true = sym c.is_marked.ensures ∙ c.if-is_marked.true in
-    let below = rank_below s.marks c.args.place marked in
+    let flagged : is_flagged s.flags c.args.index ≡ true = sym c.is_flagged.ensures ∙ c.if-is_flagged.true in
+    let below = rank_below s.flags c.args.index flagged in
     omega (arith, below, c.rank.ensures, c.self.invariant.lists_of_links)
 
-pub returns-then-is_marked : goal.returns-then-is_marked
-returns-then-is_marked c =
+pub returns-then-is_flagged : goal.returns-then-is_flagged
+returns-then-is_flagged c =
     let s = c.self.inside in
-    let marked : is_marked s.marks c.args.place ≡ true = sym c.is_marked.ensures ∙ c.if-is_marked.true in
-    c.to.ensures ∙ ap (λ (y : ℕ). slice_index s.callers.to y) c.rank.ensures ∙ sym (spread_marked s.marks s.callers.to c.args.place marked)
-    ∙ ap (λ (v : Stored). slice_index v.to c.args.place) c.self.view_is
+    let flagged : is_flagged s.flags c.args.index ≡ true = sym c.is_flagged.ensures ∙ c.if-is_flagged.true in
+    c.to.ensures ∙ ap (λ (y : ℕ). slice_index s.callers.to y) c.rank.ensures ∙ sym (spread_flagged s.flags s.callers.to c.args.index flagged)
+    ∙ ap (λ (v : Stored). slice_index v.to c.args.index) c.self.view_is
 
-pub returns-else-is_marked : goal.returns-else-is_marked
-returns-else-is_marked c =
+pub returns-else-is_flagged : goal.returns-else-is_flagged
+returns-else-is_flagged c =
     let s = c.self.inside in
-    let not_marked : is_marked s.marks c.args.place ≡ false = sym c.is_marked.ensures ∙ c.if-is_marked.false in
-    sym (spread_not_marked s.marks s.callers.to c.args.place not_marked) ∙ ap (λ (v : Stored). slice_index v.to c.args.place) c.self.view_is
+    let not_flagged : is_flagged s.flags c.args.index ≡ false = sym c.is_flagged.ensures ∙ c.if-is_flagged.false in
+    sym (spread_not_flagged s.flags s.callers.to c.args.index not_flagged) ∙ ap (λ (v : Stored). slice_index v.to c.args.index) c.self.view_is

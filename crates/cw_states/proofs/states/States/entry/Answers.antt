@@ -7,8 +7,8 @@ look-requires-clause-column c =
     (entry_seen c.self.inside.pairs c.args.self.now c.self.view_is c.self.inside.tables c.self.invariant c.deref.result.now c.args.label
     c.args.state.0 c.deref.ensures.value c.requires.label c.requires.state).0
 
-pub look-requires-clause-place : goal.look-requires-clause-place
-look-requires-clause-place c =
+pub look-requires-clause-index : goal.look-requires-clause-index
+look-requires-clause-index c =
     (entry_seen c.self.inside.pairs c.args.self.now c.self.view_is c.self.inside.tables c.self.invariant c.deref.result.now c.args.label
     c.args.state.0 c.deref.ensures.value c.requires.label c.requires.state).1
 

@@ -1,6 +1,0 @@
-use Rattle.std.proofs.Common.{map, take}
-use Rattle.cw_lazy_table.specs.Places.{memory_of, AreOf}
-use Rattle.cw_lazy_table.proofs.place.memories_of.Given as goal
-
-abbrev pub invariant-loop-key : goal.invariant-loop-key
-invariant-loop-key l = AreOf (map memory_of (take l.key-index l.keys)) l.memories.items

@@ -1,7 +1,0 @@
-use Rattle.cw_solve.proofs.Placed.{is_nowhere, where_none}
-use Rattle.cw_solve.proofs.places.Places.find.Goals as goal
-
-pub returns-clause-none : goal.returns-clause-none
-returns-clause-none c =
-    where_none c.find_among.result c.find_among.ensures.none
-    (is_nowhere c.args.self.now c.args.contexts.now c.args.function c.args.promise.now c.list.result.now c.list.ensures)
