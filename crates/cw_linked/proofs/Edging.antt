@@ -1,8 +1,7 @@
 -- The lists of what waits for pairs, and of what returns to positions, grow by one.
-use Rattle.std.proofs.Common.{◌≡◌, ℕ, suc, ◌+◌, ◌<◌, ◌≤◌, List, [], ◌∷◌, ◌++◌, Bool, true, Option, Some, None, length, refl, sym, ap, ◌∙◌, subst, arith, inl, inr}
-use Rattle.std.specs.Prelude.{◌⊎◌, slice_get, Contains}
-use Rattle.std.proofs.lemmas.Bool.{cases_eq, cases_lt, false≢true}
-use Rattle.std.proofs.lemmas.List.{length_push}
+use Rattle.std.proofs.Common.{◌≡◌, ℕ, ◌+◌, ◌<◌, ◌≤◌, List, [], ◌∷◌, ◌++◌, Bool, true, Option, Some, None, length, sym, ap, ◌∙◌, subst, arith, inl, inr}
+use Rattle.std.specs.Prelude.{◌⊎◌, slice_get}
+use Rattle.std.proofs.lemmas.Bool.{cases_lt, false≢true}
 use Rattle.std.proofs.lemmas.Option.{same_Some, none-some}
 use Rattle.cw_lemmas.proofs.Lists.{get_last}
 use Rattle.cw_core.specs.declared.ids.PosId.{PosId}
@@ -11,9 +10,9 @@ use Rattle.cw_game.specs.declared.spots.Spot.{Spot}
 use Rattle.cw_game.specs.Games.{Game}
 use Rattle.cw_game.specs.Pairs.{Called, call_in}
 use Rattle.cw_links.specs.Flat.{AreRowsOf}
-use Rattle.cw_links.specs.Lists.{Chained, list_at, with_front}
-use Rattle.cw_links.proofs.CallerLemmas.{length-with_front, list_at-with_front_same, list_at-with_front_other}
+use Rattle.cw_links.specs.Lists.{Chained, with_front}
 use Rattle.cw_links.proofs.FlatRows.{as_many_rows, value_in, value_from}
+use Rattle.cw_links.proofs.Linking.{lists_kept, one_more, still_in, front_in}
 use Rattle.cw_product.specs.Moves.{pos_id, next_at}
 use Rattle.cw_product.specs.MovesAt.{first_move, second_move}
 use Rattle.cw_linked.specs.declared.edges.Pair.{Pair}
@@ -26,31 +25,11 @@ use Rattle.cw_linked.proofs.Adding.{before_push, push_cases}
 -- a new link in front of a list
 module _ {T : Type 0} (old new : Chained T) (list : ℕ) (v : T) (lists : new.lists ≡ with_front old.lists list (length old.values)) (values : new.values ≡ old.values ++ v ∷ [])
     (within : list < length old.lists) where
-  pub lists_kept : length new.lists ≡ length old.lists
-  lists_kept = ap (λ (ls : List (List ℕ)). length ls) lists ∙ length-with_front old.lists list (length old.values)
-
-  pub one_more : length new.values ≡ length old.values + 1
-  one_more = ap (λ (vs : List T). length vs) values ∙ length_push old.values v
-
-  pub still_in : (l edge : ℕ) → Contains (list_at old.lists l) edge → Contains (list_at new.lists l) edge
-  still_in l edge h =
-      subst (λ (ls : List (List ℕ)). Contains (list_at ls l) edge) (sym lists)
-      (elim (cases_eq l list) [
-        | inl e ↦ subst (λ (y : ℕ). Contains (list_at (with_front old.lists list (length old.values)) y) edge) (sym e)
-            (subst (λ (ys : List ℕ). Contains ys edge) (sym (list_at-with_front_same old.lists list (length old.values) within))
-            (let k = subst (λ (y : ℕ). Contains (list_at old.lists y) edge) e h in (suc k.0, omega (arith, k.1), k.2)))
-        | inr ne ↦ subst (λ (ys : List ℕ). Contains ys edge) (sym (list_at-with_front_other old.lists list (length old.values) l ne)) h
-      ])
-
   pub kept_in : (l : ℕ) (w : T) → HasIn old l w → HasIn new l w
-  kept_in l w h = (h.0, still_in l h.0 h.1, ap (λ (vs : List T). slice_get vs h.0) values ∙ before_push old.values v h.0 w h.2)
-
-  pub front_in : Contains (list_at new.lists list) (length old.values)
-  front_in = subst (λ (ls : List (List ℕ)). Contains (list_at ls list) (length old.values)) (sym lists)
-      (subst (λ (ys : List ℕ). Contains ys (length old.values)) (sym (list_at-with_front_same old.lists list (length old.values) within)) (0, omega arith, refl))
+  kept_in l w h = (h.0, still_in old new list v lists values within l h.0 h.1, ap (λ (vs : List T). slice_get vs h.0) values ∙ before_push old.values v h.0 w h.2)
 
   pub new_in : HasIn new list v
-  new_in = (length old.values, front_in, ap (λ (vs : List T). slice_get vs (length old.values)) values ∙ get_last old.values v)
+  new_in = (length old.values, front_in old new list v lists values within, ap (λ (vs : List T). slice_get vs (length old.values)) values ∙ get_last old.values v)
 
   -- each value is an old one or the new one
   pub value_cases : (edge : ℕ) (w : T) → slice_get new.values edge ≡ Some w → (slice_get old.values edge ≡ Some w) ⊎ (v ≡ w)

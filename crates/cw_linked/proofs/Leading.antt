@@ -1,5 +1,5 @@
 -- What holds at a position that is no call, read off the pairs to which its moves lead.
-use Rattle.std.proofs.Common.{◌≡◌, ℕ, ◌<◌, List, [], Bool, true, false, ◌&&◌, ◌||◌, Option, Some, None, refl, sym, ap, ap₂, ◌∙◌, subst, inl, inr}
+use Rattle.std.proofs.Common.{◌≡◌, ℕ, ◌<◌, List, [], Bool, true, false, Option, Some, None, refl, sym, ◌∙◌, subst, inl, inr}
 use Rattle.std.specs.Prelude.{slice_get, option_map}
 use Rattle.std.proofs.lemmas.Option.{same_Some, none-some}
 use Rattle.cw_rights.specs.declared.capabilities.Primitive.TheVariants.{Limit, Enter, Split}
@@ -9,7 +9,7 @@ use Rattle.cw_game.specs.declared.spots.Spot.{Spot}
 use Rattle.cw_game.specs.declared.spots.Spot.TheVariants.{Visit, Asked, Step, Branch, Label, Open, Close, Call, SplitCall, Exit}
 use Rattle.cw_game.specs.Games.{Game, Config, refuses_in, bad_in, leads_in, Promise, holds_in}
 use Rattle.cw_game.specs.Pairs.{is_call_in, is_exit_in}
-use Rattle.cw_game.proofs.Holding.{Gives}
+use Rattle.cw_game.proofs.Holding.{Gives, gives_or, gives_and}
 use Rattle.cw_product.specs.Moves.{pair_of, is_left_in, next_in, next_at}
 use Rattle.cw_solve.specs.declared.contexts.Context.{Context}
 use Rattle.cw_solve.specs.Asking.{holds_after, holds_by_moves}
@@ -22,17 +22,6 @@ use Rattle.cw_lemmas.proofs.Truths.{or_first as neither, or_middle}
 use Rattle.cw_lemmas.proofs.Options.{cond_none_some as not_left, option_map_some as mapped}
 use Rattle.std.proofs.lemmas.Option.{cond_some as made}
 use Rattle.std.specs.Cmp.{both_ways as same_bools}
-
-gives_or : (a b c d : Bool) → Gives a c → Gives b d → Gives (a || b) (c || d)
-gives_or true b c d f g h = ap (λ z. z || d) (f refl)
-gives_or false true true d f g h = refl
-gives_or false true false d f g h = g refl
-gives_or false false c d f g h = cc
-
-gives_and : (a b c d : Bool) → Gives a c → Gives b d → Gives (a && b) (c && d)
-gives_and true true c d f g h = ap₂ (λ y z. y && z) (f refl) (g refl)
-gives_and true false c d f g h = cc
-gives_and false b c d f g h = cc
 
 module _ (g : Game) where
   module _ (h h' : ℕ → ℕ → Promise → Bool) (e : Promise) where

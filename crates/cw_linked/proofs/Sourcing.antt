@@ -14,6 +14,7 @@ use Rattle.cw_links.specs.Flat.{AreRowsOf}
 use Rattle.cw_links.specs.Lists.{Chained, list_at, with_front}
 use Rattle.cw_links.proofs.CallerLemmas.{Contains-with_front}
 use Rattle.cw_links.proofs.FlatRows.{as_many_rows, value_in, value_from}
+use Rattle.cw_links.proofs.Linking.{lists_kept, one_more}
 use Rattle.cw_product.specs.Moves.{next_in, next_at}
 use Rattle.cw_product.specs.MovesAt.{first_move, second_move}
 use Rattle.cw_linked.specs.declared.edges.Source.{Source}
@@ -21,7 +22,7 @@ use Rattle.cw_linked.specs.Edges.{AreSteps, AddsSource, AreSourcesTo}
 use Rattle.cw_linked.specs.Steps.{Leads}
 use Rattle.cw_linked.specs.Waiting.{HasIn, keeps_state, is_step, source_at, IsStepTo, AreSources}
 use Rattle.cw_linked.proofs.Adding.{before_push}
-use Rattle.cw_linked.proofs.Edging.{lists_kept, one_more, kept_in, new_in, each_move}
+use Rattle.cw_linked.proofs.Edging.{kept_in, new_in, each_move}
 
 -- the same position, and the state is kept
 kept : (m q r x : ℕ) → ◌≡◌ {A = Option (ℕ × ℕ)} (Some (m, q)) (Some (r, x)) → (q ≡ x) × ◌≡◌ {A = Option (ℕ × ℕ)} (Some (m, 0)) (Some (r, 0))
