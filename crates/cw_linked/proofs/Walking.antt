@@ -1,23 +1,19 @@
 -- A walk along a list of links, and along a row: what is left of it, and its next step.
-use Rattle.std.proofs.Common.{◌≡◌, ◌≢◌, ◌+◌, ◌<◌, ◌≤◌, ℕ, zero, suc, inl, inr, Bool, true, false, List, [], ◌∷◌, ◌++◌, eqb, Option, Some, length, refl, sym, ap, ◌∙◌, subst, arith}
+use Rattle.std.proofs.Common.{◌≡◌, ◌≢◌, ◌+◌, ◌<◌, ◌≤◌, ℕ, inl, inr, Bool, true, false, List, [], ◌∷◌, ◌++◌, eqb, Option, Some, length, refl, sym, ap, ◌∙◌, subst, arith}
 use Rattle.std.specs.Prelude.{◌⊎◌, slice_get, if◌then◌else◌, Contains}
 use Rattle.std.specs.List.{concat}
 use Rattle.std.proofs.lemmas.Bool.{cases_eq, cases_lt, eq-eqb, ne_eqb, eqb-true}
 use Rattle.std.proofs.lemmas.Option.{none-some, same_Some, slice_get_within}
 use Rattle.cw_links.specs.Lists.{list_at, AreApart}
 use Rattle.cw_links.specs.Rows.{has, Once}
-use Rattle.cw_links.proofs.NodeRows.{Once-append_left, Once-append_right, apart-append}
+use Rattle.cw_links.proofs.NodeRows.{Once-append_right, apart-append}
 use Rattle.cw_linked.specs.Walks.{from, rest_of, IsFrom}
 use Rattle.cw_links.proofs.CallerLemmas.{Once-from_IsDistinct}
 use Rattle.cw_links.proofs.FlatRows.{stands_at}
-
-once_in : (lists : List (List ℕ)) (l : ℕ) → Once (concat lists) → Once (list_at lists l)
-once_in [] l o = tt
-once_in (xs ∷ lists) zero o = Once-append_left xs (concat lists) o
-once_in (xs ∷ lists) (suc l) o = once_in lists l (Once-append_right xs (concat lists) o)
+use Rattle.cw_links.proofs.Stacks.{Once_at}
 
 pub apart_once : (lists : List (List ℕ)) (cells l : ℕ) → AreApart lists cells → Once (list_at lists l)
-apart_once lists cells l apart = once_in lists l (Once-from_IsDistinct (concat lists) apart.once)
+apart_once lists cells l apart = Once_at lists l (Once-from_IsDistinct (concat lists) apart.once)
 
 -- what is left begins with the cell, where it is in the list
 pub split_at : (xs : List ℕ) (e : ℕ) → slice_get (from xs e) 0 ≡ Some e → (front : List ℕ) × (back : List ℕ) × (xs ≡ front ++ e ∷ back) × (from xs e ≡ e ∷ back)

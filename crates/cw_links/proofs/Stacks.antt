@@ -103,7 +103,7 @@ map-absent els c v (x ∷ xs) h =
     ap (λ (y : ℕ). y ∷ map (slice_index (set els c v)) xs) (get_or-set_other els c x v 0 ne)
     ∙ ap (λ (ys : List ℕ). slice_index els x ∷ ys) (map-absent els c v xs (absent_tail x xs c h))
 
-Once_at : (ls : List (List ℕ)) (l : ℕ) → Once (concat ls) → Once (list_at ls l)
+pub Once_at : (ls : List (List ℕ)) (l : ℕ) → Once (concat ls) → Once (list_at ls l)
 Once_at [] l o = tt
 Once_at (xs ∷ ls) zero o = Once-append_left xs (concat ls) o
 Once_at (xs ∷ ls) (suc l) o = Once_at ls l (Once-append_right xs (concat ls) o)
