@@ -2,12 +2,11 @@
 use Rattle.std.proofs.Common.{◌≡◌, ℕ, suc, ◌+◌, ◌<◌, Bool, true, false, ◌&&◌, ◌||◌, Option, Some, refl, sym, ap, ◌∙◌, subst, arith, inl, inr}
 use Rattle.std.specs.Prelude.{slice_get, nat_eq, nat_lt}
 use Rattle.std.proofs.lemmas.Bool.{false≢true, cases_lt, or_right, or_from, lt-ltb, le-ltb, ne_eqb}
-use Rattle.std.proofs.lemmas.Option.{none-some}
 use Rattle.cw_certs.specs.declared.moves.Move.TheVariants.{Skip, Try, On, Left, Right}
 use Rattle.cw_game.specs.declared.spots.Spot.{Spot}
-use Rattle.cw_game.specs.declared.spots.Spot.TheVariants.{Visit, Step, Branch, Call, SplitCall}
+use Rattle.cw_game.specs.declared.spots.Spot.TheVariants.{Visit, Step, Branch}
 use Rattle.cw_game.specs.Games.{Game, Promise, weavers_in, holds_in}
-use Rattle.cw_game.specs.Pairs.{Called, has, call_in, is_call_in}
+use Rattle.cw_game.specs.Pairs.{has}
 use Rattle.cw_product.specs.Moves.{next_in, next_at}
 use Rattle.cw_solve.specs.Asking.{holds_after, holds_by_moves}
 use Rattle.cw_solve.specs.Rounds.{holds_by}
@@ -63,9 +62,3 @@ pub step_implied : (g : Game) (heights : ℕ → ℕ → ℕ → ℕ) (i p q pro
     → IsBound g heights i p q promise (height + 1)
 step_implied g heights i p q promise next height step taken some n =
     more_tells n height some ∙ ap (λ (k : ℕ). holds_by n k) (sym taken) ∙ ap (λ (o : Option Spot). holds_in g (implied heights i n) p q (has promise) o) (sym step)
-
--- what isn't a call calls nothing
-pub uncalled : (o : Option Spot) (call : Called) → is_call_in o ≡ false → call_in o ≡ Some call → ⊥
-uncalled (Some (Call j f n)) call not is = cc
-uncalled (Some (SplitCall j f n)) call not is = cc
-uncalled _ call not is = none-some call is

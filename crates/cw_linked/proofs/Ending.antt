@@ -5,11 +5,11 @@ use Rattle.std.proofs.lemmas.Bool.{cases_lt}
 use Rattle.cw_game.specs.Games.{Game, Holds}
 use Rattle.cw_game.specs.Pairs.{has, all_states, kept_at}
 use Rattle.cw_solve.specs.declared.contexts.Context.{Context}
-use Rattle.cw_solve.specs.Contexts.{context, HeightIs, IsHeight, promise_at, IsSetOf, IsNeeded, of_main, of_call}
+use Rattle.cw_solve.specs.Contexts.{context, HeightIs, IsHeight, promise_at, IsSetOf, IsNeeded}
 use Rattle.cw_product.specs.Routed.{AreRouted}
 use Rattle.cw_solve.specs.Rounds.{IsCell, IsAsked, holds_by, height_by}
-use Rattle.cw_solve.proofs.Falls.{set_as, set_is}
-use Rattle.cw_solve.proofs.Still.{number_of}
+use Rattle.cw_solve.proofs.Falls.{set_as}
+use Rattle.cw_solve.proofs.Still.{needed_tabled}
 use Rattle.cw_linked.specs.Founds.{Found, class_of, AreAlike, IsLink, IsTied, AreFound, AreAbove}
 use Rattle.cw_linked.proofs.Least.{least, tied, tells_none, same_promise, link_of}
 use Rattle.cw_linked.proofs.Tying.{promise_stays, contained}
@@ -55,9 +55,4 @@ module _ (g : Game) (functions : ℕ) (routed : AreRouted g functions) (alike : 
 
   -- each needed context is tabled
   pub all_tabled : Contains contexts (context g.main (all_states g)) → (c : Context) → IsNeeded g c → Contains contexts c
-  all_tabled main _ of_main = main
-  all_tabled main _ (of_call c n p q set call need of state es is) =
-      let i = number_of contexts c (all_tabled main c need) in
-      let a = asked n i.0 c p q (record { at = i.1; of = of; state = state }) call es in
-      let e : a.0 ≡ set = set_is g a.0 set (promise_at g n call.back (kept_at call.split q) c.promise) (promise_at g n call.back (kept_at call.split q) c.promise) a.2 is (λ x u. refl) in
-      subst (λ (y : ℕ). Contains contexts (context call.function y)) e a.1
+  all_tabled main c need = needed_tabled g contexts asked main c need

@@ -203,7 +203,8 @@ module _ (h : Held) (made : IsMade h) where
 
 -- ---- without calls
 
-uncalled : (o : Option Spot) (call : Called) → is_call_in o ≡ false → call_in o ≡ Some call → ⊥
+-- what isn't a call calls nothing
+pub uncalled : (o : Option Spot) (call : Called) → is_call_in o ≡ false → call_in o ≡ Some call → ⊥
 uncalled (Some (Call j f n)) call e c = cc
 uncalled (Some (SplitCall j f n)) call e c = cc
 uncalled _ call e c = none-some call c

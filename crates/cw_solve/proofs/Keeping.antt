@@ -13,7 +13,7 @@ use Rattle.cw_solve.specs.Tabled.{Tabled}
 use Rattle.cw_product.specs.Routed.{IsThere, AreRouted, IsOf}
 use Rattle.cw_solve.specs.Contexts.{context, size, cells_of, HeightIs, IsNeeded, AreTheNeeded}
 use Rattle.cw_solve.specs.Rounds.{slot, height_by, IsCell}
-use Rattle.cw_solve.specs.Tables.{AreBlocks, IsTabled, HasCell}
+use Rattle.cw_solve.specs.Tables.{AreBlocks, AreTabled, IsTabled, HasCell}
 use Rattle.cw_solve.specs.Solved.{Held, IsKept, IsNumbered, IsHeightIn}
 use Rattle.cw_solve.proofs.Still.{number_of}
 use Rattle.cw_solve.proofs.Tabling.{there}
@@ -36,10 +36,14 @@ module _ (g : Game) (functions : ℕ) (routed : AreRouted g functions) where
       let rest = few_contexts cs (λ d is. h d (suc is.0, omega (arith, is.1), is.2)) in
       omega (arith, first, rest, sum_by-cons (λ (x : Context). size g x.function) c cs)
 
+  -- contexts that may be tabled are few
+  pub few_tabled : (contexts : List Context) → AreTabled g contexts → length contexts ≤ 4194304
+  few_tabled contexts tabled =
+      let le = few_contexts contexts (λ c is. size_positive c.function (there g functions routed c (tabled.needed.needed c is))) in
+      omega (arith, le, tabled.few)
+
   pub few : (b : Blocks) → AreBlocks g b → length b.contexts.items ≤ 4194304
-  few b blocks =
-      let le = few_contexts b.contexts.items (λ c is. size_positive c.function (there g functions routed c (blocks.needed.needed c is))) in
-      omega (arith, le, blocks.few)
+  few b blocks = few_tabled b.contexts.items (record { first = blocks.first; needed = blocks.needed; few = blocks.few })
 
 pub kept_needed : (h : HeldGame) (t : Table) → IsKept h t → AreTheNeeded (game_of h) t.blocks.contexts.items
 kept_needed h t kept = record { first = kept.table.blocks.first; some = kept.table.blocks.needed; all = kept.done.all }

@@ -9,7 +9,7 @@ use Rattle.cw_solve.specs.Contexts.{context, cells_of, HeightIs, IsNeeded}
 use Rattle.cw_product.specs.Routed.{AreRouted}
 use Rattle.cw_solve.specs.Rounds.{slot, IsCell, height_by, IsWritten, AreWritten, IsAsked, IsLooked, AreLooked, WereAsked}
 use Rattle.cw_solve.proofs.Written.{writes, goes_on, stands, ends}
-use Rattle.cw_solve.proofs.Still.{still_at, needed_tabled}
+use Rattle.cw_solve.proofs.Still.{still_at, always_asked, needed_tabled}
 use Rattle.cw_solve.proofs.Slots.{IsSame, same_slot, slot_within}
 
 -- at the beginning nothing is written and nothing was looked at
@@ -110,4 +110,4 @@ module _ (g : Game) (functions : ℕ) (routed : AreRouted g functions) (contexts
 
     -- .. and the tabled contexts are all that are needed.
     pub all_tabled : Contains contexts (context g.main (all_states g)) → (c : Context) → IsNeeded g c → Contains contexts c
-    all_tabled main c need = needed_tabled g functions routed contexts n below rests (λ i c p q is. (looked i c p q is).asked) were main c need
+    all_tabled main c need = needed_tabled g contexts (always_asked g functions routed contexts n below rests (λ i c p q is. (looked i c p q is).asked) were) main c need

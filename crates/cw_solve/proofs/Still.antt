@@ -36,6 +36,17 @@ only a = (0, omega arith, refl)
 pub number_of : (contexts : List Context) (c : Context) → Contains contexts c → (i : ℕ) × (slice_get contexts i ≡ Some c)
 number_of contexts c h = (h.0, slice_get-get_or contexts h.0 c h.1 ∙ ap (λ y. Some y) h.2)
 
+-- where what a call promises for any number of moves is tabled, each needed context is
+module _ (g : Game) (contexts : List Context) (asked : (m i : ℕ) (c : Context) (p q : ℕ) → IsCell g contexts i c p q → IsAsked g contexts m p q c.promise)
+    (main : Contains contexts (context g.main (all_states g))) where
+  pub needed_tabled : (c : Context) → IsNeeded g c → Contains contexts c
+  needed_tabled _ of_main = main
+  needed_tabled _ (of_call c m p q set call need of s es is) =
+      let i = number_of contexts c (needed_tabled c need) in
+      let a = asked m i.0 c p q (record { at = i.1; of = of; state = s }) call es in
+      let e : a.0 ≡ set = set_is g a.0 set (promise_at g m call.back (kept_at call.split q) c.promise) (promise_at g m call.back (kept_at call.split q) c.promise) a.2 is (λ x u. refl) in
+      subst (λ (y : ℕ). Contains contexts (context call.function y)) e a.1
+
 module _ (g : Game) (functions : ℕ) (routed : AreRouted g functions) where
   abbrev Agree : (ℕ → ℕ → Promise → Bool) → (ℕ → ℕ → Promise → Bool) → List ℕ → Promise → Type 0
   Agree h h' to e = (r x : ℕ) → Contains to r → IsState g x → h r x e ≡ h' r x e
@@ -150,13 +161,3 @@ module _ (g : Game) (functions : ℕ) (routed : AreRouted g functions) where
                     (record { at = is.at; of = back_stays g functions routed c.function p call (below i c is.at) is.of es; state = return_state g functions routed p x q call es s is.state }))),
               )
         ]
-
-    module _ (were : WereAsked g contexts n) (main : Contains contexts (context g.main (all_states g))) where
-      -- each needed context is tabled
-      pub needed_tabled : (c : Context) → IsNeeded g c → Contains contexts c
-      needed_tabled _ of_main = main
-      needed_tabled _ (of_call c m p q set call need of s es is) =
-          let i = number_of contexts c (needed_tabled c need) in
-          let a = always_asked were m i.0 c p q (record { at = i.1; of = of; state = s }) call es in
-          let e : a.0 ≡ set = set_is g a.0 set _ _ a.2 is (λ x s. refl) in
-          subst (λ y. Contains contexts (context call.function y)) e a.1

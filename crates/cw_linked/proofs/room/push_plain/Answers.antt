@@ -2,7 +2,7 @@ use Rattle.std.proofs.Common.{ℕ, subst, arith}
 use Rattle.std.specs.Prelude.{slice_get}
 use Rattle.cw_product.specs.Product.{game_of}
 use Rattle.cw_linked.specs.Added.{PushesIndices}
-use Rattle.cw_linked.proofs.Blocking.{uncalled}
+use Rattle.cw_solve.proofs.Few.{uncalled}
 use Rattle.cw_linked.proofs.Lengthening.{plain_indices}
 use Rattle.cw_linked.proofs.room.push_plain.Goals as goal
 
