@@ -1,6 +1,7 @@
 -- Answers of stages, for callers: what follows from them, and how one ends a command.
 use Rattle.std.proofs.Common.{ℕ, List, Option, Result, Ok, Err, sym, subst, inl, inr}
 use Rattle.std.specs.Prelude.{IfOk}
+use Rattle.cw_lemmas.proofs.Options.{if_ok}
 use Rattle.cw_rights.specs.Policies.{PlainPolicy}
 use Rattle.cw_syntax.specs.Trees.{File}
 use Rattle.cw_policy.specs.Answer.{Spells}
@@ -14,7 +15,6 @@ use Rattle.cw_stages.specs.declared.stop.Stop.{Stop}
 use Rattle.cw_stages.specs.declared.told.Text.{Text}
 use Rattle.cw_stages.specs.declared.told.Verdict.{Verdict}
 use Rattle.cw_stages.specs.Stops.{told_of, Answers, Decides, IsEnded, StartsText}
-use Rattle.cw_stages.proofs.Refusing.{if_ok}
 
 module _ (whole : PlainPolicy) (source : List ℕ) where
   pub weaker : {O : Type 0} (Is Wide : Due → Type 0) (r : Result (Text O) Stop) → ((due : Due) → Is due → Wide due) → Answers whole source Is r → Answers whole source Wide r
@@ -30,14 +30,14 @@ module _ (whole : PlainPolicy) (source : List ℕ) where
       → Answers whole source Is r → IfOk result (λ o. Is (due_of o))
   ended_due Is (Ok text) (Ok o) e a = subst (λ o. Is (due_of o)) (sym e) a
   ended_due Is (Ok text) (Err f) e a = tt
-  ended_due Is (Err stop) result e a = if_ok result e (λ o d. a (due_of o) d.0)
+  ended_due Is (Err stop) result e a = if_ok _ _ result e (λ o d. a (due_of o) d.0)
 
   module _ {O : Type 0} (taken : O → Option (List ℕ)) (faults refused : O → ℕ) where
     pub ended_puts : {N E : Type 0} (old new : O) (r : Result (Text O) Stop) (result : Result (Outcome O N) E) → IsEnded whole source r result
         → StartsText taken faults refused old new r → Starts taken faults refused old new result
     ended_puts old new (Ok text) (Ok o) e s = subst (λ o. Begins taken faults refused old new o) (sym e) s
     ended_puts old new (Ok text) (Err f) e s = absurd e
-    ended_puts old new (Err stop) result e s = subst (λ (k : O). Starts taken faults refused old k result) (sym s) (unput taken faults refused old result (if_ok result e (λ o d. d.1)))
+    ended_puts old new (Err stop) result e s = subst (λ (k : O). Starts taken faults refused old k result) (sym s) (unput taken faults refused old result (if_ok _ _ result e (λ o d. d.1)))
 
 -- what is due for a source behind its policy is due for both
 pub read_behind : (Next : PlainPolicy → File → Due → Type 0) (policy source : List ℕ) (whole : PlainPolicy) (due : Due) → Spells policy whole

@@ -1,6 +1,5 @@
 -- Refusals that are due.
-use Rattle.std.proofs.Common.{◌≡◌, ◌≢◌, ℕ, List, Result, Ok, Err, ⊎_elim}
-use Rattle.std.specs.Prelude.{IfOk}
+use Rattle.std.proofs.Common.{◌≡◌, ◌≢◌, ℕ, List, ⊎_elim}
 use Rattle.cw_rights.specs.Policies.{PlainPolicy}
 use Rattle.cw_syntax.specs.Trees.{File}
 use Rattle.cw_scope.specs.declared.descriptors.DescriptorFault.{DescriptorFault}
@@ -10,10 +9,6 @@ use Rattle.cw_source.specs.Read.{ReadsAs}
 use Rattle.cw_commands.specs.declared.outcome.Cause.TheVariants.{Source}
 use Rattle.cw_commands.specs.Outcomes.{Due, Refused}
 use Rattle.cw_stages.specs.Refusals.{descriptor_line, IsDescriptorRefusal}
-
-pub if_ok : {A E : Type 0} {P Q : A → Type 0} (result : Result A E) → IfOk result P → ((a : A) → P a → Q a) → IfOk result Q
-if_ok (Ok a) h f = f a h
-if_ok (Err e) h f = tt
 
 pub descriptor_stops : (text : List ℕ) (whole : PlainPolicy) (file : File) (f : DescriptorFault) → ReadsAs text file → IsDueDescriptor (descriptor_fault text file whole) f
     → (due : Due) → (f ≢ descriptor.NoMemory) × (due ≡ Refused Source (descriptor_line text whole f)) → IsDescriptorRefusal text whole due

@@ -1,10 +1,10 @@
 use Rattle.std.proofs.Common.{inl}
+use Rattle.cw_lemmas.proofs.Options.{if_ok}
 use Rattle.cw_rights.specs.Policies.{policy_of}
 use Rattle.cw_commands.specs.Outcomes.{due_of}
 use Rattle.cw_commands.proofs.Starting.{unput}
 use Rattle.cw_stages.specs.Reading.{WithSource}
 use Rattle.cw_stages.proofs.Answering.{ended_due, ended_puts, read_behind}
-use Rattle.cw_stages.proofs.Refusing.{if_ok}
 use Rattle.cw_checking.specs.Refuting.{AfterPair}
 use Rattle.cw_checking.proofs.refuting.refute_due.Goals as goal
 
@@ -14,14 +14,14 @@ returns-in-Ok-clause-due g c =
     let source = c.args.source.now in
     let text = c.args.strategy.now in
     let due = ended_due whole source (WithSource (AfterPair source text whole) source whole) c.read.result c.ended.result c.ended.ensures.ended c.read.ensures.due in
-    if_ok c.ended.result due (λ o d. read_behind (AfterPair source text) c.args.policy.now source whole (due_of o) c.in-Ok.ensures.policy d)
+    if_ok _ _ c.ended.result due (λ o d. read_behind (AfterPair source text) c.args.policy.now source whole (due_of o) c.in-Ok.ensures.policy d)
 
 pub returns-in-Ok-clause-puts : goal.returns-in-Ok-clause-puts
 returns-in-Ok-clause-puts g c =
     ended_puts (policy_of c.in-Ok.whole) c.args.source.now g.O.Sink.taken g.O.Sink.faults g.O.Sink.refused c.args.out.now c.read.new.out c.read.result c.ended.result c.ended.ensures.ended c.read.ensures.puts
 
 pub returns-in-Err-clause-due : goal.returns-in-Err-clause-due
-returns-in-Err-clause-due g c = if_ok c.policy_refusal.result c.policy_refusal.ensures.due (λ o p. inl (inl (c.in-Err.fault, c.in-Err.ensures.fault, p.0, p.1)))
+returns-in-Err-clause-due g c = if_ok _ _ c.policy_refusal.result c.policy_refusal.ensures.due (λ o p. inl (inl (c.in-Err.fault, c.in-Err.ensures.fault, p.0, p.1)))
 
 pub returns-in-Err-clause-puts : goal.returns-in-Err-clause-puts
 returns-in-Err-clause-puts g c = unput g.O.Sink.taken g.O.Sink.faults g.O.Sink.refused c.args.out.now c.policy_refusal.result c.policy_refusal.ensures.refused
