@@ -1,6 +1,6 @@
 -- A context is looked for in the list of its function.
-use Rattle.std.proofs.Common.{◌≡◌, ℕ, ◌+◌, ◌≤◌, ◌∙◌, List, Bool, true, false, ◌&&◌, Option, Some, None, length, refl, sym, ap, ap₂, arith, inl, inr}
-use Rattle.std.specs.Prelude.{nat_eq, slice_get, Contains, IfNone}
+use Rattle.std.proofs.Common.{◌≡◌, ℕ, ◌+◌, ◌≤◌, ◌∙◌, List, Bool, true, false, ◌&&◌, Some, length, refl, sym, ap, ap₂, arith, inl, inr}
+use Rattle.std.specs.Prelude.{nat_eq, slice_get, Contains}
 use Rattle.std.proofs.lemmas.Bool.{eq-eqb, false≢true}
 use Rattle.std.proofs.lemmas.Bool.Decides.{leb_tells}
 use Rattle.std.proofs.lemmas.Option.{same_Some, slice_get_within}
@@ -40,8 +40,3 @@ is_nowhere s contexts f e numbers is others listed has =
     let at = number_of contexts (context f e) has in
     let i = listed at.0 (context f e) at.1 in
     others i.0 at.0 (omega arith) (ap (λ (ns : List ℕ). slice_get ns i.0) is ∙ i.1) at.1
-
--- what follows where there is no answer
-pub where_none : {A P Q : Type 0} (o : Option A) → IfNone o P → (P → Q) → IfNone o Q
-where_none (Some x) p f = tt
-where_none None p f = f p

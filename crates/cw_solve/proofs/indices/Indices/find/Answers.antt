@@ -1,4 +1,5 @@
-use Rattle.cw_solve.proofs.Indexed.{is_nowhere, where_none}
+use Rattle.cw_lemmas.proofs.Options.{where_none}
+use Rattle.cw_solve.proofs.Indexed.{is_nowhere}
 use Rattle.cw_solve.proofs.indices.Indices.find.Goals as goal
 
 pub returns-clause-none : goal.returns-clause-none
