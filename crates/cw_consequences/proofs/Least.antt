@@ -12,9 +12,10 @@ use Rattle.cw_game.specs.declared.spots.Spot.TheVariants.{Visit, Label, Exit}
 use Rattle.cw_game.specs.Games.{Game, refuses_in, returned, bad_in, Promise, Holds}
 use Rattle.cw_game.specs.Pairs.{has, Called, call_in, is_call_in, is_exit_in, kept_at, all_states}
 use Rattle.cw_product.specs.Moves.{pair_of, next_at}
+use Rattle.cw_solve.specs.Sets.{set_of}
 use Rattle.cw_least_strategy.specs.declared.key.Key.{Key}
 use Rattle.cw_least_strategy.specs.declared.key.Way.{Way}
-use Rattle.cw_least_strategy.specs.Heights.{set_of, others, height_within}
+use Rattle.cw_least_strategy.specs.Heights.{others, height_within}
 use Rattle.cw_least_strategy.specs.Strategies.{key_cmp, below, moves, way, sooner, best, after_return, is_lost_after, aim_at, back_at, backs_at, Both, Into, goes, inner, act_in, act}
 use Rattle.cw_least_strategy.specs.Strategies.{keys_in, named, how_by, row_at, start_key, IsLeastStrategy}
 use Rattle.cw_audit_laws.specs.Refusing.{ruled_by}

@@ -10,6 +10,7 @@ use Rattle.cw_product.specs.Routed.{IsState, targets, IsOf}
 use Rattle.cw_solve.specs.Contexts.{context, HeightIs, IsNeeded}
 use Rattle.cw_solve.specs.Low.{IsLow, HeightsAreLow}
 use Rattle.cw_solve.proofs.Falls.{later, return_state, back_stays}
+use Rattle.cw_solve.proofs.Sets.{has_set}
 use Rattle.cw_solve.proofs.Still.{first_of_two}
 use Rattle.cw_lazy_table.specs.Choices.{most, lost_in, is_kept_back, promised, promised_in, set_in}
 use Rattle.cw_lazy_table.specs.Closing.{AreRight}
@@ -17,7 +18,6 @@ use Rattle.cw_lazy_table.specs.Laws.{CanBegin}
 use Rattle.cw_lazy_table.specs.Live.{IsFull, IsLive}
 use Rattle.cw_lazy_table.proofs.Going.{resumes}
 use Rattle.cw_lazy_table.proofs.Keeping.{IsSafe, safe}
-use Rattle.cw_lazy_table.proofs.Knowing.{set_by_is}
 use Rattle.cw_lemmas.proofs.Truths.{and_first as first_and, and_second as second_and, and_second_false}
 use Rattle.std.proofs.lemmas.Bool.{not-false as not_false, not-true as not_true}
 
@@ -73,14 +73,14 @@ module _ (g : Game) (functions : ℕ) (can : CanBegin g functions) where
       kept = λ x t.
           let s = ltb-true x g.states.count (inside x t) in
           kept_is h.function call.back (returned g.states (kept_at call.split q) x) e h.needed of (state x s) (not_true (lost_in g call.back (returned g.states (kept_at call.split q) x) e)
-          (second_and (nat_lt x g.states.count) (Kept q e call x) (sym (set_by_is g.states.count (Kept q e call) x) ∙ t)));
+          (second_and (nat_lt x g.states.count) (Kept q e call x) (sym (has_set (Kept q e call) g.states.count x) ∙ t)));
       left_out = λ x s t.
           lost_is h.function call.back (returned g.states (kept_at call.split q) x) e h.needed of (state x s) (not_false (lost_in g call.back (returned g.states (kept_at call.split q) x) e)
-          (and_second_false (nat_lt x g.states.count) (Kept q e call x) (sym (set_by_is g.states.count (Kept q e call) x) ∙ t) (lt-ltb x g.states.count s)));
+          (and_second_false (nat_lt x g.states.count) (Kept q e call x) (sym (has_set (Kept q e call) g.states.count x) ∙ t) (lt-ltb x g.states.count s)));
     }
       where
         inside : (x : ℕ) → has (promised g q e call) x ≡ true → nat_lt x g.states.count ≡ true
-        inside x t = first_and (nat_lt x g.states.count) (Kept q e call x) (sym (set_by_is g.states.count (Kept q e call) x) ∙ t)
+        inside x t = first_and (nat_lt x g.states.count) (Kept q e call x) (sym (has_set (Kept q e call) g.states.count x) ∙ t)
 
         of : IsOf g h.function call.back
         of = back_stays g functions can.routed h.function p call h.below h.of es

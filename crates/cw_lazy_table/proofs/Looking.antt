@@ -9,8 +9,8 @@ use Rattle.cw_product.specs.Product.{Held as HeldGame, game_of}
 use Rattle.cw_solve.specs.Contexts.{HeightIs}
 use Rattle.cw_solve.specs.Solved.{Held, IsNumbered, IsHeightIn}
 use Rattle.cw_solve.specs.Numbering.{IsUnder, IsNumberOf}
+use Rattle.cw_solve.proofs.Sets.{has_set}
 use Rattle.cw_lazy_table.specs.Choices.{is_kept_back, promised, IsReady}
-use Rattle.cw_lazy_table.proofs.Knowing.{set_by_is}
 
 module _ (h : HeldGame) (s : Held) (ready : IsReady h s) where
   abbrev g : Game
@@ -33,4 +33,4 @@ module _ (h : HeldGame) (s : Held) (ready : IsReady h s) where
 pub promised_is : (g : Game) (q e : ℕ) (call : Called) (set n : ℕ) → n ≡ g.states.count → ((x : ℕ) → has_member set x ≡ (nat_lt x n && is_kept_back g q e call x)) → set ≡ promised g q e call
 unfolding has_member
 promised_is g q e call set n same h =
-    same_from_members set (promised g q e call) (λ x. h x ∙ ap (λ (n : ℕ). nat_lt x n && is_kept_back g q e call x) same ∙ sym (set_by_is g.states.count (is_kept_back g q e call) x))
+    same_from_members set (promised g q e call) (λ x. h x ∙ ap (λ (n : ℕ). nat_lt x n && is_kept_back g q e call x) same ∙ sym (has_set (is_kept_back g q e call) g.states.count x))

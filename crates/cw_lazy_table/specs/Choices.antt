@@ -6,11 +6,11 @@ use Rattle.cw_fixpoint.specs.Members.{Rules, IsMember, then, joins}
 use Rattle.cw_product.specs.Product.{Held as HeldGame, game_of}
 use Rattle.cw_solve.specs.Contexts.{AreTheNeeded}
 use Rattle.cw_solve.specs.Low.{HeightsAreLow}
+use Rattle.cw_solve.specs.Sets.{set_of}
 use Rattle.cw_solve.specs.Solved.{Held}
 use Rattle.cw_lazy_table.specs.declared.key.Key.{Key}
 use Rattle.cw_lazy_table.specs.Closing.{key, rules}
 use Rattle.cw_lazy_table.specs.Laws.{CanBegin}
-use Rattle.cw_lazy_table.specs.Sets.{set_by}
 
 -- no height is above
 unfoldable pub most : ℕ
@@ -24,7 +24,7 @@ abbrev pub is_kept_back : Game → (q e : ℕ) → Called → ℕ → Bool
 is_kept_back g q e call x = not (lost_in g call.back (returned g.states (kept_at call.split q) x) e)
 
 abbrev pub promised : Game → (q e : ℕ) → Called → ℕ
-promised g q e call = set_by g.states.count (is_kept_back g q e call)
+promised g q e call = set_of (is_kept_back g q e call) g.states.count
 
 abbrev pub promised_in : Game → (q e : ℕ) → Option Called → ℕ
 promised_in g q e None = 0

@@ -9,7 +9,6 @@ pub mod Live
 pub mod Numbered
 pub mod SeamKeys
 pub mod Rowing
-pub mod Sets
 pub mod Staged
 pub mod Tabled
 pub mod There

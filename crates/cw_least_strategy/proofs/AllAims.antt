@@ -26,7 +26,7 @@ use Rattle.cw_solve.specs.Solved.{Held}
 use Rattle.cw_least_strategy.specs.Heights.{others}
 use Rattle.cw_least_strategy.specs.Small.{AreAims}
 use Rattle.cw_game.proofs.Members.{same_set}
-use Rattle.cw_least_strategy.proofs.Sets.{has_set}
+use Rattle.cw_solve.proofs.Sets.{has_set}
 
 pub fit : {n : ℕ} → Fits w32 n → n < 4294967296
 fit f = Fits-lt-pow f

@@ -26,7 +26,7 @@ use Rattle.cw_least_strategy.specs.Heights.{others}
 use Rattle.cw_least_strategy.specs.Kept.{IsKey}
 use Rattle.cw_least_strategy.specs.Strategies.{key_cmp, below, moves, best, after_return, is_lost_after, aim_at, back_at, backs_at, Act, Bad, Out, Both, Go, Into, goes, inner, act_in, act}
 use Rattle.cw_least_strategy.specs.Strategies.{keys_in, named, number, how_by, row_at, start_key, IsLeastStrategy}
-use Rattle.cw_least_strategy.proofs.Sets.{has_set}
+use Rattle.cw_solve.proofs.Sets.{has_set}
 use Rattle.cw_fixpoint.proofs.Numbers.{at_number}
 use Rattle.cw_least_strategy.proofs.Keys.{key_total, key_exact, before}
 use Rattle.cw_least_strategy.proofs.Moving.{moved}

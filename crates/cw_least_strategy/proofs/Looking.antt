@@ -27,7 +27,7 @@ use Rattle.cw_least_strategy.specs.Acts.{IsIn, IsCall}
 use Rattle.cw_least_strategy.specs.Heights.{others, height_within}
 use Rattle.cw_least_strategy.proofs.Lowest as lowest
 use Rattle.cw_game.proofs.Members.{same_set}
-use Rattle.cw_least_strategy.proofs.Sets.{has_set}
+use Rattle.cw_solve.proofs.Sets.{has_set}
 
 -- a set that has the other states alone
 pub others_is : (g : Game) (set found : ℕ) → ((i : ℕ) → has_member found i ≡ (nat_lt i g.states.count && not (has_member set i))) → found ≡ others g set

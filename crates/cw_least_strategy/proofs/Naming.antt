@@ -22,7 +22,8 @@ use Rattle.cw_least_strategy.specs.Heights.{others, height_within}
 use Rattle.cw_fixpoint.specs.Closures.{Reached, first, then}
 use Rattle.cw_least_strategy.specs.Kept.{IsKey, Leads, here, on}
 use Rattle.cw_least_strategy.specs.Strategies.{below, moves, way, sooner, best, after_return, is_lost_after, aim_at, back_at, backs_at, Into, goes, inner, act_in, keys_in, named, start_key}
-use Rattle.cw_least_strategy.proofs.Sets.{has_set, set_within, none_aimed}
+use Rattle.cw_solve.proofs.Sets.{has_set}
+use Rattle.cw_least_strategy.proofs.Sets.{set_within, none_aimed}
 use Rattle.cw_least_strategy.proofs.Lowest as lowest
 use Rattle.cw_least_strategy.proofs.Moving.{moved}
 use Rattle.std.proofs.lemmas.Bool.{or_parts as neither}

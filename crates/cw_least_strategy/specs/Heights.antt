@@ -1,15 +1,8 @@
--- The heights of pairs for an aim, and sets of states as numbers.
-use Rattle.std.specs.Prelude.{ℕ, zero, suc, ◌+◌, ◌*◌, Bool, cond, not}
+-- The heights of pairs for an aim.
+use Rattle.std.specs.Prelude.{ℕ, zero, suc, cond, not}
 use Rattle.cw_game.specs.Games.{Game, Promise, Holds}
 use Rattle.cw_game.specs.Pairs.{has}
-
-abbrev pub one_if : Bool → ℕ
-one_if b = cond b 1 0
-
--- the states below n that pass, as the sum of 2 to the power x over them
-abbrev pub set_of : (ℕ → Bool) → ℕ → ℕ
-set_of passes zero = 0
-set_of passes (suc n) = one_if (passes 0) + 2 * set_of (λ x. passes (suc x)) n
+use Rattle.cw_solve.specs.Sets.{set_of}
 
 -- all states but those of a set: what is promised where the environment aims at the set
 abbrev pub others : Game → ℕ → ℕ

@@ -15,10 +15,11 @@ use Rattle.cw_game.specs.Games.{Game, returned}
 use Rattle.cw_game.specs.Pairs.{has, all_states, Called, call_in, kept_at}
 use Rattle.cw_product.specs.Moves.{next_at}
 use Rattle.cw_solve.specs.Contexts.{IsHeight}
+use Rattle.cw_solve.specs.Sets.{set_of}
 use Rattle.cw_fixpoint.specs.Numbers.{number_in}
 use Rattle.cw_least_strategy.specs.declared.key.Key.{Key}
 use Rattle.cw_least_strategy.specs.declared.key.Way.{Way}
-use Rattle.cw_least_strategy.specs.Heights.{set_of, others, height_within}
+use Rattle.cw_least_strategy.specs.Heights.{others, height_within}
 
 -- keys ascend by height, position, state, and aim as a number
 abbrev pub key_cmp : Key → Key → Ordering

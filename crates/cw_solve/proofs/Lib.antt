@@ -12,6 +12,7 @@ pub mod Numbering
 pub mod Indexed
 pub mod Rounding
 pub mod Routing
+pub mod Sets
 pub mod Slots
 pub mod Spotting
 pub mod Staying

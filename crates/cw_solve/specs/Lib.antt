@@ -6,6 +6,7 @@ pub mod Low
 pub mod Numbering
 pub mod Indexed
 pub mod Rounds
+pub mod Sets
 pub mod Solved
 pub mod Tabled
 pub mod Tables
