@@ -9,6 +9,7 @@ use Rattle.cw_dfa.specs.Verdicts.{IsVerdict}
 use Rattle.cw_model.specs.Boards.{Problem, Board, Moves}
 use Rattle.cw_model.specs.Plays.{choice, row_by, Waiting}
 use Rattle.cw_trace.specs.Traces.{Taken}
+use Rattle.cw_trace.proofs.Lists.{cons_head, cons_tail}
 use Rattle.cw_play.specs.declared.end.PlayEnd.{PlayEnd}
 use Rattle.cw_play.specs.declared.end.PlayEnd.TheVariants.{Violation, TapeSpent}
 use Rattle.cw_play.specs.Plays.{Stand, Follows, Goes, EndsBy, Ends, Plays, OnePlayByATape}
@@ -19,9 +20,6 @@ one_choice true false rest other e = absurd cc
 one_choice false true rest other e = absurd cc
 one_choice false false rest other e = (refl, cc)
 
-one_waiting : (a b : List (ℕ × ℕ)) (x y : Waiting) → a ∷ x ≡ b ∷ y → (a ≡ b) × (x ≡ y)
-one_waiting a b x y e = (cc, cc)
-
 follows_one : (how : How) (state : ℕ) (at next other : Stand) (tape rest more : List Move) (by by2 : Move)
     → Follows how state at tape by next rest → Follows how state at tape by2 other more → (by ≡ by2) × (rest ≡ more) × (next.row ≡ other.row) × (next.waiting ≡ other.waiting)
 follows_one Bad state at next other tape rest more by by2 f g = absurd f
@@ -31,8 +29,14 @@ follows_one (Both skip tried) state at next other tape rest more by by2 f g =
 follows_one (Go move row) state at next other tape rest more by by2 f g = (f.0 ∙ sym g.0, f.1 ∙ sym g.1, f.2 ∙ sym g.2, f.3 ∙ sym g.3)
 follows_one (Into callee backs) state at next other tape rest more by by2 f g = (f.0 ∙ sym g.0, f.1 ∙ sym g.1, f.2 ∙ sym g.2, f.3 ∙ sym g.3)
 follows_one Out state at next other tape rest more by by2 f g =
-    let e = one_waiting f.4.0 g.4.0 next.waiting other.waiting (sym f.4.1 ∙ g.4.1) in
-    (f.0 ∙ sym g.0, f.1 ∙ sym g.1, same_Some next.row other.row (sym f.4.2 ∙ ap (λ (backs : List (ℕ × ℕ)). back_of backs state) e.0 ∙ g.4.2), e.1)
+    let e : f.4.0 ∷ next.waiting ≡ g.4.0 ∷ other.waiting = sym f.4.1 ∙ g.4.1 in
+    let first = cons_head f.4.0 g.4.0 next.waiting other.waiting e in
+    (
+      f.0 ∙ sym g.0,
+      f.1 ∙ sym g.1,
+      same_Some next.row other.row (sym f.4.2 ∙ ap (λ (backs : List (ℕ × ℕ)). back_of backs state) first ∙ g.4.2),
+      cons_tail f.4.0 g.4.0 next.waiting other.waiting e,
+    )
 
 abbrev stand : ℕ → Board → Waiting → Stand
 stand row board waiting = record { row = row; board = board; waiting = waiting }

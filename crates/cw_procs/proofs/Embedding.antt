@@ -13,6 +13,7 @@ use Rattle.cw_model.proofs.Moving.{one_party}
 use Rattle.cw_game.specs.Games.{Game}
 use Rattle.cw_trace.specs.Traces.{Names}
 use Rattle.cw_trace.specs.Steps.{Step as RunStep, Follows, state_after, entry_by as run_entry, entries_of as run_entries}
+use Rattle.cw_trace.proofs.Lists.{cons_head, cons_tail}
 use Rattle.cw_run.specs.Lines.{own_of}
 use Rattle.cw_run.proofs.Runs.{own_lines, own_trace}
 use Rattle.cw_worlds.specs.Forks.{at_fork}
@@ -100,28 +101,18 @@ module _ (names : Names) (g : Game) (t : Table) (plan : Plan) (forks : List ℕ)
       pub follows : Follows problem t next later
       pub quiet : run_entries next later ≡ []
 
-    same_head : (x y : Move) (xs ys : List Move) → x ∷ xs ≡ y ∷ ys → (x ≡ y) × (xs ≡ ys)
-    same_head x y xs ys e = (ap (head_or x) e, ap tail_of e)
-      where
-        head_or : Move → List Move → Move
-        head_or z [] = z
-        head_or z (m ∷ ms) = m
-
-        tail_of : List Move → List Move
-        tail_of [] = []
-        tail_of (m ∷ ms) = ms
-
     pub answered : (s : State) (by : Move) (steps : List RunStep) → turn_of s.board.phase ≡ Some Environment → Follows problem t s steps → run_entries s steps ≡ by ∷ [] → Answered s by steps
     answered s by [] turn h e = cc
     answered s by (step ∷ later) turn h e =
-        let k = same_head step.by by (run_entries step.next later) [] (sym (ap (λ o. run_entry o step.by ++ run_entries step.next later) turn) ∙ e) in
+        let entries : step.by ∷ run_entries step.next later ≡ by ∷ [] = sym (ap (λ o. run_entry o step.by ++ run_entries step.next later) turn) ∙ e in
+        let head = cons_head step.by by (run_entries step.next later) [] entries in
         record {
           next = step.next;
           later = later;
-          is = ap (λ (m : Move). record { by = m; next = step.next } ∷ later) k.0;
-          step = subst (λ m. WovenStep problem t s m step.next) k.0 h.0;
+          is = ap (λ (m : Move). record { by = m; next = step.next } ∷ later) head;
+          step = subst (λ m. WovenStep problem t s m step.next) head h.0;
           follows = h.1;
-          quiet = k.1;
+          quiet = cons_tail step.by by (run_entries step.next later) [] entries;
         }
 
     -- A move of the process in the world.

@@ -38,6 +38,7 @@ use Rattle.cw_product.proofs.Holding.{has, game_is}
 use Rattle.cw_wcheck.proofs.Sounds.{sound}
 use Rattle.cw_trace.specs.Traces.{Names}
 use Rattle.cw_trace.specs.Labels.{names_of as trace_names_of}
+use Rattle.cw_trace.proofs.Lists.{cons_head}
 use Rattle.cw_run.specs.Lines.{own_of}
 use Rattle.cw_run.specs.Walks.{Here, Wait, ret_of, config_of, start_here, Arrives}
 use Rattle.cw_run.proofs.Sees.{Sees, sees_visit, sees_asked, sees_step, sees_branch, sees_label, sees_open, sees_close, sees_call, sees_split, sees_end, see}
@@ -92,9 +93,6 @@ seen_fork forks _ _ frames _ _ sees_call = refl
 seen_fork forks _ _ frames _ _ sees_split = refl
 seen_fork forks _ _ frames _ _ sees_end = refl
 
-fronted : (i item : Item) → i ∷ [] ≡ item ∷ [] → i ≡ item
-fronted i item e = cc
-
 none_front : (item : Item) → [] ≡ item ∷ [] → ⊥
 none_front item e = cc
 
@@ -104,7 +102,7 @@ fork_told g forks [] kept caps word phase p q rets item h e = absurd h
 fork_told g forks ([] ∷ frames) kept caps word phase p q rets item h e = absurd (none_front item e)
 fork_told g forks ((i ∷ is) ∷ frames) kept caps word phase p q rets item h e =
     let sn = see (Least g) g.spots g.policy (g.exit h.0) (i ∷ is) caps word phase p q h.1 in
-    seen_fork forks i is frames phase sn.0 sn.2 ∙ ap (is_fork_item forks) (fronted i item e)
+    seen_fork forks i is frames phase sn.0 sn.2 ∙ ap (is_fork_item forks) (cons_head i item [] [] e)
 
 module _ (h : Held) (source : List ℕ) (file : File) (t : Table) (names : Names) (flags : List Bool) (valid : IsValid (policy_of h.states.policy))
     (lists : AreLists (uses_of (policy_of h.states.policy) h.graph.nodes.items) (lists_of h.states)) (drawn : IsGraph (names_of (policy_of h.states.policy)) source file h.graph)

@@ -7,29 +7,13 @@ use Rattle.cw_certs.specs.Tables.{Table}
 use Rattle.cw_syntax.specs.Frames.{Frame}
 use Rattle.cw_model.specs.Boards.{Problem, Phase, Visit, Refused}
 use Rattle.cw_model.specs.Runs.{State, WovenStep}
+use Rattle.cw_trace.proofs.Lists.{cons_head, cons_tail, joined}
 use Rattle.cw_trace.proofs.OneRun.{is_chosen, same_step}
 use Rattle.cw_worlds.specs.Forks.{forks_in}
 use Rattle.cw_worlds.specs.Worlds.{World, Act, Makes, Forks, WorldStep, Step, Goes, world_after, start_world}
 use Rattle.cw_procs.specs.Steps.{Entry, is_weavers_in, weavers_first, IsInTurn, AreInTurn, entry_by, entries_of, End, Done, BadStep, EndsBy}
 use Rattle.cw_procs.specs.Laws.{OneWorldBySteps}
 use Rattle.cw_procs.proofs.First.{first_is, weavers_turn}
-
--- what two equal lists of entries begin with and go on with
-first_or : Entry → List Entry → Entry
-first_or z [] = z
-first_or z (w ∷ ws) = w
-
-rest_of : List Entry → List Entry
-rest_of [] = []
-rest_of (w ∷ ws) = ws
-
-cons_head : (x y : Entry) (xs ys : List Entry) → x ∷ xs ≡ y ∷ ys → x ≡ y
-unfolding first_or
-cons_head x y xs ys e = ap (first_or x) e
-
-cons_tail : (x y : Entry) (xs ys : List Entry) → x ∷ xs ≡ y ∷ ys → xs ≡ ys
-unfolding rest_of
-cons_tail x y xs ys e = ap rest_of e
 
 -- the end, where it is counted from an entry before
 abbrev later_end : End → End
@@ -123,9 +107,6 @@ module _ (p : Problem) (t : Table) (forks : List ℕ) where
   ended_here w list one other step later h k =
       must_go list one other w (world_after step.next later) step.next step.process step.act (entries_of step.next later) h.3
       (subst (λ o. EndsBy p t forks list other (world_after step.next later) (entry_by o step ++ entries_of step.next later)) h.2 k.3) k.0.0
-
-  joined : (one other : End) (a b : Step) (later others : List Step) → a ≡ b → Same one other later others → Same one other (a ∷ later) (b ∷ others)
-  joined one other a b later others e h = (h.0, ap₂ (λ (y : Step) (l : List Step). y ∷ l) e h.1)
 
   abbrev Later : World → List Step → List Step → Type 0
   Later w later others = (list : List Entry) (one other : End) → IsRest w list one later → IsRest w list other others → Same one other later others

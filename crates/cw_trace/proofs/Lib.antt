@@ -1,4 +1,4 @@
-mod Lists
+pub mod Lists
 pub mod Named
 pub mod OneRun
 pub mod Grown

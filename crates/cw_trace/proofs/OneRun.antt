@@ -10,7 +10,7 @@ use Rattle.cw_certs.specs.declared.rows.TryRow.{TryRow}
 use Rattle.cw_certs.specs.Tables.{Table}
 use Rattle.cw_model.specs.Boards.{Problem, Phase, Visit, Asked, Refused, Free, FreeSplit, Over, Board, Party, Weaver, Environment, Moves, moved, turn_of, IsWeavers}
 use Rattle.cw_model.specs.Runs.{try_of, mem_in, stays_where, stays_unless, refused_with, stops, memories, State, start_state, WovenStep}
-use Rattle.cw_trace.proofs.Lists.{cons_head, cons_tail}
+use Rattle.cw_trace.proofs.Lists.{cons_head, cons_tail, joined}
 use Rattle.cw_trace.specs.Steps.{Step, Follows, state_after, entry_by, entries_of, End, Ended, TapeSpent, BadMove, EndsBy, OneRunByATape}
 
 abbrev at_state : Board → List ℕ → State
@@ -147,9 +147,6 @@ module _ (p : Problem) (t : Table) where
   -- what is still to be shown of the steps after this one
   abbrev Later : State → List Step → List Step → Type 0
   Later s later others = (tape : List Move) (one other : End) → IsRest s tape one later → IsRest s tape other others → Same one other later others
-
-  joined : (one other : End) (a b : Step) (later others : List Step) → a ≡ b → Same one other later others → Same one other (a ∷ later) (b ∷ others)
-  joined one other a b later others e h = (h.0, ap₂ (λ (y : Step) (l : List Step). y ∷ l) e h.1)
 
   one_turn : (s : State) (tape : List Move) (one other : End) (a b : Step) (later others : List Step) (turn : Option Party) → Later a.next later others → turn_of s.board.phase ≡ turn
       → WovenStep p t s a.by a.next → WovenStep p t s b.by b.next → Follows p t a.next later → Follows p t b.next others
