@@ -26,7 +26,7 @@ use Rattle.cw_forms.specs.Moved.{Pairs, SameName, SameOp, Alike, AllAlike}
 use Rattle.cw_forms.specs.Declared.{Both, SameItem, SameDeclaration}
 use Rattle.cw_forms.specs.Statements.{standing, SameWhole, IsFork, IsExit, SameFunction, StaysBefore, StayBefore, SameFile}
 use Rattle.cw_forms.proofs.Observed.{pairs_both, listed_pairs}
-use Rattle.cw_forms.proofs.Trees.{NoneAll, none_of, of_none, none_split, none_join, none_pairs, no_place, place_none, call_of, is_name_op, same_call, nodes_alike, nodes_in_alike}
+use Rattle.cw_forms.proofs.Trees.{NoneAll, none_of, of_none, none_split, none_join, none_pairs, no_place, place_none, call_of, is_name_op, same_call, nodes_alike, parts_alike}
 use Rattle.cw_forms.proofs.Lists.{AllOf, wholes_made, locals_pairs}
 use Rattle.cw_lemmas.proofs.Options.{option_map_none}
 
@@ -389,16 +389,13 @@ module _ (source form : List ℕ) where
       abbrev Clean : Scene → Whole → Type 0
       Clean c w = NoneAll (misuse c) (used c w)
 
-      parts_pairs : (t u : Tree) → L t u → Pairs L (nodes_in (parts_of t)) (nodes_in (parts_of u))
-      parts_pairs (Node p ts a b) (Node q us a' b') h = nodes_in_alike source form ts us h.1
-
       clean_same : (w v : Whole) → SameWhole source form w v → Clean s w → Clean r v
       clean_same w v h k =
           by (w.stands && is_own (action_of s w.tree)) (v.stands && is_own (action_of r v.tree)) refl refl (rw (h.1, own_same w.tree v.tree h.0) refl) k
         where
           by : (b c : Bool) → (w.stands && is_own (action_of s w.tree)) ≡ b → (v.stands && is_own (action_of r v.tree)) ≡ c → c ≡ b
               → NoneAll (misuse s) (cond b (nodes_in (parts_of w.tree)) (nodes w.tree)) → NoneAll (misuse r) (cond c (nodes_in (parts_of v.tree)) (nodes v.tree))
-          by true true e f g n = none_pairs L (misuse s) (misuse r) misuse_none _ _ (parts_pairs w.tree v.tree h.0) n
+          by true true e f g n = none_pairs L (misuse s) (misuse r) misuse_none _ _ (parts_alike source form w.tree v.tree h.0) n
           by true false e f g n = absurd cc
           by false true e f g n = absurd cc
           by false false e f g n = none_pairs L (misuse s) (misuse r) misuse_none _ _ (nodes_alike source form w.tree v.tree h.0) n

@@ -27,7 +27,7 @@ use Rattle.cw_forms.specs.Statements.{standing, SameWhole, IsFork, IsExit, SameF
 use Rattle.cw_forms.proofs.Declarations.{pairs_length}
 use Rattle.cw_forms.proofs.Observed.{pairs_map}
 use Rattle.cw_forms.proofs.Trees.{NoneAll, none_of, of_none, none_split, none_join, none_pairs, no_place, place_none, call_of, called_by, plain_by, name_at, is_name_op, same_call}
-use Rattle.cw_forms.proofs.Trees.{same_plain, nodes_alike, nodes_in_alike, counts_alike, both_some, any_calls_alike, call_if_none, calls_long, second_none, statement_call_alike}
+use Rattle.cw_forms.proofs.Trees.{same_plain, nodes_alike, parts_alike, counts_alike, both_some, any_calls_alike, call_if_none, calls_long, second_none, statement_call_alike}
 use Rattle.cw_forms.proofs.Lists.{AllOf, if_name, filter_none, none_filter, loose, jumps_stand, wholes_made, statements_stand, labels_stand, node_rule, globals_pairs, locals_pairs}
 use Rattle.cw_forms.proofs.Lists.{every_label_pairs, places_pairs, found_same}
 use Rattle.cw_lemmas.proofs.Options.{option_map_none}
@@ -288,9 +288,6 @@ module _ (source form : List ℕ) where
     defined_none : (t u : Tree) → L t u → defined_call source file t ≡ None → defined_call form made u ≡ None
     defined_none t u h e = call_if_none source form (λ f. is_defined source file (text source f)) (λ f. is_defined form made (text form f)) is_found_at t u h e
 
-    parts_alike : (t u : Tree) → L t u → Pairs L (nodes_in (parts_of t)) (nodes_in (parts_of u))
-    parts_alike (Node p ts a b) (Node q us a' b') h = nodes_in_alike source form ts us h.1
-
     cond_none : (b c : Bool) (x y : Option ℕ) → c ≡ b → (x ≡ None → y ≡ None) → cond b x None ≡ None → cond c y None ≡ None
     cond_none true c x y same f e = rw same (f e)
     cond_none false c x y same f e = rw same refl
@@ -304,7 +301,7 @@ module _ (source form : List ℕ) where
     misplaced_none (Some x) (Some y) t u h k e =
         let first = cond (list_any is_call (nodes_in (parts_of x))) (defined_call source file x) None in
         let both = neither first (soonest (map (defined_call source file) (nodes_in (parts_of x)))) e in
-        let parts = parts_alike x y h in
+        let parts = parts_alike source form x y h in
         let here : cond (list_any is_call (nodes_in (parts_of y))) (defined_call form made y) None ≡ None =
         cond_none (list_any is_call (nodes_in (parts_of x))) (list_any is_call (nodes_in (parts_of y))) (defined_call source file x) (defined_call form made y)
         (any_calls_alike source form (nodes_in (parts_of x)) (nodes_in (parts_of y)) parts) (defined_none x y h) both.0 in

@@ -4,7 +4,7 @@ use Rattle.std.specs.List.{filter_map, list_any}
 use Rattle.cw_syntax.specs.declared.program.Name.{Name}
 use Rattle.cw_syntax.specs.declared.program.Op.{Op}
 use Rattle.cw_syntax.specs.declared.program.Op.TheVariants as op
-use Rattle.cw_syntax.specs.Trees.{Tree, Node, Trees, none, more, count}
+use Rattle.cw_syntax.specs.Trees.{Tree, Node, Trees, none, more, parts_of, count}
 use Rattle.cw_scope.specs.Walks.{nodes, nodes_in}
 use Rattle.cw_scope.specs.Names.{plain_name, called_name}
 use Rattle.cw_scope.specs.Rules.{at_if, is_call, call_if, statement_call}
@@ -154,6 +154,9 @@ module _ (source form : List ℕ) where
     nodes_in_alike none (more u us) h = absurd h
     nodes_in_alike (more t ts) none h = absurd h
     nodes_in_alike (more t ts) (more u us) h = pairs_both L (nodes t) (nodes u) (nodes_in ts) (nodes_in us) (nodes_alike t u h.0) (nodes_in_alike ts us h.1)
+
+  pub parts_alike : (t u : Tree) → L t u → Pairs L (nodes_in (parts_of t)) (nodes_in (parts_of u))
+  parts_alike (Node p ts a b) (Node q us a' b') h = nodes_in_alike ts us h.1
 
   pub counts_alike : (ts us : Trees) → AllAlike source form ts us → count us ≡ count ts
   counts_alike none none h = refl
