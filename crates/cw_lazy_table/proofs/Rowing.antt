@@ -1,6 +1,7 @@
 -- The row of a key is a row of the table, and each row of the table is that of a key.
 use Rattle.std.proofs.Common.{◌≡◌, ℕ, [], Bool, true, false, cond, ◌||◌, Option, Some, None, option_map, nat_eq, refl, sym, ap, ◌∙◌, subst}
 use Rattle.std.specs.Prelude.{slice_get}
+use Rattle.std.proofs.lemmas.Option.{same_Some}
 use Rattle.cw_core.specs.declared.ids.SeamId.{SeamId}
 use Rattle.cw_core.specs.declared.ids.StateId.{StateId}
 use Rattle.cw_core.specs.declared.ids.MemId.{MemId}
@@ -18,7 +19,7 @@ use Rattle.cw_fixpoint.specs.Closures.{Exactly}
 use Rattle.cw_game.specs.declared.spots.Spot.{Spot}
 use Rattle.cw_game.specs.declared.spots.Spot.TheVariants.{Asked, Label, Open, Close}
 use Rattle.cw_game.specs.Games.{Game, Config, at_pair, resumed, returned, leads_in, bad_in, weavers_in}
-use Rattle.cw_game.specs.Pairs.{Called, call_in, is_call_in, is_exit_in, kept_at}
+use Rattle.cw_game.specs.Pairs.{Called, is_call_in, is_exit_in, kept_at}
 use Rattle.cw_product.specs.Moves.{pair_of, next_in, next_at}
 use Rattle.cw_solve.specs.Low.{HeightsAreLow}
 use Rattle.cw_lazy_table.specs.declared.key.Key.{Key}
@@ -304,7 +305,7 @@ module _ (g : Game) (functions : ℕ) (can : CanBegin g functions) (low : Height
   back_to xb is =
       let x = xb.0 in
       let c = called_to x is.seam_key in
-      let same : is.call ≡ c.call = same_call (slice_get g.spots x.pos) is.call c.call is.is_call c.is_call in
+      let same : is.call ≡ c.call = same_Some is.call c.call (sym is.is_call ∙ c.is_call) in
       let ended : IsLive g (g.exit c.call.function) xb.1.state c.set =
       subst (λ (f : Called). IsLive g (g.exit f.function) xb.1.state c.set) same
       (subst (λ (p : ℕ). IsLive g p xb.1.state c.set) is.pos (subst (IsLive g xb.1.pos xb.1.state) is.promise is.ended)) in
@@ -317,12 +318,6 @@ module _ (g : Game) (functions : ℕ) (can : CanBegin g functions) (low : Height
             (subst (λ (s : Bool). IsLive g c.call.back (returned g.states (kept_at s x.state) xb.1.state) x.promise) c.modes
             (returns x.pos x.state x.promise c.set xb.1.state c.call is.seam_key.live c.is_call c.full ended)));
       }
-    where
-      same_call : (o : Option Spot) (a b : Called) → call_in o ≡ Some a → call_in o ≡ Some b → a ≡ b
-      same_call o a b e f = some_same a b (sym e ∙ f)
-        where
-          some_same : (a b : Called) → ◌≡◌ {A = Option Called} (Some a) (Some b) → a ≡ b
-          some_same a b e = cc
 
   pub back_from : (r : BackRow) → IsBackRow g ms r → (xb : SeamKey × Key) × IsReturn g xb × (r ≡ back_row g ms xb)
   back_from r h =
