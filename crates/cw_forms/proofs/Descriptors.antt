@@ -26,7 +26,7 @@ use Rattle.cw_forms.specs.Moved.{Pairs, SameName, SameOp, Alike, AllAlike}
 use Rattle.cw_forms.specs.Declared.{Both, SameItem, SameDeclaration}
 use Rattle.cw_forms.specs.Statements.{standing, SameWhole, IsFork, IsExit, SameFunction, StaysBefore, StayBefore, SameFile}
 use Rattle.cw_forms.proofs.Observed.{pairs_both, listed_pairs}
-use Rattle.cw_forms.proofs.Trees.{NoneAll, none_of, of_none, none_split, none_join, none_pairs, no_place, place_none, call_of, is_name_op, same_call, nodes_alike, parts_alike}
+use Rattle.cw_forms.proofs.Trees.{NoneAll, none_of, of_none, none_split, none_join, none_pairs, no_place, place_none, call_of, is_name_op, same_call, same_read, nodes_alike, parts_alike}
 use Rattle.cw_forms.proofs.Lists.{AllOf, wholes_made, locals_pairs}
 use Rattle.cw_lemmas.proofs.Options.{option_map_none}
 
@@ -56,34 +56,10 @@ module _ (source form : List ℕ) where
   -- ---- where variables are declared
 
   same_minus : (p : Op) (a b : ℕ) (q : Op) (a' b' : ℕ) → SameOp source form p a b q a' b' → is_minus q ≡ is_minus p
-  same_minus op.Name a b q a' b' h = ap is_minus h.0
-  same_minus (op.Call f) a b q a' b' h = ap is_minus h.1
-  same_minus (op.Number n) a b q a' b' h = ap is_minus h
-  same_minus (op.Char n) a b q a' b' h = ap is_minus h
-  same_minus op.Text a b q a' b' h = ap is_minus h
-  same_minus op.Index a b q a' b' h = ap is_minus h
-  same_minus (op.Prefix n) a b q a' b' h = ap is_minus h
-  same_minus (op.Suffix n) a b q a' b' h = ap is_minus h
-  same_minus (op.Binary n) a b q a' b' h = ap is_minus h
-  same_minus (op.Assign n) a b q a' b' h = ap is_minus h
-  same_minus (op.Cast n) a b q a' b' h = ap is_minus h
-  same_minus op.SizeOf a b q a' b' h = ap is_minus h
-  same_minus (op.SizeOfType n) a b q a' b' h = ap is_minus h
+  same_minus p a b q a' b' h = same_read source form is_minus (λ n m. refl) p a b q a' b' h
 
   same_number : (m : ℕ) (p : Op) (a b : ℕ) (q : Op) (a' b' : ℕ) → SameOp source form p a b q a' b' → is_number m q ≡ is_number m p
-  same_number m op.Name a b q a' b' h = ap (is_number m) h.0
-  same_number m (op.Call f) a b q a' b' h = ap (is_number m) h.1
-  same_number m (op.Number n) a b q a' b' h = ap (is_number m) h
-  same_number m (op.Char n) a b q a' b' h = ap (is_number m) h
-  same_number m op.Text a b q a' b' h = ap (is_number m) h
-  same_number m op.Index a b q a' b' h = ap (is_number m) h
-  same_number m (op.Prefix n) a b q a' b' h = ap (is_number m) h
-  same_number m (op.Suffix n) a b q a' b' h = ap (is_number m) h
-  same_number m (op.Binary n) a b q a' b' h = ap (is_number m) h
-  same_number m (op.Assign n) a b q a' b' h = ap (is_number m) h
-  same_number m (op.Cast n) a b q a' b' h = ap (is_number m) h
-  same_number m op.SizeOf a b q a' b' h = ap (is_number m) h
-  same_number m (op.SizeOfType n) a b q a' b' h = ap (is_number m) h
+  same_number m p a b q a' b' h = same_read source form (is_number m) (λ n k. refl) p a b q a' b' h
 
   minus_same : (t u : Tree) → L t u → is_minus_one u ≡ is_minus_one t
   minus_same (Node p none a b) (Node q none a' b') h = refl

@@ -113,20 +113,24 @@ module _ (source form : List ℕ) where
   same_call op.SizeOf a b q a' b' h = subst (λ (z : Op). Both (SameName source form) None (call_of z)) (sym h) tt
   same_call (op.SizeOfType n) a b q a' b' h = subst (λ (z : Op). Both (SameName source form) None (call_of z)) (sym h) tt
 
-  pub same_is_name : (p : Op) (a b : ℕ) (q : Op) (a' b' : ℕ) → SameOp source form p a b q a' b' → is_name_op q ≡ is_name_op p
-  same_is_name op.Name a b q a' b' h = ap is_name_op h.0
-  same_is_name (op.Call f) a b q a' b' h = ap is_name_op h.1
-  same_is_name (op.Number n) a b q a' b' h = ap is_name_op h
-  same_is_name (op.Char n) a b q a' b' h = ap is_name_op h
-  same_is_name op.Text a b q a' b' h = ap is_name_op h
-  same_is_name op.Index a b q a' b' h = ap is_name_op h
-  same_is_name (op.Prefix n) a b q a' b' h = ap is_name_op h
-  same_is_name (op.Suffix n) a b q a' b' h = ap is_name_op h
-  same_is_name (op.Binary n) a b q a' b' h = ap is_name_op h
-  same_is_name (op.Assign n) a b q a' b' h = ap is_name_op h
-  same_is_name (op.Cast n) a b q a' b' h = ap is_name_op h
-  same_is_name op.SizeOf a b q a' b' h = ap is_name_op h
-  same_is_name (op.SizeOfType n) a b q a' b' h = ap is_name_op h
+  -- what is read off an operator, and not off the name of a call, is the same of both
+  pub same_read : {A : Type 0} (f : Op → A) → ((n m : Name) → f (op.Call m) ≡ f (op.Call n)) → (p : Op) (a b : ℕ) (q : Op) (a' b' : ℕ) → SameOp source form p a b q a' b' → f q ≡ f p
+  same_read f calls op.Name a b q a' b' h = ap f h.0
+  same_read f calls (op.Call n) a b q a' b' h = ap f h.1 ∙ calls n h.0
+  same_read f calls (op.Number n) a b q a' b' h = ap f h
+  same_read f calls (op.Char n) a b q a' b' h = ap f h
+  same_read f calls op.Text a b q a' b' h = ap f h
+  same_read f calls op.Index a b q a' b' h = ap f h
+  same_read f calls (op.Prefix n) a b q a' b' h = ap f h
+  same_read f calls (op.Suffix n) a b q a' b' h = ap f h
+  same_read f calls (op.Binary n) a b q a' b' h = ap f h
+  same_read f calls (op.Assign n) a b q a' b' h = ap f h
+  same_read f calls (op.Cast n) a b q a' b' h = ap f h
+  same_read f calls op.SizeOf a b q a' b' h = ap f h
+  same_read f calls (op.SizeOfType n) a b q a' b' h = ap f h
+
+  same_is_name : (p : Op) (a b : ℕ) (q : Op) (a' b' : ℕ) → SameOp source form p a b q a' b' → is_name_op q ≡ is_name_op p
+  same_is_name p a b q a' b' h = same_read is_name_op (λ n m. refl) p a b q a' b' h
 
   pub same_plain : (p : Op) (a b : ℕ) (q : Op) (a' b' : ℕ) → SameOp source form p a b q a' b' → Both (SameName source form) (name_at (is_name_op p) a b) (name_at (is_name_op q) a' b')
   same_plain op.Name a b q a' b' h = subst (λ (z : Op). Both (SameName source form) (Some (record { from = a; to = b })) (name_at (is_name_op z) a' b')) (sym h.0) h.1
