@@ -31,24 +31,9 @@ use Rattle.cw_forms.proofs.Trees.{same_plain, nodes_alike, parts_alike, counts_a
 use Rattle.cw_forms.proofs.Lists.{AllOf, if_name, filter_none, none_filter, loose, jumps_stand, wholes_made, statements_stand, labels_stand, node_rule, globals_pairs, locals_pairs}
 use Rattle.cw_forms.proofs.Lists.{every_label_pairs, places_pairs, found_same}
 use Rattle.cw_lemmas.proofs.Options.{option_map_none}
-use Rattle.cw_source.proofs.Kept.{neither as parted}
+use Rattle.cw_source.proofs.Kept.{Nine, nine_of}
 
 -- ---- rules one after the other
-
-abbrev Nine : (a b c d e f g h i : Option ScopeFault) → Type 0
-Nine a b c d e f g h i = (a ≡ None) × (b ≡ None) × (c ≡ None) × (d ≡ None) × (e ≡ None) × (f ≡ None) × (g ≡ None) × (h ≡ None) × (i ≡ None)
-
-nine_of : (a b c d e f g h i : Option ScopeFault) → a or_else b or_else c or_else d or_else e or_else f or_else g or_else h or_else i ≡ None → Nine a b c d e f g h i
-nine_of a b c d e f g h i kept =
-    let eight = parted (a or_else b or_else c or_else d or_else e or_else f or_else g or_else h) i kept in
-    let seven = parted (a or_else b or_else c or_else d or_else e or_else f or_else g) h eight.0 in
-    let six = parted (a or_else b or_else c or_else d or_else e or_else f) g seven.0 in
-    let five = parted (a or_else b or_else c or_else d or_else e) f six.0 in
-    let four = parted (a or_else b or_else c or_else d) e five.0 in
-    let three = parted (a or_else b or_else c) d four.0 in
-    let two = parted (a or_else b) c three.0 in
-    let one = parted a b two.0 in
-    (one.0, one.1, two.1, three.1, four.1, five.1, six.1, seven.1, eight.1)
 
 of_nine : (a b c d e f g h i : Option ScopeFault) → Nine a b c d e f g h i → a or_else b or_else c or_else d or_else e or_else f or_else g or_else h or_else i ≡ None
 of_nine a b c d e f g h i (p, q, r, s, t, u, v, x, y) = rw (p, q, r, s, t, u, v, x, y) refl

@@ -16,10 +16,13 @@ pub neither : (a b : Option ScopeFault) → a or_else b ≡ None → (a ≡ None
 neither None b e = (refl, e)
 neither (Some x) b e = absurd (cc)
 
--- of nine rules one after the other: the first, and the last two
-none_of : (a b c d e f g h i : Option ScopeFault) → a or_else b or_else c or_else d or_else e or_else f or_else g or_else h or_else i ≡ None → (a ≡ None) × (h ≡ None) × (i ≡ None)
-none_of a b c d e f g h i none =
-    let eight = neither (a or_else b or_else c or_else d or_else e or_else f or_else g or_else h) i none in
+-- of nine rules one after the other
+abbrev pub Nine : (a b c d e f g h i : Option ScopeFault) → Type 0
+Nine a b c d e f g h i = (a ≡ None) × (b ≡ None) × (c ≡ None) × (d ≡ None) × (e ≡ None) × (f ≡ None) × (g ≡ None) × (h ≡ None) × (i ≡ None)
+
+pub nine_of : (a b c d e f g h i : Option ScopeFault) → a or_else b or_else c or_else d or_else e or_else f or_else g or_else h or_else i ≡ None → Nine a b c d e f g h i
+nine_of a b c d e f g h i kept =
+    let eight = neither (a or_else b or_else c or_else d or_else e or_else f or_else g or_else h) i kept in
     let seven = neither (a or_else b or_else c or_else d or_else e or_else f or_else g) h eight.0 in
     let six = neither (a or_else b or_else c or_else d or_else e or_else f) g seven.0 in
     let five = neither (a or_else b or_else c or_else d or_else e) f six.0 in
@@ -27,13 +30,15 @@ none_of a b c d e f g h i none =
     let three = neither (a or_else b or_else c) d four.0 in
     let two = neither (a or_else b) c three.0 in
     let one = neither a b two.0 in
-    (one.0, seven.1, eight.1)
+    (one.0, one.1, two.1, three.1, four.1, five.1, six.1, seven.1, eight.1)
 
 module _ (source : List ℕ) (file : File) (kept : scope_fault source file ≡ None) where
   rules : (no_main source file ≡ None) × (jump (every_statement file) ≡ None) × (limit source file (every_label file) ≡ None)
-  rules = none_of (no_main source file) (two_functions source file) (two_labels source file) (arity source file (every_node file))
+  rules =
+      let nine = nine_of (no_main source file) (two_functions source file) (two_labels source file) (arity source file (every_node file))
       (call_form source file (uses file) (every_whole file)) (main_called source (every_node file)) (reserved_name source (every_name file)) (jump (every_statement file))
-      (limit source file (every_label file)) kept
+      (limit source file (every_label file)) kept in
+      (nine.0, nine.7, nine.8)
 
   there : (b : Bool) → cond b None (Some NoMain) ≡ None → b ≡ true
   there true e = refl
