@@ -37,8 +37,8 @@ never_unread policy source r text (inl (f, is, ne, e)) = cc
 never_unread policy source r text (inr (whole, spelled, inl (f, is, ne, e))) = cc
 never_unread policy source r text (inr (whole, spelled, inr (file, reads, (f, is, e)))) = cc
 
--- what is known where a text is due for `weave`
-pub record IsWon (policy source : List ℕ) (r : Reply) (text : List ℕ) : Type 0 where
+-- a policy and a source are read, their game is made, and this is so of it
+pub record IsPlayed (policy source : List ℕ) (Verdict : PlainPolicy → File → Held → Type 0) : Type 0 where
   pub whole : PlainPolicy
   pub file : File
   pub graph : Graph
@@ -50,7 +50,11 @@ pub record IsWon (policy source : List ℕ) (r : Reply) (text : List ℕ) : Type
   pub is_game : IsGame whole graph held
   pub made : IsMade held
   pub of : IsGameOf (problem_of whole source file) (game_of held)
-  pub verdict : IsVerdict whole source file (game_of held) (Told r text)
+  pub verdict : Verdict whole file held
+
+-- what is known where a text is due for `weave`
+abbrev pub IsWon : (policy source : List ℕ) (r : Reply) (text : List ℕ) → Type 0
+IsWon policy source r text = IsPlayed policy source (λ whole file held. IsVerdict whole source file (game_of held) (Told r text))
 
 pub won : (policy source : List ℕ) (r : Reply) (text : List ℕ) → IsWeaveDue policy source (Told r text) → IsWon policy source r text
 won policy source r text (inl u) = absurd (never_unread policy source r text u)

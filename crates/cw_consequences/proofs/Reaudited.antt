@@ -1,28 +1,21 @@
 -- What `audit` writes, `reaudit` accepts, and nothing else is due for it.
-use Rattle.std.proofs.Common.{◌≡◌, ℕ, zero, suc, ◌+◌, ◌≤◌, List, [], ◌∷◌, ◌++◌, length, map, true, Option, Some, None, refl, sym, ap, ◌∙◌, subst, arith, inl, inr}
+use Rattle.std.proofs.Common.{◌≡◌, ℕ, zero, suc, ◌+◌, ◌≤◌, List, [], ◌∷◌, length, map, true, Option, Some, None, refl, sym, ap, ◌∙◌, subst, arith, inl, inr}
 use Rattle.std.specs.Prelude.{slice_get}
 use Rattle.std.specs.List.{AllByRecursion, flat_map}
 use Rattle.std.proofs.lemmas.Bool.{and_parts, ltb-true}
 use Rattle.std.proofs.lemmas.List.{map-append}
 use Rattle.std.proofs.lemmas.List.Elements.{All-from_recursion}
-use Rattle.cw_core.specs.Quantities.{limit_of}
-use Rattle.cw_core.specs.declared.quantity.Quantity.TheVariants.{Points}
+use Rattle.cw_lemmas.proofs.Lists.{all_append}
 use Rattle.cw_rights.specs.Policies.{PlainPolicy}
-use Rattle.cw_syntax.specs.Plans.{plan_of}
 use Rattle.cw_syntax.specs.Trees.{File}
 use Rattle.cw_resolve.specs.Scenes.{names_of}
 use Rattle.cw_certs.specs.declared.moves.Move.{Move}
 use Rattle.cw_certs.specs.declared.moves.Move.TheVariants.{On, Left, Right, Opened, Failed}
-use Rattle.cw_callgraph.specs.Fitting.{Fits}
 use Rattle.cw_points.specs.declared.graph.Graph.{Graph}
-use Rattle.cw_points.specs.Graphs.{IsGraph}
-use Rattle.cw_points.specs.Points.{point_count}
 use Rattle.cw_positions.proofs.Programs.{is_whole, parts_length}
 use Rattle.cw_model.specs.Boards.{problem_of}
 use Rattle.cw_game.specs.Conditions.{is_position, is_state}
 use Rattle.cw_game.specs.Games.{Game, Config}
-use Rattle.cw_game.specs.Standing.{IsGameOf}
-use Rattle.cw_product.specs.Made.{IsMade}
 use Rattle.cw_product.specs.Product.{Held, game_of}
 use Rattle.cw_audit_table.specs.Runs.{Goes, here, skips, goes, is_step}
 use Rattle.cw_audit_table.specs.Tables.{PlainRow, PlainGroup, Audit}
@@ -35,27 +28,20 @@ use Rattle.cw_audit.specs.Audits.{IsAuditOf, IsFew}
 use Rattle.cw_answer_texts.specs.Spelled.{IsGameMade}
 use Rattle.cw_answer_texts.proofs.Bounds.{few_states, state_small, position_small}
 use Rattle.cw_text.specs.Moves.{IsEnvironments}
-use Rattle.cw_audit_text.specs.declared.text_line.TextLine.{TextLine}
 use Rattle.cw_audit_text.specs.declared.text_line.TextLine.TheVariants.{Go}
 use Rattle.cw_audit_text.specs.TextLines.{FitsLine}
 use Rattle.cw_audit_text.specs.AuditText.{audit_text, body_of, group_lines, row_line, Fits as AuditFits, FitsDistance, HasNoMoves, Spells}
 use Rattle.cw_commands.specs.declared.outcome.Reply.{Reply}
 use Rattle.cw_commands.specs.declared.outcome.Reply.TheVariants.{Yes, No}
 use Rattle.cw_commands.specs.Outcomes.{Due, Told}
-use Rattle.cw_stages.specs.Games.{IsGame}
-use Rattle.cw_stages.specs.Reading.{AreRead}
 use Rattle.cw_stages.specs.Refusals.{yes}
 use Rattle.cw_auditing.specs.Auditing.{IsAuditDue, IsTrueOf, reply_of}
 use Rattle.cw_auditing.specs.Reauditing.{IsReauditDue}
-use Rattle.cw_cli.proofs.Winning.{game_made, never_game, never_unread}
+use Rattle.cw_cli.proofs.Winning.{IsPlayed, game_made, never_game, never_unread}
 use Rattle.cw_consequences.specs.Auditing.{AuditIsAccepted}
 use Rattle.cw_consequences.proofs.Audited.{one_reaudit}
 
 -- ---- each line fits
-
-all_and : (xs ys : List TextLine) → AllByRecursion FitsLine xs → AllByRecursion FitsLine ys → AllByRecursion FitsLine (xs ++ ys)
-all_and [] ys h k = k
-all_and (x ∷ xs) ys h k = (h.0, all_and xs ys h.1 k)
 
 all_rows : (rows : List PlainRow) → ((n : ℕ) (r : PlainRow) → slice_get rows n ≡ Some r → FitsLine (row_line r)) → AllByRecursion FitsLine (map row_line rows)
 all_rows [] h = tt
@@ -64,7 +50,7 @@ all_rows (r ∷ rows) h = (h zero r refl, all_rows rows (λ n x e. h (suc n) x e
 all_groups : (groups : List PlainGroup) → ((i : ℕ) (grp : PlainGroup) → slice_get groups i ≡ Some grp → AllByRecursion FitsLine (group_lines grp))
     → AllByRecursion FitsLine (flat_map group_lines groups)
 all_groups [] h = tt
-all_groups (x ∷ groups) h = all_and (group_lines x) (flat_map group_lines groups) (h zero x refl) (all_groups groups (λ i grp e. h (suc i) grp e))
+all_groups (x ∷ groups) h = all_append FitsLine (group_lines x) (flat_map group_lines groups) (h zero x refl) (all_groups groups (λ i grp e. h (suc i) grp e))
 
 step_fits : (by : Move) → is_step by ≡ true → IsEnvironments by
 step_fits On e = tt
@@ -79,7 +65,7 @@ run_fits : (g : Game) (c d : Config) (ms : List Move) → Goes g c ms d → AllB
 run_fits g c _ [] here = tt
 run_fits g c d ms (skips _ x _ before leads) = run_fits g c x ms before
 run_fits g c d _ (goes ns x _ by before good step leads) =
-    subst (AllByRecursion FitsLine) (sym (map-append Go ns (by ∷ []))) (all_and (map Go ns) (Go by ∷ []) (run_fits g c x ns before) (step_fits by step, tt))
+    subst (AllByRecursion FitsLine) (sym (map-append Go ns (by ∷ []))) (all_append FitsLine (map Go ns) (Go by ∷ []) (run_fits g c x ns before) (step_fits by step, tt))
 
 distance_fits : (o : Option ℕ) → IsFew o → FitsDistance o
 distance_fits None few = tt
@@ -121,7 +107,7 @@ audit_fits h is functions few t of =
       distance = distance_fits t.distance of.few_moves;
       moves = no_moves t.distance t.moves of.needed;
       items = All-from_recursion FitsLine (body_of t)
-          (all_and (map Go t.moves) (flat_map group_lines t.groups) (moves t.distance refl) (all_groups t.groups (group_fits h is functions few t of.good of.stated)));
+          (all_append FitsLine (map Go t.moves) (flat_map group_lines t.groups) (moves t.distance refl) (all_groups t.groups (group_fits h is functions few t of.good of.stated)));
     }
   where
     moves : (o : Option ℕ) → t.distance ≡ o → AllByRecursion FitsLine (map Go t.moves)
@@ -138,23 +124,15 @@ abbrev reply_in : Due → Reply
 reply_in (Told r text) = r
 reply_in _ = No
 
-pub record IsToldOf (policy source : List ℕ) (r : Reply) (text : List ℕ) : Type 0 where
-  pub whole : PlainPolicy
-  pub file : File
-  pub graph : Graph
-  pub held : Held
-  pub are : AreRead policy source whole file
-  pub fits : Fits source file whole
-  pub few : point_count (plan_of (names_of whole) source file) ≤ limit_of Points
-  pub drawn : IsGraph (names_of whole) source file graph
-  pub is_game : IsGame whole graph held
-  pub made : IsMade held
-  pub of : IsGameOf (problem_of whole source file) (game_of held)
+pub record IsAuditTold (source : List ℕ) (r : Reply) (text : List ℕ) (whole : PlainPolicy) (file : File) (held : Held) : Type 0 where
   pub audit : Audit
   pub is : IsAuditOf (game_of held) (length file.functions) audit
   pub true_of : IsTrueOf (problem_of whole source file) audit
   pub reply_is : r ≡ reply_of audit.distance
   pub text_is : text ≡ audit_text audit
+
+abbrev pub IsToldOf : (policy source : List ℕ) (r : Reply) (text : List ℕ) → Type 0
+IsToldOf policy source r text = IsPlayed policy source (IsAuditTold source r text)
 
 pub told_of : (policy source : List ℕ) (r : Reply) (text : List ℕ) → IsAuditDue policy source (Told r text) → IsToldOf policy source r text
 told_of policy source r text (inl u) = absurd (never_unread policy source r text u)
@@ -175,11 +153,7 @@ told_of policy source r text (inr (whole, file, are, inr (fits, inr (few, graph,
   is_game = is_game;
   made = made;
   of = of;
-  audit = t;
-  is = is;
-  true_of = true_of;
-  reply_is = ap reply_in e;
-  text_is = ap text_in e;
+  verdict = record { audit = t; is = is; true_of = true_of; reply_is = ap reply_in e; text_is = ap text_in e };
 }
 
 module _ (policy source : List ℕ) (r : Reply) (text : List ℕ) (w : IsToldOf policy source r text) where
@@ -191,15 +165,15 @@ module _ (policy source : List ℕ) (r : Reply) (text : List ℕ) (w : IsToldOf 
       let many = ap length w.drawn.parts ∙ parts_length (names_of w.whole) source w.file in
       omega (arith, points, whole, many)
 
-  pub spelled : Spells text w.audit
+  pub spelled : Spells text w.verdict.audit
   spelled = record {
-    fits = audit_fits w.held (game_made w.whole source w.file w.graph w.held w.drawn w.few w.is_game w.made) (length w.file.functions) functions_few w.audit w.is;
-    spelled = w.text_is;
+    fits = audit_fits w.held (game_made w.whole source w.file w.graph w.held w.drawn w.few w.is_game w.made) (length w.file.functions) functions_few w.verdict.audit w.verdict.is;
+    spelled = w.verdict.text_is;
   }
 
   accepted : IsReauditDue policy source text (Told Yes yes)
   accepted =
-      inr (w.whole, w.file, w.are, inr (w.audit, spelled, inr (w.fits, inr (w.few, w.graph, w.drawn, inr (w.held, w.is_game, w.made, w.of, inl (w.is.good, w.is.shown, refl, w.true_of.verdict))))))
+      inr (w.whole, w.file, w.are, inr (w.verdict.audit, spelled, inr (w.fits, inr (w.few, w.graph, w.drawn, inr (w.held, w.is_game, w.made, w.of, inl (w.verdict.is.good, w.verdict.is.shown, refl, w.verdict.true_of.verdict))))))
 
 pub audit_is_accepted : AuditIsAccepted
 audit_is_accepted policy source text r due =

@@ -59,10 +59,10 @@ violated_none p (Some T) never h = refl
 
 module _ (policy source : List ℕ) (reply : Reply) (text : List ℕ) (a : IsToldOf policy source reply text) (whole : PlainPolicy) (file : File) where
   -- the audit's verdict is on the problem that another way of reading gives
-  verdict_for : a.whole ≡ whole → a.file ≡ file → IsVerdict (problem_of whole source file) a.audit.distance
+  verdict_for : a.whole ≡ whole → a.file ≡ file → IsVerdict (problem_of whole source file) a.verdict.audit.distance
   verdict_for wholes files =
-      subst (λ (f : File). IsVerdict (problem_of whole source f) a.audit.distance) files
-      (subst (λ (x : PlainPolicy). IsVerdict (problem_of x source a.file) a.audit.distance) wholes a.true_of.verdict)
+      subst (λ (f : File). IsVerdict (problem_of whole source f) a.verdict.audit.distance) files
+      (subst (λ (x : PlainPolicy). IsVerdict (problem_of x source a.file) a.verdict.audit.distance) wholes a.verdict.true_of.verdict)
 
 pub tells_tried : AuditTellsWhatIsTried
 tells_tried policy source woven text reply won_due audit_due =
@@ -78,8 +78,8 @@ tells_tried policy source woven text reply won_due audit_due =
       are = w.are;
       stands = w.verdict.stands;
       tried = (
-        (λ e. law.0 (subst (IsVerdict p) (none_of a.audit.distance (sym a.reply_is ∙ e)) verdict)),
-        (λ never. a.reply_is ∙ never_none p a.audit.distance (law.1 never) verdict),
+        (λ e. law.0 (subst (IsVerdict p) (none_of a.verdict.audit.distance (sym a.verdict.reply_is ∙ e)) verdict)),
+        (λ never. a.verdict.reply_is ∙ never_none p a.verdict.audit.distance (law.1 never) verdict),
       );
     }
 
@@ -90,7 +90,7 @@ refuted_violates policy source strategy text reply won_due audit_due =
     let p = problem_of w.whole source w.file in
     let verdict = verdict_for policy source reply text a w.whole w.file (one_policy policy a.whole w.whole a.are.spelled w.are.spelled) (one_program source a.file w.file a.are.reads w.are.reads) in
     let v = forced_violated p w.verdict.forced.0 w.verdict.forced.1 in
-    a.reply_is ∙ violated_none p a.audit.distance (λ (none : IsVerdict p None). none v.0 v.1) verdict
+    a.verdict.reply_is ∙ violated_none p a.verdict.audit.distance (λ (none : IsVerdict p None). none v.0 v.1) verdict
 
 -- ---- two policies with the same rules
 
@@ -105,13 +105,13 @@ say_same policy other source text answer reply again x y spells spelled_too same
     let files : b.file ≡ a.file = one_program source b.file a.file b.are.reads a.are.reads in
     let first = verdict_for policy source reply text a x a.file (one_policy policy a.whole x a.are.spelled spells) refl in
     let second = verdict_for other source again answer b y a.file (one_policy other b.whole y b.are.spelled spelled_too) files in
-    let moved = ((rules_alone x y source a.file same).verdicts a.audit.distance).0 first in
-    let one : a.audit.distance ≡ b.audit.distance = verdict_one (problem_of y source a.file) a.audit.distance b.audit.distance moved second in (
-      a.reply_is ∙ ap reply_of one ∙ sym b.reply_is,
+    let moved = ((rules_alone x y source a.file same).verdicts a.verdict.audit.distance).0 first in
+    let one : a.verdict.audit.distance ≡ b.verdict.audit.distance = verdict_one (problem_of y source a.file) a.verdict.audit.distance b.verdict.audit.distance moved second in (
+      a.verdict.reply_is ∙ ap reply_of one ∙ sym b.verdict.reply_is,
       λ t u h k.
-          ap (λ (z : Audit). z.distance) (one_audit text t a.audit h (spelled policy source reply text a))
+          ap (λ (z : Audit). z.distance) (one_audit text t a.verdict.audit h (spelled policy source reply text a))
           ∙ one
-          ∙ ap (λ (z : Audit). z.distance) (one_audit answer b.audit u (spelled other source again answer b) k),
+          ∙ ap (λ (z : Audit). z.distance) (one_audit answer b.verdict.audit u (spelled other source again answer b) k),
     )
 
 -- ---- two audits of one policy
@@ -146,12 +146,12 @@ module _ (policy source : List ℕ) (reply : Reply) (text : List ℕ) (a : IsTol
         one_game a.whole b.graph a.graph (alike a.whole source a.file b.graph a.graph drawn a.drawn) b.held a.held
         (subst (λ (x : PlainPolicy). IsGame x b.graph b.held) wholes b.is_game) a.is_game
 
-    good : IsGoodAudit (game_of a.held) (length a.file.functions) b.audit
-    good = subst (λ (x : File). IsGoodAudit (game_of a.held) (length x.functions) b.audit) files (subst (λ (x : Game). IsGoodAudit x (length b.file.functions) b.audit) games b.is.good)
+    good : IsGoodAudit (game_of a.held) (length a.file.functions) b.verdict.audit
+    good = subst (λ (x : File). IsGoodAudit (game_of a.held) (length x.functions) b.verdict.audit) files (subst (λ (x : Game). IsGoodAudit x (length b.file.functions) b.verdict.audit) games b.verdict.is.good)
 
-    one : AreButMoves a.audit b.audit
+    one : AreButMoves a.verdict.audit b.verdict.audit
     one =
-        let z = tables_one (game_of a.held) (length a.file.functions) a.audit b.audit end_alone a.is.good a.is.stated good (subst (λ (x : Game). IsStated x b.audit) games b.is.stated) in
+        let z = tables_one (game_of a.held) (length a.file.functions) a.verdict.audit b.verdict.audit end_alone a.verdict.is.good a.verdict.is.stated good (subst (λ (x : Game). IsStated x b.verdict.audit) games b.verdict.is.stated) in
         record { states = z.0; distance = z.1; groups = z.2 }
 
 pub differ_in_moves : AuditsDifferInMoves
@@ -159,6 +159,6 @@ differ_in_moves policy source text answer reply again due behind =
     let a = told_of policy source reply text due in
     let b = told_of policy source again answer behind in
     let same = one policy source reply text a again answer b in (
-      a.reply_is ∙ ap reply_of same.distance ∙ sym b.reply_is,
-      λ t u h k. but_moves t u a.audit b.audit (one_audit text t a.audit h (spelled policy source reply text a)) (one_audit answer u b.audit k (spelled policy source again answer b)) same,
+      a.verdict.reply_is ∙ ap reply_of same.distance ∙ sym b.verdict.reply_is,
+      λ t u h k. but_moves t u a.verdict.audit b.verdict.audit (one_audit text t a.verdict.audit h (spelled policy source reply text a)) (one_audit answer u b.verdict.audit k (spelled policy source again answer b)) same,
     )
