@@ -3,6 +3,7 @@ use Rattle.std.proofs.Common.{◌≡◌, ℕ, zero, suc, ◌<◌, List, [], ◌�
 use Rattle.std.specs.Prelude.{◌⊎◌, slice_get}
 use Rattle.std.proofs.lemmas.Option.{same_Some, none-some}
 use Rattle.std.proofs.lemmas.List.Elements.{Contains-append_left}
+use Rattle.cw_lemmas.proofs.Lists.{get_front}
 use Rattle.cw_game.specs.Games.{Game, returned, holds_in, Holds}
 use Rattle.cw_game.specs.Pairs.{has, Called, kept_at}
 use Rattle.cw_solve.specs.declared.contexts.Context.{Context}
@@ -17,11 +18,6 @@ use Rattle.cw_linked.proofs.Leading.{in_same, next_cell}
 use Rattle.cw_linked.proofs.Least.{all_of, link_of, back_of}
 
 -- what stands in a longer list
-pub before_push : {X : Type 0} (xs : List X) (y : X) (i : ℕ) (x : X) → slice_get xs i ≡ Some x → slice_get (xs ++ y ∷ []) i ≡ Some x
-before_push [] y i x e = absurd (none-some x e)
-before_push (z ∷ xs) y zero x e = e
-before_push (z ∷ xs) y (suc i) x e = before_push xs y i x e
-
 pub push_cases : {X : Type 0} (xs : List X) (y : X) (i : ℕ) (x : X) → slice_get (xs ++ y ∷ []) i ≡ Some x → (slice_get xs i ≡ Some x) ⊎ ((i ≡ length xs) × (y ≡ x))
 push_cases [] y zero x e = inr (refl, same_Some y x e)
 push_cases [] y (suc i) x e = absurd (none-some x e)
@@ -34,7 +30,7 @@ module _ (g : Game) (functions : ℕ) (routed : AreRouted g functions) (alike : 
   Longer = contexts ++ new ∷ []
 
   below_before : (i : ℕ) (c : Context) → slice_get contexts i ≡ Some c → c.function < functions
-  below_before i c at = below i c (before_push contexts new i c at)
+  below_before i c at = below i c (get_front contexts (new ∷ []) i c at)
 
   -- a cell is of a context that was there, or of the new one
   cell_before : (i : ℕ) (c : Context) (p q : ℕ) → IsCell g Longer i c p q → slice_get contexts i ≡ Some c → IsCell g contexts i c p q
@@ -63,7 +59,7 @@ module _ (g : Game) (functions : ℕ) (routed : AreRouted g functions) (alike : 
   free_new i c p k call is e = at_new i c p k is.cell e (λ i p k. t.tied i p k ≡ false) (λ cell. adds.new_tieds p k call (record { cell = cell; calls = is.calls; class = is.class }))
 
   goes_on : (i : ℕ) (c : Context) (p k : ℕ) (call : Called) (set : ℕ) → IsLink g contexts i c p k call → GoesTo contexts s i p k call set → GoesTo Longer t i p k call set
-  goes_on i c p k call set is goes = ap (slice_get Longer) (adds.tos i c p k call is) ∙ before_push contexts new (s.to i p k) (context call.function set) goes
+  goes_on i c p k call set is goes = ap (slice_get Longer) (adds.tos i c p k call is) ∙ get_front contexts (new ∷ []) (s.to i p k) (context call.function set) goes
 
   was_tied : (i : ℕ) (c : Context) (p k : ℕ) (call : Called) → IsLink g contexts i c p k call → IsTied t i p k → IsTied s i p k
   was_tied i c p k call is tied = sym (adds.tieds i c p k call is) ∙ tied

@@ -3,6 +3,7 @@ use Rattle.std.proofs.Common.{◌≡◌, ℕ, zero, suc, ◌+◌, ◌-◌, ◌*�
 use Rattle.std.specs.Prelude.{◌⊎◌, slice_get, slice_index, nat_eq, Contains}
 use Rattle.std.proofs.lemmas.Bool.{eq-eqb, ne_eqb}
 use Rattle.std.proofs.lemmas.Option.{same_Some}
+use Rattle.cw_lemmas.proofs.Lists.{in_either}
 use Rattle.cw_game.specs.Games.{Game, Holds}
 use Rattle.cw_game.specs.Pairs.{has, Called, call_in}
 use Rattle.cw_links.specs.Lists.{list_at}
@@ -28,7 +29,6 @@ use Rattle.cw_linked.proofs.Least.{link_of}
 use Rattle.cw_linked.proofs.Losing.{call_lost}
 use Rattle.cw_linked.proofs.Taking.{at_same, one_call}
 use Rattle.cw_linked.proofs.Telling.{below, asked_step, asked_waits, nothing, still_called}
-use Rattle.cw_linked.proofs.Waits.{first_or_later}
 use Rattle.cw_linked.proofs.Working.{Keys, found_keys}
 
 -- a link that isn't tied has no calls to ask for
@@ -180,7 +180,7 @@ module _ (g : Game) (functions : ℕ) (routed : AreRouted g functions) (alike : 
       elim (still_called g functions routed alike old new known asks.step.others asks.step.lowers
       (CallsLeft g Contexts flags (found_of g old) (edge ∷ back) cell.at.number cell.pos.0 cell.state.0) all i c p q is) [
         | inl called ↦ inl called
-        | inr rest ↦ elim (first_or_later edge back (rank flags (index_at g Contexts i p (class_of g rest.0.split q))) rest.3) [
+        | inr rest ↦ elim (in_either edge back (rank flags (index_at g Contexts i p (class_of g rest.0.split q))) rest.3) [
           | inr later ↦ inr (rest.0, rest.1, rest.2, later)
           | inl now ↦
               let k = class_of g rest.0.split q in

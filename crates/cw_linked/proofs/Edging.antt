@@ -3,7 +3,7 @@ use Rattle.std.proofs.Common.{◌≡◌, ℕ, ◌+◌, ◌<◌, ◌≤◌, List,
 use Rattle.std.specs.Prelude.{◌⊎◌, slice_get}
 use Rattle.std.proofs.lemmas.Bool.{cases_lt, false≢true}
 use Rattle.std.proofs.lemmas.Option.{same_Some, none-some}
-use Rattle.cw_lemmas.proofs.Lists.{get_last}
+use Rattle.cw_lemmas.proofs.Lists.{get_last, get_front}
 use Rattle.cw_core.specs.declared.ids.PosId.{PosId}
 use Rattle.cw_certs.specs.declared.moves.Move.{Move}
 use Rattle.cw_game.specs.declared.spots.Spot.{Spot}
@@ -20,13 +20,13 @@ use Rattle.cw_linked.specs.Edges.{AreLed, AreReached, IsListed, AddsMove, AddsMo
 use Rattle.cw_linked.specs.Returns.{AreReturns}
 use Rattle.cw_linked.specs.Steps.{IsMoveIn, Leads}
 use Rattle.cw_linked.specs.Waiting.{pair_of, list_of, HasIn, keeps_state, AreChanges}
-use Rattle.cw_linked.proofs.Adding.{before_push, push_cases}
+use Rattle.cw_linked.proofs.Adding.{push_cases}
 
 -- a new link in front of a list
 module _ {T : Type 0} (old new : Chained T) (list : ℕ) (v : T) (lists : new.lists ≡ with_front old.lists list (length old.values)) (values : new.values ≡ old.values ++ v ∷ [])
     (within : list < length old.lists) where
   pub kept_in : (l : ℕ) (w : T) → HasIn old l w → HasIn new l w
-  kept_in l w h = (h.0, still_in old new list v lists values within l h.0 h.1, ap (λ (vs : List T). slice_get vs h.0) values ∙ before_push old.values v h.0 w h.2)
+  kept_in l w h = (h.0, still_in old new list v lists values within l h.0 h.1, ap (λ (vs : List T). slice_get vs h.0) values ∙ get_front old.values (v ∷ []) h.0 w h.2)
 
   pub new_in : HasIn new list v
   new_in = (length old.values, front_in old new list v lists values within, ap (λ (vs : List T). slice_get vs (length old.values)) values ∙ get_last old.values v)

@@ -2,6 +2,7 @@
 use Rattle.std.proofs.Common.{◌≡◌, ℕ, zero, suc, ◌+◌, ◌*◌, ◌<◌, List, Some, refl, sym, ◌∙◌, subst, arith, inl, inr}
 use Rattle.std.specs.Prelude.{slice_get, Contains}
 use Rattle.std.proofs.lemmas.Bool.{cases_lt}
+use Rattle.cw_lemmas.proofs.Lists.{get_contains}
 use Rattle.cw_game.specs.Games.{Game, Holds}
 use Rattle.cw_game.specs.Pairs.{has, all_states, kept_at}
 use Rattle.cw_solve.specs.declared.contexts.Context.{Context}
@@ -12,7 +13,7 @@ use Rattle.cw_solve.proofs.Falls.{set_as}
 use Rattle.cw_solve.proofs.Still.{needed_tabled}
 use Rattle.cw_linked.specs.Founds.{Found, class_of, AreAlike, IsLink, IsTied, AreFound, AreAbove}
 use Rattle.cw_linked.proofs.Least.{least, tied, tells_none, same_promise, link_of}
-use Rattle.cw_linked.proofs.Tying.{promise_stays, contained}
+use Rattle.cw_linked.proofs.Tying.{promise_stays}
 
 module _ (g : Game) (functions : ℕ) (routed : AreRouted g functions) (alike : AreAlike g) (contexts : List Context)
     (below : (i : ℕ) (c : Context) → slice_get contexts i ≡ Some c → c.function < functions)
@@ -48,7 +49,7 @@ module _ (g : Game) (functions : ℕ) (routed : AreRouted g functions) (alike : 
             | inl after ↦
                 let l = found.right.linked i c p k call link t in (
                   l.0,
-                  contained contexts (s.to i p k) (context call.function l.0) l.1,
+                  get_contains contexts (s.to i p k) (context call.function l.0) l.1,
                   promise_stays g functions routed alike contexts below s found (2 * n + 2) (above (2 * n + 2)) i c p k call l.0 link l.1 l.2 n (omega (arith, after)) (omega arith),
                 )
           ]

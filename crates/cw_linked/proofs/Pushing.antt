@@ -5,7 +5,7 @@ use Rattle.std.proofs.lemmas.Bool.{cases_lt}
 use Rattle.std.proofs.lemmas.List.{length-replicate, length-append, length_push, get_or-replicate, get_or_past, get_or_append_left, get_or-append_right, take-append-le, take_all}
 use Rattle.std.proofs.lemmas.List.Sums.{sum_by-append, sum_by_push}
 use Rattle.std.proofs.lemmas.Option.{slice_get_within}
-use Rattle.cw_lemmas.proofs.Lists.{get_last}
+use Rattle.cw_lemmas.proofs.Lists.{get_last, get_front}
 use Rattle.cw_game.specs.Games.{Game}
 use Rattle.cw_game.specs.Pairs.{Called}
 use Rattle.cw_links.specs.Flags.{is_flagged}
@@ -21,7 +21,7 @@ use Rattle.cw_linked.specs.Calls.{AreCallers}
 use Rattle.cw_linked.specs.Founds.{IsLink}
 use Rattle.cw_linked.specs.Queues.{AreLong, AreHigh, IsLinkAt, AreFlagged, AreDue}
 use Rattle.cw_linked.specs.Works.{known_of, IsKnown, AreUpTo, index_at, value_at}
-use Rattle.cw_linked.proofs.Adding.{before_push, push_cases}
+use Rattle.cw_linked.proofs.Adding.{push_cases}
 use Rattle.cw_linked.proofs.Bounding.{index_is}
 
 -- no number of a longer list is above
@@ -51,7 +51,7 @@ module _ (g : Game) (contexts : List Context) (new : Context) where
   cells_longer = sum_by_push (λ (c : Context). size g c.function) contexts new
 
   pub cell_on : (i : ℕ) (c : Context) (p q : ℕ) → IsCell g contexts i c p q → IsCell g Longer i c p q
-  cell_on i c p q is = record { at = before_push contexts new i c is.at; of = is.of; state = is.state }
+  cell_on i c p q is = record { at = get_front contexts (new ∷ []) i c is.at; of = is.of; state = is.state }
 
   pub link_on : (i : ℕ) (c : Context) (p x : ℕ) (call : Called) → IsLink g contexts i c p x call → IsLink g Longer i c p x call
   link_on i c p x call is = record { cell = cell_on i c p x is.cell; calls = is.calls; class = is.class }
@@ -59,7 +59,7 @@ module _ (g : Game) (contexts : List Context) (new : Context) where
   pub index_on : (i : ℕ) (c : Context) (p q : ℕ) → IsCell g contexts i c p q → index_at g Longer i p q ≡ index_at g contexts i p q
   index_on i c p q is =
       let lt = slice_get_within contexts i c is.at in
-      index_is g Longer i c p q (before_push contexts new i c is.at)
+      index_is g Longer i c p q (get_front contexts (new ∷ []) i c is.at)
       ∙ ap (λ (b : ℕ). b + (q * positions g c.function + (p - g.entry c.function))) (base_before i (omega (arith, lt)))
       ∙ sym (index_is g contexts i c p q is.at)
 

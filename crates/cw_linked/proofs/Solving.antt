@@ -3,6 +3,7 @@ use Rattle.std.proofs.Common.{◌≡◌, ℕ, ◌+◌, ◌*◌, ◌<◌, Bool, L
 use Rattle.std.specs.Prelude.{slice_get, slice_index, count_by, Contains}
 use Rattle.std.proofs.lemmas.List.{get_or_past}
 use Rattle.std.proofs.lemmas.Option.{none-some}
+use Rattle.cw_lemmas.proofs.Lists.{get_contains}
 use Rattle.cw_game.specs.Games.{Game}
 use Rattle.cw_links.specs.Keys.{AreEmpty}
 use Rattle.cw_solve.specs.declared.contexts.Context.{Context}
@@ -28,7 +29,6 @@ use Rattle.cw_linked.proofs.Linking.{freed_known}
 use Rattle.cw_linked.proofs.Measuring.{taken_less, kept_left}
 use Rattle.cw_linked.proofs.Popping.{none_above}
 use Rattle.cw_linked.proofs.Telling.{below}
-use Rattle.cw_linked.proofs.Tying.{contained}
 
 -- The beginning.
 
@@ -137,7 +137,7 @@ module _ (g : Game) (functions : ℕ) (routed : AreRouted g functions) (alike : 
       record {
         heights = λ i c p q is. subst (λ (k : ℕ). HeightIs g p q c.promise (height_by (slice_index w.store.heights k))) (index_is g contexts i c p q is.at)
             (heights_are g functions routed alike contexts functions_below (found_of g w) work.found above i c p q is);
-        all = all_tabled g functions routed alike contexts functions_below (found_of g w) work.found above (contained contexts 0 _ work.known.blocks.first);
+        all = all_tabled g functions routed alike contexts functions_below (found_of g w) work.found above (get_contains contexts 0 _ work.known.blocks.first);
       }
 
 -- The table of what is known.

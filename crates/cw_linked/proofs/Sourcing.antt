@@ -4,7 +4,7 @@ use Rattle.std.specs.Prelude.{slice_get, Contains, replicate}
 use Rattle.std.proofs.lemmas.Bool.{cases_lt, false≢true}
 use Rattle.std.proofs.lemmas.Option.{same_Some, none-some}
 use Rattle.std.proofs.lemmas.List.{length-replicate, get_or-replicate, get_or_past}
-use Rattle.cw_lemmas.proofs.Lists.{get_last}
+use Rattle.cw_lemmas.proofs.Lists.{get_last, get_front}
 use Rattle.cw_certs.specs.declared.moves.Move.{Move}
 use Rattle.cw_certs.specs.declared.moves.Move.TheVariants.{Skip, Try, On, Left, Right}
 use Rattle.cw_game.specs.declared.spots.Spot.{Spot}
@@ -21,7 +21,6 @@ use Rattle.cw_linked.specs.declared.edges.Source.{Source}
 use Rattle.cw_linked.specs.Edges.{AreSteps, AddsSource, AreSourcesTo}
 use Rattle.cw_linked.specs.Steps.{Leads}
 use Rattle.cw_linked.specs.Waiting.{HasIn, keeps_state, is_step, source_at, IsStepTo, AreSources}
-use Rattle.cw_linked.proofs.Adding.{before_push}
 use Rattle.cw_linked.proofs.Edging.{kept_in, new_in, each_move}
 
 -- the same position, and the state is kept
@@ -69,7 +68,7 @@ module _ (g : Game) where
         )
         | inr there ↦
             let was = are l edge there in
-            (was.0, ap (λ (vs : List Source). slice_get vs edge) values ∙ before_push old.values source edge was.0 was.1, was.2)
+            (was.0, ap (λ (vs : List Source). slice_get vs edge) values ∙ get_front old.values (source ∷ []) edge was.0 was.1, was.2)
       ]
 
   -- no link is in any list

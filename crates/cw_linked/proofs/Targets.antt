@@ -3,6 +3,7 @@ use Rattle.std.proofs.Common.{◌≡◌, ℕ, ◌+◌, ◌-◌, ◌*◌, ◌<◌
 use Rattle.std.specs.Prelude.{slice_get, slice_index, option_map, Contains}
 use Rattle.std.proofs.lemmas.List.Elements.{Contains-append_left}
 use Rattle.std.proofs.lemmas.Option.{slice_get_within}
+use Rattle.cw_lemmas.proofs.Lists.{get_contains}
 use Rattle.cw_core.specs.declared.ids.PosId.{PosId}
 use Rattle.cw_game.specs.Games.{Game, returned}
 use Rattle.cw_game.specs.Pairs.{Called, kept_at}
@@ -32,7 +33,6 @@ use Rattle.cw_linked.proofs.Measuring.{tied_less, ties_on, added_left, fewer_sta
 use Rattle.cw_linked.proofs.Pushing.{base_before, cell_on, link_on, value_on}
 use Rattle.cw_linked.proofs.Taking.{one_call}
 use Rattle.cw_linked.proofs.Turns.{turn_calls}
-use Rattle.cw_linked.proofs.Tying.{contained}
 
 -- a context may be added to what is firm
 pub firm_open : (g : Game) (w : Work) → IsFirm g w → IsOpen g w
@@ -92,7 +92,7 @@ module _ (g : Game) (functions : ℕ) (routed : AreRouted g functions) (old : Wo
   pub is_needed : IsNeeded g to
   is_needed = subst (λ (f : ℕ). IsNeeded g (context f to.promise)) function
       (of_call link.at.context moves link.pos.0 link.state.0 to.promise call
-      (freed.firm.known.blocks.needed.needed link.at.context (contained Contexts link.at.number link.at.context freed.at.is.at))
+      (freed.firm.known.blocks.needed.needed link.at.context (get_contains Contexts link.at.number link.at.context freed.at.is.at))
       freed.at.is.of freed.at.is.state is.calls ready.promise)
 
   -- where it is added

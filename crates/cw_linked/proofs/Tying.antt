@@ -2,7 +2,6 @@
 use Rattle.std.proofs.Common.{◌≡◌, ℕ, ◌+◌, ◌*◌, ◌<◌, ◌≤◌, List, Bool, true, Some, refl, sym, ap, ◌∙◌, subst, arith, inl, inr}
 use Rattle.std.specs.Prelude.{slice_get, Contains}
 use Rattle.std.proofs.lemmas.Bool.{cases_lt}
-use Rattle.std.proofs.lemmas.Option.{slice_get_within, get_or_from_slice_get}
 use Rattle.cw_game.specs.Games.{Game, returned, Holds}
 use Rattle.cw_game.specs.Pairs.{has, Called, is_call_in, kept_at}
 use Rattle.cw_solve.specs.declared.contexts.Context.{Context}
@@ -10,6 +9,7 @@ use Rattle.cw_solve.specs.Contexts.{context, promise_at, IsSetOf}
 use Rattle.cw_product.specs.Routed.{AreRouted}
 use Rattle.cw_solve.specs.Rounds.{IsCell, IsAsked, holds_by}
 use Rattle.cw_solve.proofs.Falls.{sooner, member_is, set_as}
+use Rattle.cw_lemmas.proofs.Lists.{get_contains}
 use Rattle.cw_lemmas.proofs.Truths.{not_both}
 use Rattle.cw_solve.proofs.Still.{call_or_not}
 use Rattle.cw_linked.specs.Founds.{Found, class_of, AreAlike, IsLink, IsTied, height_back, GoesTo, IsShrinking, AreRight, Waits, IsCalled, Nothing, AllCalled, AllStanding, AreFound, AreAbove}
@@ -19,10 +19,6 @@ use Rattle.std.proofs.lemmas.Bool.{true_from_ne_false as true_of}
 use Rattle.std.specs.Cmp.{both_ways as same_bools}
 use Rattle.cw_linked.proofs.Lowering.{link_is}
 use Rattle.cw_linked.proofs.Taking.{same_or_other, is_a_call, one_call}
-
--- a context with a number is among them
-pub contained : (contexts : List Context) (i : ℕ) (c : Context) → slice_get contexts i ≡ Some c → Contains contexts c
-contained contexts i c at = (i, slice_get_within contexts i c at, get_or_from_slice_get contexts i c c at)
 
 module _ (g : Game) (functions : ℕ) (routed : AreRouted g functions) (alike : AreAlike g) (contexts : List Context)
     (below : (i : ℕ) (c : Context) → slice_get contexts i ≡ Some c → c.function < functions) where
@@ -64,7 +60,7 @@ module _ (g : Game) (functions : ℕ) (routed : AreRouted g functions) (alike : 
           | inl after ↦
               let l = found.right.linked j d r x call link tied in (
                 l.0,
-                contained contexts (s.to j r x) (context call.function l.0) l.1,
+                get_contains contexts (s.to j r x) (context call.function l.0) l.1,
                 promise_stays s found (2 * n + 1) above j d r x call l.0 link l.1 l.2 m (omega (arith, after)) (omega (arith, less)),
               )
         ])
@@ -130,7 +126,7 @@ module _ (g : Game) (functions : ℕ) (routed : AreRouted g functions) (alike : 
               let e : n ≡ m = omega (arith, le, more) in
               subst (λ (y : Called). (set : ℕ) × Contains contexts (context y.function set) × IsSetOf g set (promise_at g m y.back (kept_at y.split x) d.promise))
               (one_call (slice_get g.spots r) call other link.calls es)
-              (set, contained contexts callee (context call.function set) at, subst (λ (y : ℕ). IsSetOf g set (promise_at g y call.back (kept_at call.split x) d.promise)) e ready.promise)
+              (set, get_contains contexts callee (context call.function set) at, subst (λ (y : ℕ). IsSetOf g set (promise_at g y call.back (kept_at call.split x) d.promise)) e ready.promise)
         ]
 
     pub tied_right : AreRight g contexts After

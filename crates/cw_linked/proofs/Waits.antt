@@ -1,5 +1,5 @@
 -- One pair more of those that wait is asked for.
-use Rattle.std.proofs.Common.{◌≡◌, ℕ, zero, suc, ◌+◌, ◌<◌, ◌≤◌, List, [], ◌∷◌, false, Option, Some, length, get_or, sym, ap, ◌∙◌, subst, arith, inl, inr}
+use Rattle.std.proofs.Common.{◌≡◌, ℕ, ◌+◌, ◌<◌, ◌≤◌, List, [], ◌∷◌, false, Option, Some, length, get_or, sym, ap, ◌∙◌, subst, arith, inl, inr}
 use Rattle.std.specs.Prelude.{◌⊎◌, slice_get, Contains}
 use Rattle.std.proofs.lemmas.Bool.{false≢true}
 use Rattle.std.proofs.lemmas.Option.{same_Some}
@@ -21,6 +21,7 @@ use Rattle.cw_linked.specs.Waiting.{pair_of, list_of, keeps_state, source_at, Ar
 use Rattle.cw_linked.specs.Walks.{IsFrom}
 use Rattle.cw_linked.specs.Works.{Known, known_of, IsKnown}
 use Rattle.std.proofs.lemmas.Bool.{cases_Bool as decide}
+use Rattle.cw_lemmas.proofs.Lists.{in_either}
 use Rattle.cw_linked.proofs.Sourcing.{leads_alike}
 use Rattle.cw_linked.proofs.Telling.{still_closed, two_steps}
 use Rattle.cw_linked.proofs.Walking.{row_whole, now_or_later, row_done}
@@ -39,10 +40,6 @@ AreLeft pairs Later j rest i p q = Later i p q ⊎ ((i ≡ j) × ((edge : ℕ) �
 -- the pairs in the state of a cell that are left to ask for: those of a row from a number on, beside those that come later
 abbrev pub SourcesLeft : Game → List Source → ℕ → (j r x : ℕ) → ℕ → ℕ → ℕ → Type 0
 SourcesLeft g row n j r x i p q = ChangesFor g j r x i p q ⊎ ((i ≡ j) × (q ≡ x) × IsFrom row n (source_at g p))
-
-pub first_or_later : (e : ℕ) (back : List ℕ) (x : ℕ) → Contains (e ∷ back) x → (e ≡ x) ⊎ Contains back x
-first_or_later e back x (zero, lt, is) = inl is
-first_or_later e back x (suc k, lt, is) = inr (k, omega (arith, lt), is)
 
 module _ (g : Game) (contexts : List Context) where
   -- at first, all that wait for the cell
@@ -117,7 +114,7 @@ module _ (g : Game) (contexts : List Context) where
         elim (all i c p q is) [
           | inl done ↦ inl done
           | inr (inl later) ↦ inr (inl later)
-          | inr (inr rest) ↦ elim (first_or_later edge back rest.1.0 rest.1.1) [
+          | inr (inr rest) ↦ elim (in_either edge back rest.1.0 rest.1.1) [
             | inr later ↦ inr (inr (rest.0, (rest.1.0, later, rest.1.2)))
             | inl now ↦
                 let same : pair ≡ pair_of p q = same_Some pair (pair_of p q) (sym here ∙ ap pairs now ∙ rest.1.2) in

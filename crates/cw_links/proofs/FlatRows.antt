@@ -7,7 +7,8 @@ use Rattle.std.proofs.lemmas.Bool.{cases_lt}
 use Rattle.std.proofs.lemmas.List.{length-append, length-drop, length-map, length_push, get_or_append_left, get_or_push, get_or_past, drop-append-le, drop_at, take-append-le, take_all}
 use Rattle.std.proofs.lemmas.List.{append-nil, append_assoc, map_push, map_more}
 use Rattle.std.proofs.lemmas.List.FromFn.{length-map-range_with_len, get_or-map-range_with_len, map-range_with_len_more, fill_by_all}
-use Rattle.std.proofs.lemmas.Option.{none-some, same_Some, slice_get-map, slice_get_within, slice_get-get_or, get_or_from_slice_get}
+use Rattle.std.proofs.lemmas.Option.{none-some, same_Some, slice_get-map, slice_get-get_or}
+use Rattle.cw_lemmas.proofs.Lists.{get_contains}
 use Rattle.cw_links.specs.Lists.{Chained, list_at}
 use Rattle.cw_links.specs.Flat.{row_of, rows_of, AreFlat, row_at, HasValues, AreRowsOf, AreRowsTo, PushesList, IsWalked}
 
@@ -239,9 +240,6 @@ only_some (Some x) v e = same_Some (Some x) (Some v) e
 pub stands_at : {T : Type 0} (xs : List T) (v : T) (h : Contains xs v) → slice_get xs h.0 ≡ Some v
 stands_at {T} xs v h = slice_get-get_or xs h.0 v h.1 ∙ ap (λ (y : T). Some y) h.2
 
-pub Contains-slice_get : {T : Type 0} (xs : List T) (v : T) (k : ℕ) → slice_get xs k ≡ Some v → Contains xs v
-Contains-slice_get xs v k is = (k, slice_get_within xs k v is, get_or_from_slice_get xs k v v is)
-
 module _ {T : Type 0} (chains : Chained T) (rows : List (List T)) (are : AreRowsOf chains rows) where
   pub as_many_rows : length rows ≡ length chains.lists
   as_many_rows = sym (length-map rows (map Some)) ∙ ap (λ (xs : List (List (Option T))). length xs) are ∙ length-map chains.lists (map (slice_get chains.values))
@@ -261,7 +259,7 @@ module _ {T : Type 0} (chains : Chained T) (rows : List (List T)) (are : AreRows
   value_in k cell v h value =
       let here : option_map (slice_get chains.values) (slice_get (list_at chains.lists k) h.0) ≡ Some (Some v)
       = ap (option_map (slice_get chains.values)) (stands_at (list_at chains.lists k) cell h) ∙ ap (λ (o : Option T). Some o) value in
-      Contains-slice_get (row_at rows k) v h.0 (only_some (slice_get (row_at rows k) h.0) v (same_at k h.0 ∙ here))
+      get_contains (row_at rows k) h.0 v (only_some (slice_get (row_at rows k) h.0) v (same_at k h.0 ∙ here))
 
   -- .. and each in a row is that of a cell in the list
   pub value_from : (k : ℕ) (v : T) → Contains (row_at rows k) v → (cell : ℕ) × Contains (list_at chains.lists k) cell × (slice_get chains.values cell ≡ Some v)
@@ -271,4 +269,4 @@ module _ {T : Type 0} (chains : Chained T) (rows : List (List T)) (are : AreRows
       by : (o : Option ℕ) → slice_get (list_at chains.lists k) h.0 ≡ o → option_map (slice_get chains.values) o ≡ Some (Some v)
           → (cell : ℕ) × Contains (list_at chains.lists k) cell × (slice_get chains.values cell ≡ Some v)
       by None at e = absurd (none-some (Some v) e)
-      by (Some cell) at e = (cell, Contains-slice_get (list_at chains.lists k) cell h.0 at, same_Some (slice_get chains.values cell) (Some v) e)
+      by (Some cell) at e = (cell, get_contains (list_at chains.lists k) h.0 cell at, same_Some (slice_get chains.values cell) (Some v) e)

@@ -3,6 +3,7 @@ use Rattle.std.proofs.Common.{◌≡◌, ℕ, suc, ◌+◌, ◌<◌, ◌≤◌, 
 use Rattle.std.specs.Prelude.{slice_index, Contains, Result, Ok, Err, IsOk, IfOk}
 use Rattle.std.proofs.lemmas.Bool.{cases_eq, cases_lt, false≢true}
 use Rattle.std.proofs.lemmas.List.{length_push, length-replicate, length-set, get_or_past, get_or-set_same, get_or-set_other}
+use Rattle.cw_lemmas.proofs.Lists.{head_in, tail_in}
 use Rattle.cw_links.specs.Lists.{Chained, list_at, without, with_front}
 use Rattle.cw_links.proofs.CallerLemmas.{length-without, length-with_front, list_at-with_front_same, list_at-with_front_other, Contains-without_other}
 use Rattle.cw_links.specs.Callers.{AreLinkedBy, AreLinked}
@@ -73,12 +74,6 @@ pushed_linked old new to lists are few front values =
       linked = subst (λ (m : ℕ). AreLinkedBy (to ++ 0 ∷ []) new lists m) (sym n) (one_linked old new (to ++ 0 ∷ []) lists (length to) 0 before last are.some front values);
     }
 
-first_is : (c : ℕ) (xs : List ℕ) → Contains (c ∷ xs) c
-first_is c xs = (0, omega arith, refl)
-
-later_is : (c y : ℕ) (xs : List ℕ) → Contains xs y → Contains (c ∷ xs) y
-later_is c y xs h = (suc h.0, omega (arith, h.1), h.2)
-
 -- a link that is moved to another list stands there, and the others where they stood
 moved_there : (lists : List (List ℕ)) (to : List ℕ) (link l : ℕ) → l < length lists → link < length to
     → ((k : ℕ) → k < length to → Contains (list_at lists (slice_index to k)) k)
@@ -90,7 +85,7 @@ moved_there lists to link l lt inside there k within =
           let list : slice_index (set to link l) k ≡ l = ap (slice_index (set to link l)) e ∙ get_or-set_same to link l 0 inside in
           subst (λ (y : ℕ). Contains (list_at (with_front (without lists link) l link) y) k) (sym list)
           (subst (λ (ys : List ℕ). Contains ys k) (sym (list_at-with_front_same (without lists link) l link long))
-          (subst (λ (y : ℕ). Contains (link ∷ list_at (without lists link) l) y) (sym e) (first_is link (list_at (without lists link) l))))
+          (subst (λ (y : ℕ). Contains (link ∷ list_at (without lists link) l) y) (sym e) (head_in link (list_at (without lists link) l))))
       | inr ne ↦
           let list : slice_index (set to link l) k ≡ slice_index to k = get_or-set_other to link k l 0 ne in
           let rest : Contains (list_at (without lists link) (slice_index to k)) k = Contains-without_other lists link (slice_index to k) k ne (there k within) in
@@ -98,7 +93,7 @@ moved_there lists to link l lt inside there k within =
           (elim (cases_eq (slice_index to k) l) [
             | inl same ↦ subst (λ (y : ℕ). Contains (list_at (with_front (without lists link) l link) y) k) (sym same)
                 (subst (λ (ys : List ℕ). Contains ys k) (sym (list_at-with_front_same (without lists link) l link long))
-                (later_is link k (list_at (without lists link) l) (subst (λ (y : ℕ). Contains (list_at (without lists link) y) k) same rest)))
+                (tail_in link (list_at (without lists link) l) k (subst (λ (y : ℕ). Contains (list_at (without lists link) y) k) same rest)))
             | inr other ↦ subst (λ (ys : List ℕ). Contains ys k) (sym (list_at-with_front_other (without lists link) l link (slice_index to k) other)) rest
           ])
     ]
