@@ -155,14 +155,10 @@ module _ (s : Store) (bound : ℕ) where
     below = λ D l. record { found = found D l; whole = whole D l };
   })
     where
-      from : (o : Option RowKey) (k : PlainRowKey) → option_map plain o ≡ Some k → (at : RowKey) × (o ≡ Some at) × (plain at ≡ k)
-      from None k e = absurd (none-some k e)
-      from (Some at) k e = (at, refl, same_Some (plain at) k e)
-
       found : (D : Option ℕ) → IsLimit bound D → (m : ℕ) (k : PlainRowKey) → slice_get (map plain (filter (is_below s bound) keys)) m ≡ Some k
           → (r : ℕ) × (a : ℕ) × IsRowBelow (found_of s) D k.0 k.1 r k.2 k.3 a
       found D l m k e =
-          let z = from (slice_get (filter (is_below s bound) keys) m) k (sym (slice_get-map plain (filter (is_below s bound) keys) m) ∙ e) in
+          let z = option_map_some plain (slice_get (filter (is_below s bound) keys) m) k (sym (slice_get-map plain (filter (is_below s bound) keys) m) ∙ e) in
           let t = there z.0 (kept_pass (is_below s bound) keys m z.0 z.1) in
           subst (λ (k : PlainRowKey). (r : ℕ) × (a : ℕ) × IsRowBelow (found_of s) D k.0 k.1 r k.2 k.3 a) z.2
           (t.0.reach, t.1.inside, (ap (option_map (λ (e : Entered). e.reach)) t.2, ap (option_map (λ (r : Row). r.inside)) t.3, before D l (t.0.reach + t.1.inside) t.4))

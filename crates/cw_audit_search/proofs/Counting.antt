@@ -13,7 +13,7 @@ use Rattle.std.proofs.lemmas.List.Concat.{length-flat_map}
 use Rattle.std.proofs.lemmas.List.Folds.{list_any-append}
 use Rattle.std.proofs.lemmas.Map.Keys.{IsDistinct-head, IsDistinct-tail, IsDistinct-cons, any_passes_from_place}
 use Rattle.std.proofs.lemmas.Map.Made.{length-le_from_is_member}
-use Rattle.cw_lemmas.proofs.Lists.{any_get}
+use Rattle.cw_lemmas.proofs.Lists.{any_get, all_append}
 use Rattle.cw_game.specs.Games.{Game}
 use Rattle.cw_game.specs.Conditions.{first_failing}
 use Rattle.cw_game.proofs.Goods.{taken, none_first}
@@ -111,17 +111,8 @@ distinct_append : (xs ys : List RowKey) → IsDistinct is_row_key xs → IsDisti
     → IsDistinct is_row_key (xs ++ ys)
 distinct_append [] ys h k f = k
 distinct_append (x ∷ xs) ys h k f =
-    IsDistinct-cons is_row_key x (xs ++ ys) (both_parts xs (IsDistinct-head is_row_key x xs h) (f x (or_left (is_row_key x x) (list_any (is_row_key x) xs) (row_key_itself x))))
+    IsDistinct-cons is_row_key x (xs ++ ys) (all_append (λ j. is_row_key x j ≡ false) xs ys (IsDistinct-head is_row_key x xs h) (f x (or_left (is_row_key x x) (list_any (is_row_key x) xs) (row_key_itself x))))
     (distinct_append xs ys (IsDistinct-tail is_row_key x xs h) k (λ j e. f j (or_right (is_row_key j x) (list_any (is_row_key j) xs) e)))
-  where
-    both_parts : (zs : List RowKey) → AllByRecursion (λ j. is_row_key x j ≡ false) zs → AllByRecursion (λ j. is_row_key x j ≡ false) ys
-        → AllByRecursion (λ j. is_row_key x j ≡ false) (zs ++ ys)
-    both_parts [] a b = b
-    both_parts (z ∷ zs) a b = (a.0, both_parts zs a.1 b)
-
-all_append : (P : RowKey → Type 0) (xs ys : List RowKey) → AllByRecursion P xs → AllByRecursion P ys → AllByRecursion P (xs ++ ys)
-all_append P [] ys h k = k
-all_append P (x ∷ xs) ys h k = (h.0, all_append P xs ys h.1 k)
 
 all_rows : (P : RowKey → Type 0) (grp : PlainGroup) (rows : List PlainRow) → ((n : ℕ) (r : PlainRow) → slice_get rows n ≡ Some r → P (key_of_row grp r))
     → AllByRecursion P (map (key_of_row grp) rows)

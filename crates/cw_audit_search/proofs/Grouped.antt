@@ -3,7 +3,7 @@ use Rattle.std.proofs.Common.{◌≡◌, ℕ, zero, suc, ◌+◌, List, [], ◌�
 use Rattle.std.specs.Prelude.{slice_get, option_map}
 use Rattle.std.specs.List.{AllByRecursion}
 use Rattle.std.proofs.lemmas.Option.{none-some, same_Some, slice_get-map}
-use Rattle.cw_lemmas.proofs.Lists.{all_push}
+use Rattle.cw_lemmas.proofs.Lists.{all_push, get_front}
 use Rattle.cw_audit_table.specs.Tables.{PlainRow, PlainGroup}
 use Rattle.cw_audit_table.specs.Conditions.{is_before, key_of, pair_of}
 use Rattle.cw_audit_search.specs.Searches.{Found}
@@ -35,11 +35,6 @@ ascend_right (x ∷ xs) ys h = ascend_right xs ys h.1
 behind : (xs ys : List RowKey) (m : ℕ) (k : RowKey) → slice_get ys m ≡ Some k → (j : ℕ) × (slice_get (xs ++ ys) j ≡ Some k)
 behind [] ys m k e = (m, e)
 behind (x ∷ xs) ys m k e = let z = behind xs ys m k e in (suc z.0, z.1)
-
-ahead : (xs ys : List RowKey) (m : ℕ) (k : RowKey) → slice_get xs m ≡ Some k → slice_get (xs ++ ys) m ≡ Some k
-ahead [] ys m k e = absurd (none-some k e)
-ahead (x ∷ xs) ys zero k e = e
-ahead (x ∷ xs) ys (suc m) k e = ahead xs ys m k e
 
 row_keys_more : (groups : List PlainGroup) (grp : PlainGroup) (rest : List RowKey) → row_keys_of (groups ++ grp ∷ []) ++ rest ≡ row_keys_of groups ++ (map (key_of_row grp) grp.rows ++ rest)
 row_keys_more [] grp rest = ap (λ r. r ++ rest) (append-nil (map (key_of_row grp) grp.rows))
@@ -126,7 +121,7 @@ module _ (s : Found) where
   at_row_keys [] i n grp r e er = absurd (none-some grp e)
   at_row_keys (x ∷ groups) zero n grp r e er =
       subst (λ (y : PlainGroup). (m : ℕ) × (slice_get (map (key_of_row y) y.rows ++ row_keys_of groups) m ≡ Some (key_of_row grp r))) (sym (same_Some x grp e))
-      (n, ahead (map (key_of_row grp) grp.rows) (row_keys_of groups) n (key_of_row grp r) (slice_get-map (key_of_row grp) grp.rows n ∙ ap (option_map (key_of_row grp)) er))
+      (n, get_front (map (key_of_row grp) grp.rows) (row_keys_of groups) n (key_of_row grp r) (slice_get-map (key_of_row grp) grp.rows n ∙ ap (option_map (key_of_row grp)) er))
   at_row_keys (x ∷ groups) (suc i) n grp r e er =
       let z = at_row_keys groups i n grp r e er in behind (map (key_of_row x) x.rows) (row_keys_of groups) z.0 (key_of_row grp r) z.1
 

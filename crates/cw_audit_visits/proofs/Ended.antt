@@ -1,9 +1,10 @@
 -- Calls go on behind the ends that are listed.
-use Rattle.std.proofs.Common.{◌≡◌, ℕ, ◌+◌, ◌∙◌, List, [], ◌∷◌, ◌++◌, length, true, false, refl, suc, zero, sym, ap, subst, arith, inl, inr}
+use Rattle.std.proofs.Common.{◌≡◌, ℕ, ◌+◌, ◌∙◌, List, [], ◌∷◌, ◌++◌, length, true, false, refl, sym, ap, subst, arith, inl, inr}
 use Rattle.std.specs.Prelude.{Option, Some, slice_get}
-use Rattle.std.proofs.lemmas.Option.{none-some, same_Some, slice_get_within}
+use Rattle.std.proofs.lemmas.Option.{same_Some, slice_get_within}
 use Rattle.std.proofs.lemmas.Bool.Decides.{leb_tells}
 use Rattle.std.proofs.lemmas.Map.Entries.{place_from_lookup}
+use Rattle.cw_lemmas.proofs.Lists.{get_front, get_last}
 use Rattle.cw_lemmas.proofs.Options.{option_map_some}
 use Rattle.cw_product.specs.Product.{Held}
 use Rattle.cw_audit_store.specs.declared.lists.Lists.{Lists}
@@ -19,15 +20,6 @@ use Rattle.cw_audit_visits.specs.declared.under_way.Search.{Search}
 use Rattle.cw_audit_visits.specs.Searching.{AreEnds, AreEndsOf, AreEndsNoted, AreEndsUpTo, IsEndIn, IsEndPut, IsEndNoted, IsIn, IsReturnNoted, end_of, entrance}
 use Rattle.cw_audit_visits.proofs.Oks.{by_truth}
 
-ahead : (ns : List ℕ) (n i m : ℕ) → slice_get ns i ≡ Some m → slice_get (ns ++ n ∷ []) i ≡ Some m
-ahead [] n i m e = absurd (none-some m e)
-ahead (k ∷ ns) n zero m e = e
-ahead (k ∷ ns) n (suc i) m e = ahead ns n i m e
-
-last_of : (ns : List ℕ) (n : ℕ) → slice_get (ns ++ n ∷ []) (length ns) ≡ Some n
-last_of [] n = refl
-last_of (k ∷ ns) n = last_of ns n
-
 module _ (h : Held) (s : Search) (number : ℕ) (ends ends2 : Lists) (at : RowKey) (row : Row) (there : slice_get s.store.rows.entries number ≡ Some (at, row)) where
   same_row_key : (at2 : RowKey) (row2 : Row) → slice_get s.store.rows.entries number ≡ Some (at2, row2) → at ≡ at2
   same_row_key at2 row2 e = ap (λ (p : RowKey × Row). p.0) (same_Some (at, row) (at2, row2) (sym there ∙ e))
@@ -38,12 +30,12 @@ module _ (h : Held) (s : Search) (number : ℕ) (ends ends2 : Lists) (at : RowKe
   end_put here others = record {
     one = λ at2 row2 e is.
         subst (λ (p : RowKey). IsIn (list_of ends2 p.entrance) number) (same_row_key at2 row2 e)
-        (length (list_of ends at.entrance), ap (λ ns. slice_get ns (length (list_of ends at.entrance))) here ∙ last_of (list_of ends at.entrance) number);
+        (length (list_of ends at.entrance), ap (λ ns. slice_get ns (length (list_of ends at.entrance))) here ∙ get_last (list_of ends at.entrance) number);
     others = λ q n i. by_truth {X = IsIn (list_of ends2 q) n} (entrance_eq at.entrance q)
         (λ e. subst (λ ns. IsIn ns n) (sym (others q e)) i)
         (λ e. let same = equal_entrances at.entrance q e in
         subst (λ q. IsIn (list_of ends q) n → IsIn (list_of ends2 q) n) same
-        (λ i. (i.0, ap (λ ns. slice_get ns i.0) here ∙ ahead (list_of ends at.entrance) number i.0 n i.1)) i);
+        (λ i. (i.0, ap (λ ns. slice_get ns i.0) here ∙ get_front (list_of ends at.entrance) (number ∷ []) i.0 n i.1)) i);
   }
 
 -- no row has the number
