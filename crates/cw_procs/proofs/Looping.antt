@@ -1,7 +1,7 @@
 -- What the loop over the steps keeps, for a program's game and a good table.
 use Rattle.std.proofs.Common.{◌≡◌, ℕ, zero, suc, ◌+◌, ◌<◌, ◌≤◌, List, [], ◌∷◌, ◌++◌, map, take, length, get_or, Bool, true, false, Option, Some, None, option_map, refl, sym, ap, ◌∙◌, subst, arith}
 use Rattle.std.specs.Prelude.{slice_get, count_by}
-use Rattle.std.proofs.lemmas.List.{take_all, take_more, map-append, length-map}
+use Rattle.std.proofs.lemmas.List.{take_all, map-append, length-map}
 use Rattle.std.proofs.lemmas.List.Sums.{sum_by_more, sum_by-take-le}
 use Rattle.std.proofs.lemmas.Option.{none-some, slice_get-map, slice_get_read, slice_get_within}
 use Rattle.cw_rights.specs.declared.capabilities.Caps.{Caps}
@@ -38,7 +38,7 @@ use Rattle.cw_product.proofs.Holding.{has, game_is}
 use Rattle.cw_wcheck.proofs.Sounds.{sound}
 use Rattle.cw_trace.specs.Traces.{Names}
 use Rattle.cw_trace.specs.Labels.{names_of as trace_names_of}
-use Rattle.cw_trace.proofs.Lists.{cons_head}
+use Rattle.cw_trace.proofs.Lists.{cons_head, front_more}
 use Rattle.cw_run.specs.Lines.{own_of}
 use Rattle.cw_run.specs.Walks.{Here, Wait, ret_of, config_of, start_here, Arrives}
 use Rattle.cw_run.proofs.Sees.{Sees, sees_visit, sees_asked, sees_step, sees_branch, sees_label, sees_open, sees_close, sees_call, sees_split, sees_end, see}
@@ -53,10 +53,6 @@ use Rattle.cw_procs.proofs.Keeping.{Keeps, begins, went_on, done, bad}
 
 abbrev pub plan_here : Held → List ℕ → File → Plan
 plan_here h source file = plan_of (names_of (policy_of h.states.policy)) source file
-
--- One step more of the list.
-one_more : (steps : List StepData) (i : ℕ) (s : StepData) → i < length steps → s ≡ get_or steps i s → take (i + 1) steps ≡ take i steps ++ s ∷ []
-one_more steps i s lt is = take_more steps i s lt ∙ ap (λ w. take i steps ++ w ∷ []) (sym is)
 
 entries_taken : (steps : List StepData) (i : ℕ) → take i (map entry_of steps) ≡ map entry_of (take i steps)
 entries_taken [] zero = refl
@@ -173,7 +169,7 @@ module _ (h : Held) (source : List ℕ) (file : File) (t : Table) (names : Names
   loop_went steps i s ps ps2 links links2 old mid new b lt is eb k a =
       let a2 = subst (λ y. Acted names g t held (IsFlag h flags) s.process s.fork s.by y ps ps2 links links2 mid new) eb a in
       let e : map entry_of (take i steps) ++ entry_of s ∷ [] ≡ map entry_of (take (i + 1) steps) =
-      sym (ap (map entry_of) (one_more steps i s lt is) ∙ map-append entry_of (take i steps) (s ∷ [])) in
+      sym (ap (map entry_of) (front_more steps i s lt is) ∙ map-append entry_of (take i steps) (s ∷ [])) in
       subst (λ l. Kept l ps2 links2 old new) e
       (went_on names g t plan of.states of.laid of.routines held holds forks safe (IsFlag h flags) flagged (map entry_of (take i steps)) ps ps2 links links2 old mid new s.process s.fork s.by k a2)
 

@@ -7,7 +7,7 @@ use Rattle.cw_certs.specs.Tables.{Table}
 use Rattle.cw_syntax.specs.Frames.{Frame}
 use Rattle.cw_model.specs.Boards.{Problem, Phase, Visit, Refused}
 use Rattle.cw_model.specs.Runs.{State, WovenStep}
-use Rattle.cw_trace.proofs.Lists.{cons_head, cons_tail, joined}
+use Rattle.cw_trace.proofs.Lists.{cons_head, cons_tail, joined, not_read}
 use Rattle.cw_trace.proofs.OneRun.{is_chosen, same_step}
 use Rattle.cw_worlds.specs.Forks.{forks_in}
 use Rattle.cw_worlds.specs.Worlds.{World, Act, Makes, Forks, WorldStep, Step, Goes, world_after, start_world}
@@ -74,12 +74,7 @@ module _ (p : Problem) (t : Table) (forks : List ℕ) where
   first_entry (BadStep (suc i)) w entry first entries rest h =
       (cons_head entry first entries (take i rest) h.0, (BadStep i, refl, (cons_tail entry first entries (take i rest) h.0, h.1)))
 
-  -- where nothing was read the end comes of the first entry
-  not_read : (i : ℕ) (list : List Entry) (entry : Entry) → [] ≡ take i list → slice_get list i ≡ Some entry → i ≡ 0
-  not_read zero list entry e h = refl
-  not_read (suc i) [] entry e h = absurd (none-some entry h)
-  not_read (suc i) (x ∷ list) entry e h = cc
-
+  -- where nothing was read there is one end
   one_end : (list : List Entry) (w : World) (one other : End) → EndsBy p t forks list one w [] → EndsBy p t forks list other w [] → one ≡ other
   one_end list w (Done n) (Done m) h k = ap Done (h.1 ∙ sym k.1)
   one_end list w (Done n) (BadStep i) h k = absurd (none-some k.1.0 (subst (λ l. slice_get l i ≡ Some k.1.0) (sym h.0) k.1.1))

@@ -1,7 +1,7 @@
 -- What the loop over the tape keeps, for a program's game and a good table.
-use Rattle.std.proofs.Common.{◌≡◌, ℕ, ◌+◌, ◌<◌, ◌≤◌, List, [], ◌∷◌, ◌++◌, take, length, get_or, Option, Some, None, refl, sym, ap, ◌∙◌, subst}
+use Rattle.std.proofs.Common.{◌≡◌, ℕ, ◌+◌, ◌<◌, ◌≤◌, List, [], take, length, get_or, Option, Some, None, refl, sym, subst}
 use Rattle.std.specs.List.{All}
-use Rattle.std.proofs.lemmas.List.{take_all, take_more}
+use Rattle.std.proofs.lemmas.List.{take_all}
 use Rattle.std.proofs.lemmas.Option.{slice_get_read}
 use Rattle.std.proofs.lemmas.List.Elements.{All-nil}
 use Rattle.cw_rights.specs.declared.capabilities.Caps.{Caps}
@@ -34,6 +34,7 @@ use Rattle.cw_wcheck.proofs.Sounds.{sound}
 use Rattle.cw_trace.specs.Traces.{Names}
 use Rattle.cw_trace.specs.Labels.{names_of as trace_names_of}
 use Rattle.cw_trace.specs.Steps.{End, Ended, TapeSpent, BadMove}
+use Rattle.cw_trace.proofs.Lists.{front_more}
 use Rattle.cw_run.specs.declared.run.Landing.{Landing as LandingData}
 use Rattle.cw_run.specs.declared.run.Landing.TheVariants.{At, Over}
 use Rattle.cw_run.specs.declared.walk.Here.{Here as HereData}
@@ -51,9 +52,6 @@ pub record LoopKeeps (names : Names) (h : Held) (t : Table) (plan : Plan) (entri
   pub run : Ran names (game_of h) t plan entries (landing_in landing) (innermost waits) old new
   pub there : IsLanding (game_of h) (landing_in landing)
   pub waiting : All (λ w. IsWait (game_of h) (wait_of w)) waits
-
-one_more : (tape : List Move) (i : ℕ) (by : Move) → i < length tape → by ≡ get_or tape i by → take (i + 1) tape ≡ take i tape ++ by ∷ []
-one_more tape i by lt is = take_more tape i by lt ∙ ap (λ w. take i tape ++ w ∷ []) (sym is)
 
 module _ (h : Held) (source : List ℕ) (file : File) (t : Table) (names : Names) (valid : IsValid (policy_of h.states.policy))
     (lists : AreLists (uses_of (policy_of h.states.policy) h.graph.nodes.items) (lists_of h.states)) (drawn : IsGraph (names_of (policy_of h.states.policy)) source file h.graph)
@@ -100,7 +98,7 @@ module _ (h : Held) (source : List ℕ) (file : File) (t : Table) (names : Names
       let k = subst (λ z. Keeps (take i tape) z waits old mid) ep k0 in
       let w = subst (λ z. Answered names g t held same (here_of here) by z (innermost waits) (innermost waits2) mid new) eo a in
       let n = w.0 in
-      subst (λ entries. Keeps entries landing waits2 old new) (sym (one_more tape i by lt is))
+      subst (λ entries. Keeps entries landing waits2 old new) (sym (front_more tape i by lt is))
       (record {
         run =
             went names g t plan of.states of.laid of.routines held holds same refl (start_on g t plan) (take i tape) (here_of here) (innermost waits) (innermost waits2)

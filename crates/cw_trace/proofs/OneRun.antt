@@ -10,7 +10,7 @@ use Rattle.cw_certs.specs.declared.rows.TryRow.{TryRow}
 use Rattle.cw_certs.specs.Tables.{Table}
 use Rattle.cw_model.specs.Boards.{Problem, Phase, Visit, Asked, Refused, Free, FreeSplit, Over, Board, Party, Weaver, Environment, Moves, moved, turn_of, IsWeavers}
 use Rattle.cw_model.specs.Runs.{try_of, mem_in, stays_where, stays_unless, refused_with, stops, memories, State, start_state, WovenStep}
-use Rattle.cw_trace.proofs.Lists.{cons_head, cons_tail, joined}
+use Rattle.cw_trace.proofs.Lists.{cons_head, cons_tail, joined, not_read}
 use Rattle.cw_trace.specs.Steps.{Step, Follows, state_after, entry_by, entries_of, End, Ended, TapeSpent, BadMove, EndsBy, OneRunByATape}
 
 abbrev at_state : Board → List ℕ → State
@@ -103,12 +103,7 @@ module _ (p : Problem) (t : Table) where
   first_entry (BadMove (suc i)) b entry first entries rest h =
       (cons_head entry first entries (take i rest) h.0, (BadMove i, refl, (cons_tail entry first entries (take i rest) h.0, h.1)))
 
-  -- where nothing was read the end comes of the first entry
-  not_read : (i : ℕ) (tape : List Move) (by : Move) → [] ≡ take i tape → slice_get tape i ≡ Some by → i ≡ 0
-  not_read zero tape by e h = refl
-  not_read (suc i) [] by e h = absurd (none-some by h)
-  not_read (suc i) (w ∷ tape) by e h = cc
-
+  -- where nothing was read there is one end
   one_end : (tape : List Move) (b : Board) (one other : End) → EndsBy p tape one b [] → EndsBy p tape other b [] → one ≡ other
   one_end tape b Ended Ended h k = refl
   one_end tape b TapeSpent TapeSpent h k = refl
