@@ -5,12 +5,13 @@ use Rattle.std.specs.Prelude.{slice_get, codes}
 use Rattle.std.specs.List.{flat_map, All}
 use Rattle.std.proofs.lemmas.Option.{none-some, same_Some}
 use Rattle.std.proofs.lemmas.List.{map-append, length-map, take_more}
+use Rattle.std.proofs.lemmas.List.Concat.{flat_map-append}
 use Rattle.std.proofs.lemmas.List.Elements.{All-nil, All-cons, All-push}
 use Rattle.cw_core.specs.declared.ids.PosId.{PosId}
 use Rattle.cw_core.specs.declared.ids.StateId.{StateId}
 use Rattle.cw_certs.specs.declared.moves.Move.{Move}
 use Rattle.cw_audit_table.specs.declared.table.Group.{Group}
-use Rattle.cw_audit_table.specs.Tables.{AreFew, PlainGroup, Audit, row_of, group_of}
+use Rattle.cw_audit_table.specs.Tables.{AreFew, Audit, row_of, group_of}
 use Rattle.cw_text.specs.Lines.{states_line, end_line}
 use Rattle.cw_text_lines.proofs.Starts.{line_end}
 use Rattle.cw_audit_text.specs.declared.text_line.TextLine.{TextLine}
@@ -78,13 +79,9 @@ rows_fit old new r e h k = subst (All FitsLine) (sym (rows_push old new r e)) (A
 abbrev pub groups_lines : List Group → List TextLine
 groups_lines groups = flat_map group_lines (map group_of groups)
 
-pub flat_two : (xs ys : List PlainGroup) → flat_map group_lines (xs ++ ys) ≡ flat_map group_lines xs ++ flat_map group_lines ys
-flat_two [] ys = refl
-flat_two (x ∷ xs) ys = ap (λ t. group_lines x ++ t) (flat_two xs ys) ∙ sym (append_assoc (group_lines x) (flat_map group_lines xs) (flat_map group_lines ys))
-
 groups_push : (old new : List Group) (g : Group) → new ≡ old ++ g ∷ [] → groups_lines new ≡ groups_lines old ++ group_lines (group_of g)
 groups_push old new g e =
-    ap groups_lines e ∙ ap (flat_map group_lines) (map-append group_of old (g ∷ [])) ∙ flat_two (map group_of old) (group_of g ∷ [])
+    ap groups_lines e ∙ ap (flat_map group_lines) (map-append group_of old (g ∷ [])) ∙ flat_map-append group_lines (map group_of old) (group_of g ∷ [])
     ∙ ap (λ t. groups_lines old ++ t) (append-nil (group_lines (group_of g)))
 
 pub groups_more : (text rest after more : List ℕ) (old new : List Group) (g : Group) → new ≡ old ++ g ∷ [] → text ≡ whole_lines (groups_lines old) ++ rest

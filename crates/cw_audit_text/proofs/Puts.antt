@@ -74,18 +74,11 @@ lines_begin items text = sym (append-nil text)
 
 pub lines_step : {A : Type 0} (items : A → List TextLine) (old now new : List ℕ) (xs : List A) (i : ℕ) (d : A) → i < length xs → now ≡ old ++ Lines items (take i xs)
     → new ≡ now ++ whole_lines (items (get_or xs i d)) → new ≡ old ++ Lines items (take (i + 1) xs)
-lines_step {A = A} items old now new xs i d lt so_far put =
+lines_step items old now new xs i d lt so_far put =
     put ∙ ap (λ t. t ++ whole_lines (items (get_or xs i d))) so_far ∙ append_assoc old (Lines items (take i xs)) (whole_lines (items (get_or xs i d)))
     ∙ ap (λ t. old ++ t) (sym (lines_two (flat_map items (take i xs)) (items (get_or xs i d)))
-    ∙ ap whole_lines (ap (λ t. flat_map items (take i xs) ++ t) (sym (flat_one (items (get_or xs i d)))) ∙ sym (flat_items (take i xs) (get_or xs i d ∷ []))
+    ∙ ap whole_lines (ap (λ t. flat_map items (take i xs) ++ t) (sym (append-nil (items (get_or xs i d)))) ∙ sym (flat_map-append items (take i xs) (get_or xs i d ∷ []))
     ∙ ap (flat_map items) (sym (take_more xs i d lt))))
-  where
-    flat_one : (is : List TextLine) → is ++ [] ≡ is
-    flat_one is = append-nil is
-
-    flat_items : (xs ys : List A) → flat_map items (xs ++ ys) ≡ flat_map items xs ++ flat_map items ys
-    flat_items [] ys = refl
-    flat_items (x ∷ xs) ys = ap (λ t. items x ++ t) (flat_items xs ys) ∙ sym (append_assoc (items x) (flat_map items xs) (flat_map items ys))
 
 pub lines_end : {A : Type 0} (items : A → List TextLine) (old now : List ℕ) (xs : List A) (i : ℕ) → length xs ≤ i → now ≡ old ++ Lines items (take i xs) → now ≡ old ++ Lines items xs
 lines_end items old now xs i le h = h ∙ ap (λ ys. old ++ Lines items ys) (take_all i xs le)

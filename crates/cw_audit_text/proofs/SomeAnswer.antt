@@ -6,6 +6,7 @@ use Rattle.std.specs.List.{flat_map, All}
 use Rattle.std.proofs.lemmas.Bool.{cases_eq, false≢true}
 use Rattle.std.proofs.lemmas.Slice.Eq.{bytes_eq-Decides}
 use Rattle.std.proofs.lemmas.List.{map-append}
+use Rattle.std.proofs.lemmas.List.Concat.{flat_map-append}
 use Rattle.std.proofs.lemmas.List.Elements.{All-nil, All-push}
 use Rattle.cw_certs.specs.declared.moves.Move.{Move}
 use Rattle.cw_certs.specs.declared.moves.Move.TheVariants.{Skip, Try, Grant, Refuse, On, Left, Right, Opened, Failed, Stop}
@@ -22,7 +23,7 @@ use Rattle.cw_audit_text.specs.TextLines.{line_text, whole_line, FitsLine}
 use Rattle.cw_audit_text.specs.AuditText.{head_line, verdict_line, row_line, group_lines, body_of, whole_lines, audit_text, HasNoMoves}
 use Rattle.cw_audit_text.specs.Faults.{StartsWith, Begins, MayFollow, IsAnswer, no_head, no_states, no_verdict, no_line, no_end, verdict_of}
 use Rattle.cw_audit_text.proofs.Lines.{one_start, starts_nowhere, starts_otherwise}
-use Rattle.cw_audit_text.proofs.Behind.{begun, is_end, line_more, no_lines, shorter, flat_two}
+use Rattle.cw_audit_text.proofs.Behind.{begun, is_end, line_more, no_lines, shorter}
 
 -- ---- what can be decided
 
@@ -197,7 +198,7 @@ move_more : (moves : List Move) (by : Move) → map Go (moves ++ by ∷ []) ++ [
 move_more moves by = append-nil (map Go (moves ++ by ∷ [])) ∙ map-append Go moves (by ∷ []) ∙ ap (λ (ls : List TextLine). ls ++ Go by ∷ []) (sym (append-nil (map Go moves)))
 
 group_more : (groups : List PlainGroup) (f q r : ℕ) → flat_map group_lines (groups ++ empty f q r ∷ []) ≡ flat_map group_lines groups ++ In f q r ∷ []
-group_more groups f q r = flat_two groups (empty f q r ∷ [])
+group_more groups f q r = flat_map-append group_lines groups (empty f q r ∷ [])
 
 begins_with : (text rest more : List ℕ) (states : ℕ) (D : Option ℕ) (moves moves2 : List Move) (groups groups2 : List PlainGroup) (l : TextLine)
     → Begins text (audit states D moves groups) rest
