@@ -9,7 +9,7 @@ use Rattle.cw_detach.specs.Form.{form_of}
 use Rattle.cw_rights.specs.Policies.{PlainPolicy}
 use Rattle.cw_detach.specs.Faults.{long, deep, is_shallow, taken, result_taken, name_fault, text_fault, IsFirstFault, IsTextFault, ◌or_else◌}
 
-neither : {X : Type 0} (a b : Option X) → None ≡ option_or a b → (None ≡ a) × (None ≡ b)
+pub neither : {X : Type 0} (a b : Option X) → None ≡ option_or a b → (None ≡ a) × (None ≡ b)
 neither None b e = (refl, e)
 neither (Some x) b e = absurd (cc)
 

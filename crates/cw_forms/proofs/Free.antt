@@ -2,7 +2,7 @@
 use Rattle.std.proofs.Common.{◌≡◌, ℕ, Bool, true, false, cond, ◌||◌, is_some, List, [], ◌∷◌, ◌++◌, Option, None, Some, refl, sym, ap, subst, ◌∙◌}
 use Rattle.std.specs.Prelude.{codes}
 use Rattle.std.specs.List.{find}
-use Rattle.std.specs.Option.{option_map, option_or}
+use Rattle.std.specs.Option.{option_map}
 use Rattle.std.specs.Str.{bytes_eq}
 use Rattle.std.proofs.lemmas.Slice.Eq.{bytes_eq-Decides}
 use Rattle.std.proofs.lemmas.Bool.{or_parts}
@@ -18,19 +18,14 @@ use Rattle.cw_grammar.specs.Expressions.{nesting_limit}
 use Rattle.cw_grammar.specs.Files.{Part as FilePart, Declares, Holds, Defines, IsPart, IsProgram, file_of}
 use Rattle.cw_scope.specs.Rules.{is_defined}
 use Rattle.cw_source.proofs.OneAnswer.{never_both}
-use Rattle.cw_detach.specs.declared.faults.ProcFault.{ProcFault}
 use Rattle.cw_detach.specs.declared.faults.ProcFault.TheVariants.{Taken}
 use Rattle.cw_detach.specs.Form.{form_of}
 use Rattle.cw_detach.specs.Faults.{is_taken, taken, result_taken, long, deep, name_fault, text_fault, ◌or_else◌}
-use Rattle.cw_detach.proofs.Rules.{shallow}
+use Rattle.cw_detach.proofs.Rules.{neither, shallow}
 use Rattle.cw_forms.specs.Laws.{FormsAreRead, FormsAreNotRefused}
 use Rattle.cw_forms.proofs.Derived.{forms_derive}
 use Rattle.cw_forms.proofs.Scope.{scope_kept}
 use Rattle.cw_forms.proofs.Descriptors.{descriptors_kept}
-
-neither : (a b : Option ProcFault) → None ≡ option_or a b → (None ≡ a) × (None ≡ b)
-neither None b e = (refl, e)
-neither (Some x) b e = absurd (cc)
 
 module _ (source : List ℕ) where
   -- the bytes between two places are no name that is brought in
