@@ -24,7 +24,7 @@ fn end_without_memory(rt: &HostRuntime) -> ExitCode {
     ExitCode::from(MEMORY)
 }
 
-/// What stands at a place of the command line.
+/// What the command line has as the argument of a number.
 #[derive(Drop)]
 enum Argument {
     /// Nothing: it is behind the last argument.

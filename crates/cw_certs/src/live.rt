@@ -42,7 +42,7 @@ fn between(rows: &[(PosId, MemId)], pos: PosId) -> &[(PosId, MemId)]
     &rows[first_from(rows, pos)..first_after(rows, pos)]
 }
 
-/// The place of the first pair of this position or a later one.
+/// The index of the first pair of this position or a later one.
 fn first_from(rows: &[(PosId, MemId)], pos: PosId) -> usize
     requires ascend { IsStrictlySortedBy live_cmp rows.now }
     ensures bound { result ≤ length rows.now }
@@ -51,7 +51,7 @@ fn first_from(rows: &[(PosId, MemId)], pos: PosId) -> usize
     rows.partition_point(|row| row.0.0 < pos.0)
 }
 
-/// The place of the first pair of a later position.
+/// The index of the first pair of a later position.
 fn first_after(rows: &[(PosId, MemId)], pos: PosId) -> usize
     requires ascend { IsStrictlySortedBy live_cmp rows.now }
     ensures bound { result ≤ length rows.now }

@@ -178,13 +178,13 @@ fn write_limb(limb: u64, text: &mut [u8])
     }
 }
 
-/// The eight bits of a limb from 8 times a place on.
+/// The eight bits of a limb from bit 8 times an index on.
 #[inline(always)]
-fn byte_of(limb: u64, place: usize) -> u8
-    requires in_range { place < 8 }
-    ensures value { result ≡ limb / 2 ^ (8 * place) % 2 ^ 8 }
+fn byte_of(limb: u64, index: usize) -> u8
+    requires in_range { index < 8 }
+    ensures value { result ≡ limb / 2 ^ (8 * index) % 2 ^ 8 }
 {
-    ((limb >> (8 * place)) & 255) as u8
+    ((limb >> (8 * index)) & 255) as u8
 }
 
 /// A hexadecimal digit as a byte.

@@ -159,29 +159,29 @@ impl StateSet {
         StateSet { limbs }
     }
 
-    /// The four bits from 4 times a place on.
-    pub(crate) fn nibble(&self, place: usize) -> u8
-        requires in_range { place < 256 }
-        ensures value { result ≡ self.now / 2 ^ (4 * place) % 2 ^ 4 }
+    /// The four bits from bit 4 times an index on.
+    pub(crate) fn nibble(&self, index: usize) -> u8
+        requires in_range { index < 256 }
+        ensures value { result ≡ self.now / 2 ^ (4 * index) % 2 ^ 4 }
         ensures small { result < 16 }
     {
-        ((self.limbs[place / 16] >> (4 * (place % 16))) & 15) as u8
+        ((self.limbs[index / 16] >> (4 * (index % 16))) & 15) as u8
     }
 
-    /// The eight bits from 8 times a place on.
-    pub(crate) fn byte(&self, place: usize) -> u8
-        requires in_range { place < 128 }
-        ensures value { result ≡ self.now / 2 ^ (8 * place) % 2 ^ 8 }
+    /// The eight bits from bit 8 times an index on.
+    pub(crate) fn byte(&self, index: usize) -> u8
+        requires in_range { index < 128 }
+        ensures value { result ≡ self.now / 2 ^ (8 * index) % 2 ^ 8 }
     {
-        ((self.limbs[place / 8] >> (8 * (place % 8))) & 255) as u8
+        ((self.limbs[index / 8] >> (8 * (index % 8))) & 255) as u8
     }
 
-    /// The 64 bits from 64 times a place on.
-    pub(crate) fn limb(&self, place: usize) -> u64
-        requires in_range { place < 16 }
-        ensures value { result ≡ self.now / 2 ^ (64 * place) % 2 ^ 64 }
+    /// The 64 bits from bit 64 times an index on.
+    pub(crate) fn limb(&self, index: usize) -> u64
+        requires in_range { index < 16 }
+        ensures value { result ≡ self.now / 2 ^ (64 * index) % 2 ^ 64 }
     {
-        self.limbs[place]
+        self.limbs[index]
     }
 
     /// How many binary digits the set's number has: one more than the greatest member, and none for the empty set.
@@ -211,14 +211,14 @@ impl StateSet {
         (bits + 3) / 4
     }
 
-    /// Puts four bits from 4 times a place on, above all that the set has.
-    pub(crate) fn add_nibble(&mut self, place: usize, digit: u8)
-        requires in_range { place < 256 }
+    /// Puts four bits from bit 4 times an index on, above all that the set has.
+    pub(crate) fn add_nibble(&mut self, index: usize, digit: u8)
+        requires in_range { index < 256 }
         requires digit { digit < 16 }
-        requires above { self.old < 2 ^ (4 * place) }
-        ensures sum { self.new ≡ self.old + digit * 2 ^ (4 * place) }
+        requires above { self.old < 2 ^ (4 * index) }
+        ensures sum { self.new ≡ self.old + digit * 2 ^ (4 * index) }
     {
-        self.limbs[place / 16] |= u64::from(digit) << (4 * (place % 16));
+        self.limbs[index / 16] |= u64::from(digit) << (4 * (index % 16));
     }
 
     /// A law: the members are below 1,024.
@@ -257,13 +257,9 @@ fn are_within(a: &[u64; 16], b: &[u64; 16]) -> bool
     true
 }
 
-/// The limb whose ones are the bits below a place: all 64 from place 64 on.
-fn ones_below(place: u16) -> u64
-    ensures ones { result ≡ 2 ^ min place 64 - 1 }
+/// The limb whose ones are the bits below this one: all 64 from bit 64 on.
+fn ones_below(bit: u16) -> u64
+    ensures ones { result ≡ 2 ^ min bit 64 - 1 }
 {
-    if place < 64 {
-        (1 << place) - 1
-    } else {
-        u64::MAX
-    }
+    if bit < 64 { (1 << bit) - 1 } else { u64::MAX }
 }

@@ -14,7 +14,7 @@ pub struct Store {
     pub arrays: Vec<Cells>,
 }
 
-/// A value's place among them: of a name, or of an element of an array.
+/// A value's spot among them: that of a name, or of an element of an array.
 #[derive(Clone, Copy, Drop, Debug, PartialEq, Eq)]
 pub enum Spot {
     Plain(usize),
@@ -33,7 +33,7 @@ impl Store {
         }
     }
 
-    /// What stands at a place.
+    /// What stands at a spot.
     #[inline(always)]
     pub fn get(&self, spot: Spot) -> Option<i64>
         ensures cell { result ≡ cell_of (store_of self.now) (spot_in spot) }
@@ -47,7 +47,7 @@ impl Store {
         }
     }
 
-    /// Writes what stands at a place. The one error is want of memory.
+    /// Writes what stands at a spot. The one error is want of memory.
     #[inline(always)]
     pub fn set(&mut self, spot: Spot, cell: Option<i64>) -> Result<(), NoMemory>
         ensures written { OnOk result (store_of self.new ≡ with_cell (store_of self.old) (spot_in spot) cell) }

@@ -1,4 +1,4 @@
--- What stands at a place of a list, and what a filter finds.
+-- What stands at an index of a list, and what a filter finds.
 use Rattle.std.proofs.Common.{◌≡◌, inl, inr, ℕ, zero, suc, ◌+◌, ◌<◌, List, [], ◌∷◌, ◌++◌, Option, Some, None, filter_map, take, get_or, length, refl, sym, ap, ◌∙◌, subst, arith}
 use Rattle.std.specs.Prelude.{slice_get}
 use Rattle.std.specs.List.{Contains, cons_option}
@@ -11,11 +11,11 @@ use Rattle.cw_fixpoint.specs.Seeing.{named}
 -- the key that a hint names
 pub named_in : {K : Type 0} (keys : List K) (hint : ℕ) (k : K) → named keys hint ≡ Some k → Contains keys k
 named_in keys zero k e = absurd (none-some k e)
-named_in keys (suc place) k e = get_contains keys place k e
+named_in keys (suc index) k e = get_contains keys index k e
 
 pub named_more : {K : Type 0} (keys more : List K) (hint : ℕ) (k : K) → named keys hint ≡ Some k → named (keys ++ more) hint ≡ Some k
 named_more keys more zero k e = absurd (none-some k e)
-named_more keys more (suc place) k e = get_front keys more place k e
+named_more keys more (suc index) k e = get_front keys more index k e
 
 pub named_last : {K : Type 0} (keys : List K) (k : K) → named (keys ++ k ∷ []) (length keys + 1) ≡ Some k
 named_last keys k = let n : length keys + 1 ≡ suc (length keys) = omega arith in ap (named (keys ++ k ∷ [])) n ∙ get_last keys k

@@ -7,10 +7,10 @@ use Rattle.cw_fixpoint.specs.declared.indexed.Seen.{Seen}
 use Rattle.cw_fixpoint.specs.declared.indexed.Recalled.{Recalled}
 use Rattle.cw_fixpoint.specs.declared.indexed.Recalled.TheVariants.{New, Old, Nothing}
 
--- the key that a hint names: it is the key's place, counted from 1
+-- the key that a hint names: it is the key's number, counted from 1
 abbrev pub named : {K : Type 0} → List K → ℕ → Option K
 named keys zero = None
-named keys (suc place) = slice_get keys place
+named keys (suc index) = slice_get keys index
 
 -- the hint at an index names a key
 abbrev pub IsHinted : {K : Type 0} → (keys : List K) (hints : List ℕ) (at : ℕ) → K → Type 0

@@ -20,7 +20,7 @@ const MOST_HINTS: usize = 1_048_576;
 /// Where there are more hints than so many for each key, not all are read.
 const SPARSE: usize = 16;
 
-/// Keys, each once, in the order in which they came. The hint at an index is the place of a key that has it, counted from 1, and 0 where
+/// Keys, each once, in the order in which they came. The hint at an index is the number of a key that has it, counted from 1, and 0 where
 /// none has. The others are those to which no hint leads.
 #[derive(Drop)]
 pub(crate) struct Seen<K: Ord + Copy + Drop> {
@@ -106,8 +106,8 @@ fn put_hinted<K: Ord + Copy + Drop>(seen: &mut Seen<K>, at: usize, key: K) -> Re
     ensures others { OnOk result (seen.new.others.keys ≡ seen.old.others.keys) }
 {
     seen.keys.push(key)?;
-    let place = seen.keys.len();
-    seen.hints[at] = place;
+    let hint = seen.keys.len();
+    seen.hints[at] = hint;
     Ok(())
 }
 

@@ -5,7 +5,7 @@ ghost use Rattle.std.specs.FinMap.{IsAntisymmetric};
 ghost use Rattle.std.specs.List.Sorted.{IsStrictlySortedBy};
 ghost use Rattle.cw_fixpoint.specs.Numbers.{number_in};
 
-/// The place of an item in a list that ascends, and how many items there are where it is none of them.
+/// The index of an item in a list that ascends, and how many items there are where it is none of them.
 pub fn number_of<T: Ord>(items: &[T], item: &T) -> usize
     requires exact { IsAntisymmetric T.cmp }
     requires order { IsStrictlySortedBy T.cmp items.now }
@@ -13,7 +13,7 @@ pub fn number_of<T: Ord>(items: &[T], item: &T) -> usize
     ensures within { result ≤ length items.now }
 {
     match items.binary_search(item) {
-        Ok(place) => place,
+        Ok(index) => index,
         Err(_) => items.len(),
     }
 }

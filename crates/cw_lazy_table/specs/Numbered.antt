@@ -1,4 +1,4 @@
--- Working definitions: promises by their numbers. Where the code has a key its promise is a number: the place of the promise among those that the
+-- Working definitions: promises by their numbers. Where the code has a key its promise is a number: the index of the promise among those that the
 -- game needs, ascending. So it is with seam keys, and with memories.
 use Rattle.std.specs.Prelude.{◌≡◌, ◌<◌, ℕ, Bool, List, Some, Contains, map, length, slice_index}
 use Rattle.std.specs.List.Sorted.{IsStrictlySortedBy}

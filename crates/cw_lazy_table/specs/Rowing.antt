@@ -29,7 +29,7 @@ pub record AreMemories (ms : Memories) : Type 0 where
   pub order : IsStrictlySortedBy mem_cmp ms
   pub few : length ms ≤ 65536
 
--- the place of a state and a promise among the memories, and how many they are where it is none of them
+-- the index of a state and a promise among the memories, and how many they are where it is none of them
 abbrev pub number : Memories → (q e : ℕ) → ℕ
 number ms q e = number_in mem_cmp ms (state_id q, e)
 

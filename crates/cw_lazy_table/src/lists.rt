@@ -53,7 +53,7 @@ pub(crate) fn whole_memories(
     Ok(memories)
 }
 
-/// The number of a memory: where it stands at a place, that place.
+/// The number of a memory: where it stands at an index, that index.
 fn mem_near(mems: &[(StateId, usize)], near: usize, state: StateId, promise: usize) -> MemId
     requires mems { AreMemories mems.now }
     ensures { result ≡ mem mems.now state.0 promise }

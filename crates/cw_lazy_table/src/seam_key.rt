@@ -35,7 +35,7 @@ pub(crate) struct ByKind {
     pub(crate) calls: Vec<SeamKey>,
 }
 
-/// Whether a memory stands at a place.
+/// Whether a memory stands at an index.
 pub(crate) fn stands(mems: &[(StateId, usize)], at: usize, memory: (StateId, usize)) -> bool
     ensures { result ≡ true → slice_get mems.now at ≡ Some memory }
 {
@@ -45,7 +45,7 @@ pub(crate) fn stands(mems: &[(StateId, usize)], at: usize, memory: (StateId, usi
     }
 }
 
-/// Puts a memory, but where it stands at a place already, or first. The place behind it.
+/// Puts a memory, but where it stands at an index already, or first. The index behind it.
 fn put_memory(
     memories: &mut Vec<(StateId, usize)>,
     near: usize,

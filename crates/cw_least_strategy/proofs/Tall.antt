@@ -1,4 +1,4 @@
--- A key is no higher than its place and one: of what it names something is one move lower. So a strategy has at least as many rows as its start is high.
+-- A key is no higher than its index and one: of what it names something is one move lower. So a strategy has at least as many rows as its start is high.
 use Rattle.std.proofs.Common.{◌≡◌, ℕ, zero, suc, ◌+◌, ◌-◌, ◌<◌, ◌≤◌, List, [], ◌∷◌, Bool, true, false, cond, Option, Some, None, map, length, nat_lt, refl, sym, ap, ◌∙◌, subst, arith}
 use Rattle.std.specs.Prelude.{slice_get}
 use Rattle.std.specs.List.{Contains, range_with_len}

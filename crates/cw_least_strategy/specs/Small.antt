@@ -1,4 +1,4 @@
--- Working definitions: aims by their numbers. Where the search and the rows have a key its aim is a number: the place of the aim among those of all
+-- Working definitions: aims by their numbers. Where the search and the rows have a key its aim is a number: the index of the aim among those of all
 -- contexts, ascending.
 use Rattle.std.specs.Prelude.{ℕ, ◌<◌, ◌≤◌, List, [], ◌∷◌, Contains, map, length, slice_index}
 use Rattle.std.specs.List.Sorted.{IsStrictlySortedBy}

@@ -98,7 +98,7 @@ keys_in _ = []
 abbrev pub named : Game → Key → List Key
 named g k = keys_in (act g k)
 
--- the number of a key's row: its place in the list
+-- the number of a key's row: its index in the list
 abbrev pub number : List Key → Key → ℕ
 number keys k = number_in key_cmp keys k
 

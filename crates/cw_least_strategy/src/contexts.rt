@@ -41,12 +41,12 @@ fn entry_of(solved: &Solved, number: u32) -> Entry
     }
 }
 
-/// The places at which another aim begins, where entries of one aim stand side by side.
+/// The indices at which another aim begins, where entries of one aim stand side by side.
 fn firsts_of(alloc: Global, entries: &[Entry]) -> Result<Vec<usize>, AllocError> {
     let mut firsts = Vec::new(alloc);
-    for place in 0..entries.len() {
-        if place == 0 || entries[place - 1].aim != entries[place].aim {
-            firsts.push(place)?;
+    for index in 0..entries.len() {
+        if index == 0 || entries[index - 1].aim != entries[index].aim {
+            firsts.push(index)?;
         }
     }
     Ok(firsts)

@@ -14,7 +14,7 @@ pub struct Key {
     pub aim: StateSet,
 }
 
-/// A key with its aim by number: the place of the aim among those of all contexts, ascending. So small keys are in the order of
+/// A key with its aim by number: the index of the aim among those of all contexts, ascending. So small keys are in the order of
 /// the keys that they stand for.
 #[derive(Clone, Copy, Drop, PartialEq, Eq, PartialOrd, Ord)]
 pub(crate) struct SmallKey {

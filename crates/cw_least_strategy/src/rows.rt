@@ -21,7 +21,7 @@ use cw_fixpoint::number_of;
 use cw_solve::Solved;
 use std::alloc::{AllocError, Global};
 
-/// The place of a key among the keys, and how many they are where it is none of them.
+/// The index of a key among the keys, and how many they are where it is none of them.
 #[tactic(auto, using(crate::proofs::Small::small_exact))]
 fn number(aims: &[StateSet], keys: &[SmallKey], key: &Key) -> u32
     requires ranked { AreRanked aims.now keys.now }
@@ -47,7 +47,7 @@ fn numbered(
     Ok(numbers)
 }
 
-/// What a row says, by the places of the keys that it names.
+/// What a row says, by the indices of the keys that it names.
 fn how_by(alloc: Global, aims: &[StateSet], keys: &[SmallKey], act: Act) -> Result<How, AllocError>
     requires ranked { AreRanked aims.now keys.now }
     ensures { IfOk result (λ h. how_of h ≡ how_by (wholes aims.now keys.now) (act_of act)) }

@@ -56,9 +56,9 @@ fn ask_entry(
     }
 }
 
-/// Numbers of functions are below 2^16.
+/// A law: numbers of functions are below 2^16.
 #[inline(always)]
-fn fits(at: &Tabled)
+fn fact_functions_are_few(at: &Tabled)
     ensures { at.now.context.function < 65536 }
 {
     let _ = at.function();
@@ -90,7 +90,7 @@ pub(crate) fn finish(
     requires block { IsBlock (game_of game.now) work.old.blocks cell.now.at block.now }
     ensures { OnOk result (Finishes (game_of game.now) work.old work.new work.old.store.to) }
 {
-    fits(&cell.at);
+    fact_functions_are_few(&cell.at);
     ask_sources(game, &edges.waits.sources, work, cell, block, height)?;
     if is_plain(edges, cell.pos) {
         return Ok(());

@@ -16,7 +16,7 @@ use Rattle.cw_procs.specs.Steps.{is_weavers_in}
 use Rattle.cw_procs.specs.Walks.{Link, Stack, AreKept, Process}
 use Rattle.cw_procs.proofs.First.{AllRest}
 
--- The process of this state is at rest at a place, over these calls; or it is over.
+-- The process of this state is at rest at a landing, over these calls; or it is over.
 abbrev pub LandingIs : Plan → Game → List Link → State → Option ℕ → Option Here → Type 0
 LandingIs plan g links s calls (Some h) = (waits : List Wait) × Stack links calls waits × Sits plan g s h waits × (weavers_in (slice_get g.spots h.pos) ≡ false)
 LandingIs plan g links s calls None = s.board.phase ≡ Over

@@ -17,7 +17,7 @@ use Rattle.cw_procs.specs.Told.{fork_line}
 use Rattle.cw_procs.specs.declared.stacks.Link.{Link as LinkData}
 use Rattle.cw_procs.specs.declared.world.Process.{Process as ProcessData}
 
--- A call that waits, and the place of the call below it in the list of links.
+-- A call that waits, and the index of the call below it in the list of links.
 pub record Link : Type 0 where
   pub wait : Wait
   pub below : Option ℕ
@@ -28,7 +28,7 @@ link_of l = record { wait = wait_of l.wait; below = l.below }
 abbrev pub links_of : List LinkData → List Link
 links_of ls = map link_of ls
 
--- The calls that wait, the innermost first, from this place of the links on.
+-- The calls that wait, the innermost first, from this index of the links on.
 pub data Stack (links : List Link) : Option ℕ → List Wait → Type 0 where
   empty : Stack links None []
   on : (i : ℕ) (l : Link) (ws : List Wait) → slice_get links i ≡ Some l → Stack links l.below ws → Stack links (Some i) (l.wait ∷ ws)
@@ -81,7 +81,7 @@ ForksBy names g t held i child h calls (Some two) links links2 old new =
 abbrev pub Cover : Held → List Bool → Type 0
 Cover held flags = (p point : ℕ) → IsPointOf held p point → IsPosition (game_of held) p → point < length flags
 
--- whether the program forks at a place, by the flag of the place's point
+-- whether the program forks at a landing, by the flag of the landing's point
 abbrev pub IsFlag : Held → List Bool → Here → Bool → Type 0
 IsFlag held flags h b = (point : ℕ) × IsPointOf held h.pos point × (slice_get flags point ≡ Some b)
 

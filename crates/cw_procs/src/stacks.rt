@@ -8,21 +8,21 @@ ghost use Rattle.cw_procs.specs.Walks.{links_of, Stack, AreKept};
 
 use cw_run::{Next, Wait};
 
-/// A call that waits, and the place of the call below it in the list of links.
+/// A call that waits, and the index of the call below it in the list of links.
 #[derive(Clone, Copy, Drop)]
 pub(crate) struct Link {
     pub wait: Wait,
     pub below: Option<u32>,
 }
 
-/// The innermost of the calls that wait from this place of the links on.
+/// The innermost of the calls that wait, from this index of the links on.
 pub(crate) fn innermost(links: &[Link], calls: Option<u32>) -> Option<Wait>
     ensures is { (waits : List WaitOf) → Stack (links_of links.now) calls waits → option_map wait_of result ≡ first_of waits }
     ensures range { (g : GameOf) → All (λ l. IsWait g (wait_of l.wait)) links.now → IfSome result (λ w. IsWait g (wait_of w)) }
 {
     match calls {
         None => None,
-        Some(landing) => match links.get(landing as usize) {
+        Some(index) => match links.get(index as usize) {
             None => None,
             Some(link) => Some(link.wait),
         },
@@ -35,7 +35,7 @@ fn below(links: &[Link], calls: Option<u32>) -> Option<u32>
 {
     match calls {
         None => None,
-        Some(landing) => match links.get(landing as usize) {
+        Some(index) => match links.get(index as usize) {
             None => None,
             Some(link) => link.below,
         },
@@ -52,9 +52,9 @@ fn wait_for(links: &mut Vec<Link>, calls: Option<u32>, wait: Wait) -> Option<u32
     ensures length { vec_len links.new ≡ vec_len links.old + 1 }
     ensures capacity { vec_capacity links.new ≡ vec_capacity links.old }
 {
-    let landing = links.as_slice().len() as u32;
+    let index = links.as_slice().len() as u32;
     links.push_reserved(Link { wait, below: calls });
-    Some(landing)
+    Some(index)
 }
 
 /// The calls that wait after a move.

@@ -80,7 +80,7 @@ fn forks(steps: &[Step]) -> usize
     steps.iter().filter(|step| is_fork(**step)).count()
 }
 
-/// Whether the program forks at a place.
+/// Whether the program forks at a landing.
 fn forks_at(game: &Game, flags: &[bool], here: Here) -> bool
     requires here { IsHere (game_of game.now) (here_of here) }
     requires flags { Cover game.now flags.now }
@@ -102,7 +102,7 @@ fn put_fork<S: Sink>(process: u32, child: u32, writer: &mut Writer<S>, out: &mut
     writer.put(b"\n", out);
 }
 
-/// Where a move leads from a place, over the calls that wait.
+/// Where a move leads from a landing, over the calls that wait.
 fn find(
     game: &Game,
     table: &WeaverCert,
@@ -311,7 +311,7 @@ fn fork_one<S: Sink>(
     }
 }
 
-/// A step at a place of a process: whether it was one. Then the process is the one after it, and at a fork the child is the last one.
+/// A step at the landing of a process: whether it was one. Then the process is the one after it, and at a fork the child is the last one.
 fn act_at<S: Sink>(
     game: &Game,
     table: &WeaverCert,

@@ -1,4 +1,4 @@
--- The place of a name in a list of things that have names.
+-- The index of a name in a list of things that have names.
 use Rattle.std.proofs.Common.{◌≡◌, ◌<◌, ◌≤◌, ℕ, ◌+◌, List, [], ◌∷◌, Bool, true, false, cond, not, nat_lt, Some, None, drop, get_or, refl, sym, ap, ap₂, ◌∙◌, subst, arith}
 use Rattle.std.specs.Prelude.{map, length, position}
 use Rattle.std.specs.List.{position_or_len, prefix_len}

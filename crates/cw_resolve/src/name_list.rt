@@ -71,7 +71,7 @@ impl<'s> NameList<'s> {
     }
 }
 
-/// The place of a name in a list, by a walk.
+/// The index of a name in a list, by a walk.
 fn index_of(names: &[&[u8]], name: &[u8]) -> Option<usize>
     ensures { result ≡ number_in (map text_at names.now) name.now }
 {
@@ -104,7 +104,7 @@ fn put<'s>(
     Ok(())
 }
 
-/// Adds names, each with its place in this list.
+/// Adds names, each with its index in this list.
 fn put_all<'s>(
     numbers: &mut IndexMap<&'s [u8], usize>,
     names: &[&'s [u8]],

@@ -1,4 +1,4 @@
--- A state of a woven run over the place where it stands in the game, and what each move of the environment leaves of both.
+-- A state of a woven run over its landing in the game, and what each move of the environment leaves of both.
 use Rattle.std.proofs.Common.{◌≡◌, ℕ, ◌+◌, List, [], ◌∷◌, map, Bool, true, false, cond, Option, Some, None, is_some, option_map, option_and_then, refl, sym, ap, ◌∙◌, subst}
 use Rattle.std.specs.Prelude.{slice_get}
 use Rattle.std.proofs.lemmas.Option.{none-some, same_Some}
@@ -97,7 +97,7 @@ Least g = Reached g.policy g.spots g.states
 abbrev pub state_of_board : Board → List ℕ → State
 state_of_board b ms = record { board = b; mems = ms }
 
--- The state of a run is at this place, over these calls that wait.
+-- The state of a run is at this landing, over these calls that wait.
 pub record Sits (plan : Plan) (g : Game) (s : State) (h : Here) (waits : List Wait) : Type 0 where
   -- by the same moves from the start
   pub goes : Together (record { plan = plan; policy = g.policy }) g s.board (config_of h waits)

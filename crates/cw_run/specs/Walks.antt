@@ -135,11 +135,11 @@ pub data Rests (g : Game) (t : Table) (m : ℕ) : ℕ → ℕ → Type 0 where
   tries : (p j i : ℕ) (a : _) → slice_get g.spots p ≡ Some (Visit j i a) → is_some (try_at t j i m) ≡ true → Rests g t m p (p + 1)
   skips : (p n j i : ℕ) (a : _) → slice_get g.spots p ≡ Some (Visit j i a) → is_some (try_at t j i m) ≡ false → Rests g t m (p + 2) n → Rests g t m p n
 
--- the same place at another position
+-- the same landing at another position
 abbrev pub at_pos : ℕ → Here → Here
 at_pos p h = record { pos = p; state = h.state; mem = h.mem }
 
--- the place behind a step, and behind a condition
+-- the landing behind a step, and behind a condition
 abbrev pub stepped_to : ℕ → Here → Move → Option Here
 stepped_to n h On = Some (at_pos n h)
 stepped_to n h _ = None
@@ -152,7 +152,7 @@ branched_to l r h _ = None
 abbrev pub to_if : Option Here → Option Next
 to_if to = option_map To to
 
--- where the run goes on after a move: the new place, and the calls that wait
+-- where the run goes on after a move: the new landing, and the calls that wait
 abbrev pub landing_of : Next → Option Here
 landing_of (To h) = Some h
 landing_of (Into h w) = Some h
@@ -253,7 +253,7 @@ pub record Arrives (names : Names) (g : Game) (t : Table) (held : ℕ → Caps) 
   pub same : here ≡ at_pos here.pos to
   pub told : new ≡ old ++ own (label_at names g.policy (held to.state) (slice_get g.spots here.pos))
 
--- Where the run is: at a place, or over.
+-- Where the run is: at a position with a state and a memory, or over.
 abbrev pub landing_in : LandingData → Option Here
 landing_in (landing_data.At h) = Some (here_of h)
 landing_in landing_data.Over = None
@@ -278,7 +278,7 @@ pub record Goes (names : Names) (g : Game) (t : Table) (held : ℕ → Caps) (ow
 abbrev pub next_here : Game → Table → Here → List Wait → Move → Option Next
 next_here g t h waits by = option_and_then (λ s. next_of g t h waits s by) (slice_get g.spots h.pos)
 
--- An answer of the environment at a place: it is a move there, and the run goes on by it; or it is none.
+-- An answer of the environment at a landing: it is a move there, and the run goes on by it; or it is none.
 abbrev pub Answered : Names → Game → Table → (ℕ → Caps) → (List ℕ → List ℕ) → Here → Move → Option LandingData → List Wait → List Wait → List ℕ → List ℕ → Type 0
 Answered names g t held own h by None waits waits2 old new = (next_here g t h waits by ≡ None) × (new ≡ old)
 Answered names g t held own h by (Some landing) waits waits2 old new =

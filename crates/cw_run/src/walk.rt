@@ -273,7 +273,7 @@ fn asked(
     }
 }
 
-/// The same place at another position.
+/// The same landing at another position.
 #[inline(always)]
 fn landing_at(here: Here, pos: u32) -> Here
     ensures { here_of result ≡ at_pos pos (here_of here) }
@@ -297,7 +297,7 @@ fn to_if(to: Option<Here>) -> Option<Next>
     }
 }
 
-/// The place behind a step.
+/// The landing behind a step.
 #[inline(always)]
 fn behind_step(here: Here, next: u32, by: Move) -> Option<Here>
     ensures is { option_map here_of result ≡ stepped_to next (here_of here) by }
@@ -310,7 +310,7 @@ fn behind_step(here: Here, next: u32, by: Move) -> Option<Here>
     }
 }
 
-/// The place behind a condition.
+/// The landing behind a condition.
 #[inline(always)]
 fn behind_branch(here: Here, left: u32, right: u32, by: Move) -> Option<Here>
     ensures is { option_map here_of result ≡ branched_to left right (here_of here) by }

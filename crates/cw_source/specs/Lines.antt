@@ -12,7 +12,7 @@ use Rattle.cw_source.specs.Places.{line_of, column_of}
 
 -- `source LINE:COLUMN: WORDS`
 unfoldable pub at_place : List ℕ → ℕ → List ℕ → List ℕ
-at_place source at terminals = codes "source " ++ decimal (line_of source at) ++ codes ":" ++ decimal (column_of source at) ++ codes ": " ++ terminals
+at_place source at why = codes "source " ++ decimal (line_of source at) ++ codes ":" ++ decimal (column_of source at) ++ codes ": " ++ why
 
 abbrev pub lex_line : List ℕ → LexFault → List ℕ
 lex_line source (lex.BadByte at) = at_place source at (codes "bad byte")

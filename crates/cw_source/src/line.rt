@@ -12,15 +12,9 @@ use cw_scope::ScopeFault;
 
 /// Appends the line `source LINE:COLUMN: WORDS`, without its line feed, for a place that is counted in bytes from the front of the source. Lines and
 /// columns are counted from 1, columns in bytes.
-pub fn put_place_line<S: Sink>(
-    source: &[u8],
-    at: u32,
-    terminals: &str,
-    line: &mut Writer<S>,
-    out: &mut S,
-)
+pub fn put_place_line<S: Sink>(source: &[u8], at: u32, why: &str, line: &mut Writer<S>, out: &mut S)
     requires follows { Follows S.taken S.faults S.refused line.old out.old }
-    ensures text { line.new.text ≡ line.old.text ++ at_place source.now at terminals.now }
+    ensures text { line.new.text ≡ line.old.text ++ at_place source.now at why.now }
     ensures begun { line.new.begun ≡ line.old.begun }
     ensures follows { Follows S.taken S.faults S.refused line.new out.new }
 {
@@ -29,7 +23,7 @@ pub fn put_place_line<S: Sink>(
     line.put(b":", out);
     line.put_number(column_of(source, at) as u64, out);
     line.put(b": ", out);
-    line.put(terminals.as_bytes(), out);
+    line.put(why.as_bytes(), out);
 }
 
 /// Appends the line of a source that has no tokens.

@@ -9,7 +9,7 @@ pub record Store : Type 0 where
   pub cells : List Cell
   pub arrays : List (List Cell)
 
--- a value's place among them: of a name, or of an element of an array
+-- a value's spot among them: that of a name, or of an element of an array
 pub data Spot : Type 0 where
   Plain : ℕ → Spot
   Element : (array at : ℕ) → Spot

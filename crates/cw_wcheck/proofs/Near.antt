@@ -1,4 +1,4 @@
--- A pair that stands at some place of the list of live rows is live.
+-- A pair that stands at some index of the list of live rows is live.
 use Rattle.std.proofs.Common.{◌≡◌, ℕ, zero, suc, List, [], ◌∷◌, Bool, true, false, cond, Option, Some, is_some, find, refl}
 use Rattle.std.specs.Prelude.{slice_get}
 use Rattle.std.proofs.lemmas.Bool.{false≢true}
@@ -16,12 +16,12 @@ first_is : {X : Type 0} (passes : Bool) (x : X) (found : Option X) → passes �
 first_is true x found h = refl
 first_is false x found h = absurd (false≢true h)
 
-found_there : (p m : ℕ) (rows : List (PosId × MemId)) (place : ℕ) → stands_there p m (slice_get rows place) ≡ true
+found_there : (p m : ℕ) (rows : List (PosId × MemId)) (index : ℕ) → stands_there p m (slice_get rows index) ≡ true
     → is_some (find (λ r. stands_there p m (Some r)) rows) ≡ true
-found_there p m [] place h = absurd (false≢true h)
+found_there p m [] index h = absurd (false≢true h)
 found_there p m (r ∷ rows) zero h = first_is (stands_there p m (Some r)) r (find (λ r. stands_there p m (Some r)) rows) h
-found_there p m (r ∷ rows) (suc place) h =
-    first_or (stands_there p m (Some r)) r (find (λ r. stands_there p m (Some r)) rows) (found_there p m rows place h)
+found_there p m (r ∷ rows) (suc index) h =
+    first_or (stands_there p m (Some r)) r (find (λ r. stands_there p m (Some r)) rows) (found_there p m rows index h)
 
-pub live_there : (t : Table) (place p m : ℕ) → stands_there p m (slice_get t.live place) ≡ true → is_live t p m ≡ true
-live_there t place p m h = found_there p m t.live place h
+pub live_there : (t : Table) (index p m : ℕ) → stands_there p m (slice_get t.live index) ≡ true → is_live t p m ≡ true
+live_there t index p m h = found_there p m t.live index h

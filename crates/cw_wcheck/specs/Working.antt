@@ -9,7 +9,7 @@ use Rattle.cw_game.specs.Pairs.{Called, is_live, leads_if}
 use Rattle.cw_wcheck.specs.declared.rows.LiveRow.{LiveRow}
 use Rattle.cw_wcheck.specs.declared.calls.CallAt.{CallAt}
 
--- what stands at a place of the list of live rows is this position with this memory
+-- what stands at an index of the list of live rows is this position with this memory
 abbrev pub stands_there : ℕ → ℕ → Option (PosId × MemId) → Bool
 stands_there p m None = false
 stands_there p m (Some r) = nat_eq r.0.0 p && nat_eq r.1.0 m

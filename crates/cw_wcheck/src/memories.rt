@@ -35,18 +35,18 @@ pub fn is_memory_if(cert: &WeaverCert, mem: Option<MemId>) -> bool
     mem.is_none_or(|mem| is_memory(cert, mem))
 }
 
-/// Whether a memory is live at a position. The list of live rows is searched only where the pair doesn't stand at this place of it.
+/// Whether a memory is live at a position. The list of live rows is searched only where the pair doesn't stand at this index of it.
 pub fn is_live_near(cert: &WeaverCert, near: usize, pos: PosId, mem: MemId) -> bool
     ensures { result ≡ is_live cert.now pos.0 mem.0 }
 {
     stands_at(cert, near, pos, mem) || is_live(cert, pos, mem)
 }
 
-/// Whether a position and a memory stand at a place of the list of live rows.
-fn stands_at(cert: &WeaverCert, place: usize, pos: PosId, mem: MemId) -> bool
-    ensures { result ≡ stands_there pos.0 mem.0 (slice_get cert.now.live place) }
+/// Whether a position and a memory stand at an index of the list of live rows.
+fn stands_at(cert: &WeaverCert, index: usize, pos: PosId, mem: MemId) -> bool
+    ensures { result ≡ stands_there pos.0 mem.0 (slice_get cert.now.live index) }
 {
-    match cert.live().get(place) {
+    match cert.live().get(index) {
         Some((there, with)) => *there == pos && *with == mem,
         None => false,
     }
@@ -62,7 +62,7 @@ fn means(cert: &WeaverCert, mem: MemId, state: StateId, promise: &StateSet) -> b
     }
 }
 
-/// Whether a memory means this state with this promise and is live at this position, with a row that may stand at this place.
+/// Whether a memory means this state with this promise and is live at this position, with a row that may stand at this index.
 pub fn leads(
     cert: &WeaverCert,
     near: usize,
@@ -77,7 +77,7 @@ pub fn leads(
 }
 
 /// Whether the pair to which the game leads, if it does, is taken: the memory is there, means its state with the promise, and is
-/// live at its position, with a row that may stand at this place.
+/// live at its position, with a row that may stand at this index.
 pub fn takes(
     cert: &WeaverCert,
     near: usize,

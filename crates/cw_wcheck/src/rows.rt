@@ -17,7 +17,7 @@ use cw_game::Spot;
 use cw_product::Game;
 
 /// A live row: its position and what stands there, its memory, and the state and the promise that the memory means. Where it leads,
-/// the row behind it often stands: at this place of the list.
+/// the row behind it often stands: at this index of the list.
 #[derive(Drop)]
 pub struct LiveRow {
     pub near: usize,
@@ -218,7 +218,7 @@ fn step_fault(cert: &WeaverCert, near: usize, next: PosId, mem: MemId) -> Option
     }
 }
 
-/// The number of the first condition from the third on that fails of a position and a memory, before this place of the list of live
+/// The number of the first condition from the third on that fails of a position and a memory, before this index of the list of live
 /// rows; None where the memory isn't there.
 pub fn failing_condition(
     game: &Game,

@@ -87,7 +87,7 @@ module _ (h : Held) (s : Source) (t : Table) where
   abbrev pub EndsBehind : Going → Going → Type 0
   EndsBehind run now = (n : ℕ) → (v : Values) → Ends s problem (Some t) n now v → Ends s problem (Some t) (suc n) run v
 
-  -- Beside a plain run a woven one stands at a place of the game, over calls that wait; these answers to tries are left, and so many tries were made.
+  -- Beside a plain run a woven one stands at a landing of the game, over calls that wait; these answers to tries are left, and so many tries were made.
   pub record Weaves (w : IsWoven h s t) (plain : Going) (here : Here) (waits : List Wait) (left : List Move) (made : ℕ) (run : Going) : Type 0 where
     pub paired : Paired s problem (Some t) (Inv policy s w.fits) (invariant policy s w.fits) plain run
     pub sits : Sits problem.plan (game_of h) run.woven here waits

@@ -29,7 +29,7 @@ IsWent g (Ok (Some stand)) = IsHere g (here_of stand.here)
 IsWent g _ = Unit {0}
 
 module _ (h : Held) (s : Source) (t : Table) (w : IsWoven h s t) where
-  -- a run stands at this place, with these values, at a new front
+  -- a run is at this stand, with these values, at a new front
   pub record StandsWoven (stand : Stand) (m : HeldMachine) (waits : List Wait) (left : List Move) (made : ℕ) (run : Going) : Type 0 where
     pub plain : Going
     pub stands : StandsAt (policy h s t) s (Some stand.point) m plain

@@ -25,7 +25,7 @@ use cw_run::{Here, Next, Wait};
 use cw_values::{Run, advance};
 use std::collections::VecDeque;
 
-/// Where a step has led: a point of the program, and a place of the game.
+/// Where a step has led: a point of the program, and a landing of the game.
 #[derive(Clone, Copy, Drop)]
 pub(crate) struct Stand {
     pub point: PointId,
@@ -46,7 +46,7 @@ fn move_of(way: Way) -> Move
     }
 }
 
-/// The place at which a move leads on; none where the program has ended.
+/// The landing at which the program goes on after a move; none where the program has ended.
 #[inline(always)]
 fn landing_of(next: Next) -> Option<Here>
     ensures is { option_map here_of result ≡ landing_of (next_is next) }

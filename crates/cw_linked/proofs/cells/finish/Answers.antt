@@ -47,7 +47,7 @@ returns-then-is_plain c =
     let cell = c.args.cell.now in
     let t = c.requires.taken in
     let there = there_at g functions c.requires.routed w.blocks t.known.blocks cell.at.number cell.at.context t.there.at in
-    let many : cell.at.context.function < min functions 65536 = omega (arith, there.below, c.fits.ensures) in
+    let many : cell.at.context.function < min functions 65536 = omega (arith, there.below, c.fact_functions_are_few.ensures) in
     let flagged : get_or c.args.edges.now.plain.items cell.pos.0 false ≡ true = sym c.is_plain.ensures ∙ c.if-is_plain.true in
     plain_finished g functions c.requires.routed (alike c.args.game.now) w c.ask_sources.new.work cell c.args.height t c.in_ok-ask_sources.ensures (min functions 65536)
     (c.requires.plain.are cell.pos.0 flagged) many

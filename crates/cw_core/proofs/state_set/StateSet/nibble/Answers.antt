@@ -5,4 +5,4 @@ use Rattle.cw_core.proofs.state_set.StateSet.nibble.Goals as goal
 
 pub returns-clause-value : goal.returns-clause-value
 returns-clause-value c =
-    rw (← c.self.view_is) (and_mask (get_or c.self.inside.limbs (c.args.place / 16) 0 / 2 ^ (4 * (c.args.place % 16))) 4 ∙ sym (nibble_is c.self.inside.limbs c.args.place c.self.invariant.0))
+    rw (← c.self.view_is) (and_mask (get_or c.self.inside.limbs (c.args.index / 16) 0 / 2 ^ (4 * (c.args.index % 16))) 4 ∙ sym (nibble_is c.self.inside.limbs c.args.index c.self.invariant.0))
