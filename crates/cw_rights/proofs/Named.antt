@@ -1,6 +1,7 @@
 -- The sets that names stand for have no further rights than the twelve.
-use Rattle.std.proofs.Common.{ℕ, ◌≤◌, List, [], ◌∷◌, Bool, true, false, cond, nat_eq, Option, Some, IfSome, arith}
+use Rattle.std.proofs.Common.{◌≡◌, refl, ap, sym, length, ℕ, ◌≤◌, List, [], ◌∷◌, ◌++◌, Bool, true, false, cond, nat_eq, Option, Some, None, IfSome, arith}
 use Rattle.std.specs.Str.{bytes_eq}
+use Rattle.std.proofs.lemmas.Slice.Eq.{HasBytesAt, text_from_reads}
 use Rattle.cw_rights.specs.Names.{joint_rights, rights_in, mask_in, right_mask, all_rights}
 
 within_cond : (b : Bool) (n : ℕ) (o : Option ℕ) → n ≤ all_rights → IfSome o (λ n. n ≤ all_rights) → IfSome (cond b (Some n) o) (λ n. n ≤ all_rights)
@@ -49,3 +50,25 @@ mask_within format name = within_in (rights_in format) name (
     ),
   ),
 )
+
+first_cond : (b : Bool) (m n : ℕ) (o p : Option ℕ) → (o ≡ Some n → p ≡ Some n) → cond b (Some m) o ≡ Some n → cond b (Some m) p ≡ Some n
+first_cond true m n o p h e = e
+first_cond false m n o p h e = h e
+
+-- a name among the first ones
+pub mask_first : (first more : List (List ℕ × ℕ)) (name : List ℕ) (mask : ℕ) → mask_in first name ≡ Some mask → mask_in (first ++ more) name ≡ Some mask
+mask_first [] more name mask e = absurd cc
+mask_first (r ∷ rest) more name mask e = first_cond (bytes_eq name r.0) r.1 mask (mask_in rest name) (mask_in (rest ++ more) name) (mask_first rest more name mask) e
+
+behind_cond : (b : Bool) (m : ℕ) (o p q : Option ℕ) → (o ≡ None → p ≡ q) → cond b (Some m) o ≡ None → cond b (Some m) p ≡ q
+behind_cond true m o p q h e = absurd cc
+behind_cond false m o p q h e = h e
+
+-- a name that is none of the first ones
+pub mask_behind : (first more : List (List ℕ × ℕ)) (name : List ℕ) → mask_in first name ≡ None → mask_in (first ++ more) name ≡ mask_in more name
+mask_behind [] more name e = refl
+mask_behind (r ∷ rest) more name e = behind_cond (bytes_eq name r.0) r.1 (mask_in rest name) (mask_in (rest ++ more) name) (mask_in more name) (mask_behind rest more name) e
+
+-- a name that was read byte by byte
+pub mask_read : (rights : List (List ℕ × ℕ)) (name read : List ℕ) → length name ≡ length read → HasBytesAt name 0 read → mask_in rights read ≡ mask_in rights name
+mask_read rights name read len bytes = ap (mask_in rights) (sym (text_from_reads name read len bytes))

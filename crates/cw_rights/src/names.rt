@@ -1,8 +1,8 @@
 //! Names in the texts of policies: rights, and the form of C names.
 
-ghost use Rattle.std.specs.Prelude.{◌≡◌, ◌≤◌, drop, option_map, IfSome};
+ghost use Rattle.std.specs.Prelude.{◌≡◌, ◌≤◌, option_map, IfSome};
 ghost use Rattle.std.specs.List.{list_all};
-ghost use Rattle.cw_rights.specs.Names.{all_rights, mask_in, joint_rights, rights_in, right_mask};
+ghost use Rattle.cw_rights.specs.Names.{all_rights, mask_in, single_rights, joint_rights, right_mask};
 ghost use Rattle.cw_rights.specs.Valid.{is_name_start, is_name_byte, is_name};
 
 use crate::capabilities::Rights;
@@ -43,58 +43,36 @@ pub fn is_name(word: &[u8]) -> bool
 /// `CAP_READ` to `CAP_LOOKUP` are names of rights(4), each the set of its own right. In format 2 there are two
 /// further names, this project's own abbreviations: `CAP_PREAD` stands for CAP_SEEK with CAP_READ, and `CAP_PWRITE`
 /// for CAP_SEEK with CAP_WRITE.
-#[tactic(auto, using(crate::proofs::Named::mask_within))]
+#[tactic(auto, using(crate::proofs::Named::mask_within, crate::proofs::Named::mask_first, crate::proofs::Named::mask_behind))]
 pub fn right_named(name: &[u8], format: u8) -> Option<Rights>
     ensures is { option_map (λ r. r.0) result ≡ right_mask format name.now }
     ensures within { IfSome result (λ r. r.0 ≤ all_rights) }
 {
-    if name == b"CAP_READ".as_slice() {
-        return Some(Rights(0x1));
+    match single_right_named(name) {
+        Some(right) => Some(right),
+        None if format == 2 => joint_rights_named(name),
+        None => None,
     }
-    if name == b"CAP_WRITE".as_slice() {
-        return Some(Rights(0x2));
-    }
-    if name == b"CAP_SEEK".as_slice() {
-        return Some(Rights(0x4));
-    }
-    if name == b"CAP_FSTAT".as_slice() {
-        return Some(Rights(0x8));
-    }
-    if name == b"CAP_FTRUNCATE".as_slice() {
-        return Some(Rights(0x10));
-    }
-    if name == b"CAP_FSYNC".as_slice() {
-        return Some(Rights(0x20));
-    }
-    later_right_named(name, format)
 }
 
-/// The same for names from `CAP_FCNTL` on.
-fn later_right_named(name: &[u8], format: u8) -> Option<Rights>
-    ensures { option_map (λ r. r.0) result ≡ mask_in (drop 6 (rights_in format)) name.now }
+/// The same for the names of every format.
+fn single_right_named(name: &[u8]) -> Option<Rights>
+    ensures { option_map (λ r. r.0) result ≡ mask_in single_rights name.now }
 {
-    if name == b"CAP_FCNTL".as_slice() {
-        return Some(Rights(0x40));
-    }
-    if name == b"CAP_IOCTL".as_slice() {
-        return Some(Rights(0x80));
-    }
-    if name == b"CAP_EVENT".as_slice() {
-        return Some(Rights(0x100));
-    }
-    if name == b"CAP_ACCEPT".as_slice() {
-        return Some(Rights(0x200));
-    }
-    if name == b"CAP_LISTEN".as_slice() {
-        return Some(Rights(0x400));
-    }
-    if name == b"CAP_LOOKUP".as_slice() {
-        return Some(Rights(0x800));
-    }
-    if format == 2 {
-        joint_rights_named(name)
-    } else {
-        None
+    match name {
+        b"CAP_READ" => Some(Rights(0x1)),
+        b"CAP_WRITE" => Some(Rights(0x2)),
+        b"CAP_SEEK" => Some(Rights(0x4)),
+        b"CAP_FSTAT" => Some(Rights(0x8)),
+        b"CAP_FTRUNCATE" => Some(Rights(0x10)),
+        b"CAP_FSYNC" => Some(Rights(0x20)),
+        b"CAP_FCNTL" => Some(Rights(0x40)),
+        b"CAP_IOCTL" => Some(Rights(0x80)),
+        b"CAP_EVENT" => Some(Rights(0x100)),
+        b"CAP_ACCEPT" => Some(Rights(0x200)),
+        b"CAP_LISTEN" => Some(Rights(0x400)),
+        b"CAP_LOOKUP" => Some(Rights(0x800)),
+        _ => None,
     }
 }
 
@@ -102,11 +80,9 @@ fn later_right_named(name: &[u8], format: u8) -> Option<Rights>
 fn joint_rights_named(name: &[u8]) -> Option<Rights>
     ensures { option_map (λ r. r.0) result ≡ mask_in joint_rights name.now }
 {
-    if name == b"CAP_PREAD".as_slice() {
-        return Some(Rights(0x5));
+    match name {
+        b"CAP_PREAD" => Some(Rights(0x5)),
+        b"CAP_PWRITE" => Some(Rights(0x6)),
+        _ => None,
     }
-    if name == b"CAP_PWRITE".as_slice() {
-        return Some(Rights(0x6));
-    }
-    None
 }
