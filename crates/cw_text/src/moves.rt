@@ -28,39 +28,25 @@ pub fn move_name(by: Move) -> &'static str
 pub fn weavers_move(field: &[u8]) -> Option<Move>
     ensures { Reads IsWeavers move_name field.now result }
 {
-    if field == b"skip".as_slice() {
-        return Some(Move::Skip);
+    match field {
+        b"skip" => Some(Move::Skip),
+        b"try" => Some(Move::Try),
+        _ => None,
     }
-    if field == b"try".as_slice() {
-        return Some(Move::Try);
-    }
-    None
 }
 
 /// The move of the environment whose name this is.
 pub fn environments_move(field: &[u8]) -> Option<Move>
     ensures { Reads IsEnvironments move_name field.now result }
 {
-    if field == b"grant".as_slice() {
-        return Some(Move::Grant);
+    match field {
+        b"grant" => Some(Move::Grant),
+        b"refuse" => Some(Move::Refuse),
+        b"on" => Some(Move::On),
+        b"left" => Some(Move::Left),
+        b"right" => Some(Move::Right),
+        b"opened" => Some(Move::Opened),
+        b"failed" => Some(Move::Failed),
+        _ => None,
     }
-    if field == b"refuse".as_slice() {
-        return Some(Move::Refuse);
-    }
-    if field == b"on".as_slice() {
-        return Some(Move::On);
-    }
-    if field == b"left".as_slice() {
-        return Some(Move::Left);
-    }
-    if field == b"right".as_slice() {
-        return Some(Move::Right);
-    }
-    if field == b"opened".as_slice() {
-        return Some(Move::Opened);
-    }
-    if field == b"failed".as_slice() {
-        return Some(Move::Failed);
-    }
-    None
 }
