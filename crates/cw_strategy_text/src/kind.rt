@@ -21,17 +21,11 @@ pub(crate) enum RowKind {
 pub(crate) fn kind_of(field: &[u8]) -> Option<RowKind>
     ensures { Reads FitsKind kind_field field.now result }
 {
-    if field == b"bad".as_slice() {
-        return Some(RowKind::Bad);
+    match field {
+        b"bad" => Some(RowKind::Bad),
+        b"out" => Some(RowKind::Out),
+        b"both" => Some(RowKind::Both),
+        b"into" => Some(RowKind::Into),
+        _ => Some(RowKind::Go(environments_move(field)?)),
     }
-    if field == b"out".as_slice() {
-        return Some(RowKind::Out);
-    }
-    if field == b"both".as_slice() {
-        return Some(RowKind::Both);
-    }
-    if field == b"into".as_slice() {
-        return Some(RowKind::Into);
-    }
-    Some(RowKind::Go(environments_move(field)?))
 }
