@@ -6,38 +6,39 @@ use Rattle.cw_syntax.specs.Frames.{Item, Entry, Todo, Test, After, LoopEnd, End,
 use Rattle.cw_figures.specs.Figures.{is_zero}
 use Rattle.cw_value.specs.Expressions.{Scope, Memory, Outcome, gives, stops, ◌and◌}
 use Rattle.cw_value.specs.Declarations.{declares}
-use Rattle.cw_value.specs.Deeds.{Computes, Decides, Opens, Calls, Answers, plain_if, statement_deed, deed_of, Passing, side, decided_by, opened_by, form_at, tree_at, returned, evaluated, condition, next_turn, arguments_if, values, value_if, does}
+use Rattle.cw_value.specs.Deeds.{Computes, Decides, Opens, Calls, Answers, plain_if, statement_deed, deed_of, Passing}
+use Rattle.cw_value.specs.Deeds.{side, decided_by, opened_by, form_at, tree_at, returned, evaluated, condition, next_turn, arguments_if, values, value_if, does}
 
 -- the kinds of ways: on, by a condition, by success
-pub data Kind : Type 0 where
-  straight : Kind
-  forked : Kind
-  tried : Kind
+pub data StepKind : Type 0 where
+  straight : StepKind
+  forked : StepKind
+  tried : StepKind
 
-abbrev kind_if : Bool → Kind
+abbrev kind_if : Bool → StepKind
 kind_if true = forked
 kind_if false = straight
 
-abbrev kind_in : Stm → Kind
+abbrev kind_in : Stm → StepKind
 kind_in (Open at j d) = tried
 kind_in (If at s t) = forked
 kind_in _ = straight
 
-abbrev pub kind_of : Item → Kind
+abbrev pub kind_of : Item → StepKind
 kind_of (Todo s) = kind_in s
 kind_of (Test at d u s) = kind_if d
 kind_of _ = straight
 
-abbrev pub IsWay : Kind → Way → Type 0
+abbrev pub IsWay : StepKind → Way → Type 0
 IsWay straight way = way ≡ On
 IsWay forked way = (way ≡ Left) ⊎ (way ≡ Right)
 IsWay tried way = (way ≡ Opened) ⊎ (way ≡ Failed)
 
-abbrev pub GoesBy : Kind → Outcome Passing → Type 0
+abbrev pub GoesBy : StepKind → Outcome Passing → Type 0
 GoesBy kind (gives p m) = IsWay kind p.way
 GoesBy kind (stops x m) = Unit {0}
 
-then_goes : {A : Type 0} (kind : Kind) (o : Outcome A) (f : A → Memory → Outcome Passing) → ((a : A) (k : Memory) → GoesBy kind (f a k)) → GoesBy kind (o and f)
+then_goes : {A : Type 0} (kind : StepKind) (o : Outcome A) (f : A → Memory → Outcome Passing) → ((a : A) (k : Memory) → GoesBy kind (f a k)) → GoesBy kind (o and f)
 then_goes kind (gives a m) f h = h a m
 then_goes kind (stops x m) f h = tt
 

@@ -241,7 +241,7 @@ module _ (s : Found) (D : Option ℕ) where
             function = m.function;
             entered = m.entered;
             reach = m.reach;
-            place = here.0;
+            row_key = here.0;
             row = row;
             stands = subst (λ rows. slice_get rows here.0 ≡ Some row) (sym m.rows_are) here.1;
             pos = refl;
@@ -263,7 +263,7 @@ listing_there g functions fair s sound D = (
       some = λ i grp e. (listed_group s D (length g.spots) g.states.count functions i grp e).2.some;
       below = below_in s D (length g.spots) g.states.count functions;
       whole = λ f q r p x a w.
-          let at = sound.placed f q p x a w.1 in
+          let at = sound.keyed f q p x a w.1 in
           let short = fair.short f at.function in
           let le = at.position.1 in
           whole_in s D (length g.spots) g.states.count functions f q r p x a at.below at.entered (omega (arith, le, short)) at.state w;

@@ -176,12 +176,12 @@ module _ (g : Game) (functions : ℕ) (fair : IsFair g functions) (s : Found) (s
       let set : IsNumberSet s s2 f q z x n = record { reach = λ f2 q2. refl; number = λ f2 q2 p2 x2. refl; best = refl } in
       let falls : (a : ℕ) → s.number f q z x ≡ Some a → n ≤ a = λ a e. not_more (s.number f q z x) n a l e in
       let good = number_sound g functions fair s s2 sound f q p x n set falls o fine in
-      let place = proposal_row_key g functions fair s sound f q p x n o fine in
-      let short = fair.short f place.function in
-      let within : z < length g.spots = let le = place.position.1 in omega (arith, le, short) in
+      let row_key = proposal_row_key g functions fair s sound f q p x n o fine in
+      let short = fair.short f row_key.function in
+      let within : z < length g.spots = let le = row_key.position.1 in omega (arith, le, short) in
       let here : s2.number f q z x ≡ Some n = ap (λ b. cond b (Some n) (s.number f q z x)) (row_itself f q z x) in
       let less : value (s2.number f q z x) < value (s.number f q z x) = subst (λ o. value o < value (s.number f q z x)) (sym here) l in
-      (s2, good, number_less g functions s s2 good (number_falls g functions fair s s2 sound f q p x n set falls) f q z x place.below place.entered within place.state less)
+      (s2, good, number_less g functions s s2 good (number_falls g functions fair s s2 sound f q p x n set falls) f q z x row_key.below row_key.entered within row_key.state less)
 
   cover : (f q r p x n : ℕ) → IsProposal g s f q p x n → s.reach f q ≡ Some r → Better ⊎ IsCovered g s f q r p x n
   cover f q r p x n o er = by (bad_in g x (slice_get g.spots (skipped g p))) refl
@@ -242,7 +242,7 @@ module _ (g : Game) (functions : ℕ) (fair : IsFair g functions) (s : Found) (s
     return_or : (o : Option Spot) → slice_get g.spots p ≡ o → Better ⊎ ReturnsIn o
     return_or (Some (Call j h k)) eo =
         either_to (each_or g.states.count (λ y. (e : ℕ) → s.number h x (g.exit h) y ≡ Some e → IsCovered g s f q r k y (cut (a + e + 2))) (λ y l. one y (s.number h x (g.exit h) y) refl))
-        (λ each y e i. each y (sound.placed h x (g.exit h) y e i).state e i)
+        (λ each y e i. each y (sound.keyed h x (g.exit h) y e i).state e i)
       where
         one : (y : ℕ) (o : Option ℕ) → s.number h x (g.exit h) y ≡ o → Better ⊎ ((e : ℕ) → s.number h x (g.exit h) y ≡ Some e → IsCovered g s f q r k y (cut (a + e + 2)))
         one y None en = inr (λ e i. absurd (none-some e (sym en ∙ i)))
@@ -280,7 +280,7 @@ module _ (g : Game) (functions : ℕ) (fair : IsFair g functions) (s : Found) (s
       (λ k. record {
         begins = k.0;
         closed = λ f q r p x a er ea low.
-            let at = sound.placed f q p x a ea in
+            let at = sound.keyed f q p x a ea in
             let short = fair.short f at.function in
             let le = at.position.1 in
             k.1 f at.below q at.entered p (omega (arith, le, short)) x at.state r a er ea;

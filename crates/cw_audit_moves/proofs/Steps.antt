@@ -17,7 +17,7 @@ use Rattle.cw_audit_store.specs.Finding.{found_of, ways_of, way_of, caller_of, b
 use Rattle.cw_audit_search.specs.Searches.{Found}
 use Rattle.cw_audit_search.specs.Ways as way
 use Rattle.cw_audit_search.specs.Ways.{Ways, Caller, BadWay, IsWay, IsBadWay, AreWays, Todo, Reach, Row, Step, unfold_way, unfold_call, unfold_hit, Unfolds, weight, AreLow}
-use Rattle.cw_audit_search.proofs.Told.{told}
+use Rattle.cw_audit_search.proofs.Recalled.{recalled}
 use Rattle.cw_audit_search.proofs.Weights.{low_append, way_low, call_low, row_lighter, reach_lighter, hit_low, step_first, row_first, reach_first, nothing_left}
 use Rattle.cw_audit_moves.specs.Writing.{IsCallee, IsRunTo, IsWriting, IsReady, IsStepOn}
 
@@ -92,7 +92,7 @@ module _ (g : Game) (functions : ℕ) (s : Found) (w : Ways) (ready : IsReady g 
       → written ≡ []
       → left ≡ unfold_hit g h → IsWriting g s w n written left
   none_written n written left h e few least eh ew el =
-      let t = told g functions ready.fair s ready.sound w ready.ways n e few least in
+      let t = recalled g functions ready.fair s ready.sound w ready.ways n e few least in
       let same : t.0 ≡ h = same_Some t.0 h (sym t.1 ∙ eh) in
       let z = ready.ways.hit n e in
       let bad = subst (IsBadWay g s n) (same_Some z.0 h (sym z.1 ∙ eh)) z.2 in

@@ -50,8 +50,8 @@ module _ (g : Game) (functions : ℕ) (fair : IsFair g functions) (s : Found) (s
   front bound D b settled = record {
     begins = let z = covered_row bound D b g.main g.states.start 0 (g.entry g.main) g.states.start 0 0 sound.main settled.begins (omega arith) (start_before bound D b) in
         subst (λ a. IsRowBelow s D g.main g.states.start 0 (skipped g (g.entry g.main)) g.states.start a) (omega (arith, z.2)) z.1;
-    free = λ f q r p x a w. (sound.placed f q p x a w.1).free;
-    ends = λ f q r p x a k w e. let at = sound.placed f q p x a w.1 in fair.alone f p k at.below at.position e;
+    free = λ f q r p x a w. (sound.keyed f q p x a w.1).free;
+    ends = λ f q r p x a k w e. let at = sound.keyed f q p x a w.1 in fair.alone f p k at.below at.position e;
     good = λ f q r p x a w. (sound.inside f q p x a w.1).1.4;
     steps = λ f q r p x a by c w inner before step l.
         let z = covered_row bound D b f q r c.pos c.state (cut (a + 1)) (r + a + 1) w.0 ((closed_at bound D b settled f q r p x a w).steps by c inner step l) (omega arith) before in

@@ -6,7 +6,7 @@ use Rattle.cw_audit_search.proofs.Listed.{listing_is_good, listing_stated}
 use Rattle.cw_audit_search.proofs.Ends.{stated_has, hits_cut}
 use Rattle.cw_audit_search.proofs.Whole.{stated_known}
 use Rattle.cw_audit_search.proofs.Counting.{rows_at_least, rows_at_most}
-use Rattle.cw_audit_search.proofs.Told.{told}
+use Rattle.cw_audit_search.proofs.Recalled.{recalled}
 
 pub games_fair : GamesAreFair
 games_fair p g functions game leads main routes states = is_fair g functions leads main routes states p game
@@ -32,4 +32,4 @@ pub cut_far : CutHitsAreFar
 cut_far g functions s fair sound settled e = let h = sound.violated 65537 e in ((h.0, h.1), hits_cut g functions fair s sound settled e)
 
 pub ways_shown : WaysAreShown
-ways_shown g functions s w T fair sound ways e few least = told g functions fair s sound w ways T e few least
+ways_shown g functions s w T fair sound ways e few least = recalled g functions fair s sound w ways T e few least

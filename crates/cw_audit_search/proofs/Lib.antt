@@ -10,7 +10,7 @@ pub mod Good
 pub mod Listed
 pub mod Counting
 pub mod Ways
-pub mod Told
+pub mod Recalled
 pub mod Weights
 pub mod Laid
 pub mod Fair

@@ -68,7 +68,7 @@ module _ (g : Game) (functions : ℕ) (fair : IsFair g functions) (s : Found) (s
       ap (is_within n) (in_group i grp r (skipped g p) x b e w) ∙ le-leb b (cut n) (omega (arith, z, le))
 
   row_key_of : (f q r p x a : ℕ) → IsRowBelow s D f q r p x a → IsRowKey g functions f q p x
-  row_key_of f q r p x a w = sound.placed f q p x a w.1
+  row_key_of f q r p x a w = sound.keyed f q p x a w.1
 
   in_range : (i : ℕ) (grp : PlainGroup) → slice_get t.groups i ≡ Some grp → IsInRange g functions grp
   in_range i grp e =

@@ -23,7 +23,7 @@ module _ (g : Game) (functions : ℕ) (fair : IsFair g functions) where
         let w = sound.inside f q p x a ea in
         record {
           function = inr (p, j, k, call);
-          state = (sound.placed f q p x a ea).state;
+          state = (sound.keyed f q p x a ea).state;
           moves = e.moves + w.0 + 1;
           run = call_enters g f q p x e.moves w.0 j h k e.run w.1 call;
           number = omega (arith, e.number, w.2);
@@ -46,7 +46,7 @@ module _ (g : Game) (functions : ℕ) (fair : IsFair g functions) where
         → leads_in g p x [] (slice_get g.spots p) by ≡ Some c → IsProposal g s f q c.pos c.state (cut (a + 1))
     move_proposal f q p x a by c ea inner step l =
         let w = sound.inside f q p x a ea in
-        let at = sound.placed f q p x a ea in
+        let at = sound.keyed f q p x a ea in
         let m = fair.moves f p x by c at.function at.position at.state inner w.1.4 step l in
         record {
           known = sound.known f q p x a ea;
@@ -63,7 +63,7 @@ module _ (g : Game) (functions : ℕ) (fair : IsFair g functions) where
         → IsProposal g s f q k y (cut (a + e + 2))
     return_proposal f q p x a j h k y e ea call ee =
         let w = sound.inside f q p x a ea in
-        let at = sound.placed f q p x a ea in
+        let at = sound.keyed f q p x a ea in
         let v = sound.inside h x (g.exit h) y e ee in
         let i = fair.ends h (inr (p, j, k, call)) in
         record {
@@ -72,7 +72,7 @@ module _ (g : Game) (functions : ℕ) (fair : IsFair g functions) where
           run = return_run g f q p x w.0 j h k y v.0 i.0 w.1 call v.1 i.1;
           number = omega (arith, w.2, v.2);
           position = fair.returns f p j h k at.function at.position call;
-          state = (sound.placed h x (g.exit h) y e ee).state;
+          state = (sound.keyed h x (g.exit h) y e ee).state;
           begun = inl (sound.begun f q p x a ea);
         }
 

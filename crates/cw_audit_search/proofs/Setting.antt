@@ -97,9 +97,9 @@ module _ (g : Game) (functions : ℕ) (fair : IsFair g functions) (s s2 : Found)
                 (o.moves, within_run g f q p x o.moves o.run good, sym h.1 ∙ o.number)
             | inr h ↦ sound.inside f2 q2 p2 x2 a h.1
           ];
-          placed = λ f2 q2 p2 x2 a e. elim (was f2 q2 p2 x2 a e) [
+          keyed = λ f2 q2 p2 x2 a e. elim (was f2 q2 p2 x2 a e) [
             | inl h ↦ same_row (IsRowKey g functions) f q (skipped g p) x f2 q2 p2 x2 h.0 (proposal_row_key g functions fair s sound f q p x n o good)
-            | inr h ↦ sound.placed f2 q2 p2 x2 a h.1
+            | inr h ↦ sound.keyed f2 q2 p2 x2 a h.1
           ];
           begun = still_begun;
           violated = λ k e. sound.violated k (sym set.best ∙ e);
@@ -128,7 +128,7 @@ module _ (g : Game) (functions : ℕ) (fair : IsFair g functions) (s s2 : Found)
       ];
       known = λ f2 q2 p2 x2 a e. let z = sound.known f2 q2 p2 x2 a (sym (set.number f2 q2 p2 x2) ∙ e) in let y = reach_falls.reach f2 q2 z.0 z.1 in (y.0, y.1);
       inside = λ f2 q2 p2 x2 a e. sound.inside f2 q2 p2 x2 a (sym (set.number f2 q2 p2 x2) ∙ e);
-      placed = λ f2 q2 p2 x2 a e. sound.placed f2 q2 p2 x2 a (sym (set.number f2 q2 p2 x2) ∙ e);
+      keyed = λ f2 q2 p2 x2 a e. sound.keyed f2 q2 p2 x2 a (sym (set.number f2 q2 p2 x2) ∙ e);
       begun = λ f2 q2 p2 x2 a e. set.number f2 q2 (skipped g (g.entry f2)) q2 ∙ sound.begun f2 q2 p2 x2 a (sym (set.number f2 q2 p2 x2) ∙ e);
       violated = λ k e. sound.violated k (sym set.best ∙ e);
     }
@@ -148,7 +148,7 @@ module _ (g : Game) (functions : ℕ) (fair : IsFair g functions) (s s2 : Found)
       entered = λ f2 q2 a e. sound.entered f2 q2 a (sym (set.reach f2 q2) ∙ e);
       known = λ f2 q2 p2 x2 a e. let z = sound.known f2 q2 p2 x2 a (sym (set.number f2 q2 p2 x2) ∙ e) in (z.0, set.reach f2 q2 ∙ z.1);
       inside = λ f2 q2 p2 x2 a e. sound.inside f2 q2 p2 x2 a (sym (set.number f2 q2 p2 x2) ∙ e);
-      placed = λ f2 q2 p2 x2 a e. sound.placed f2 q2 p2 x2 a (sym (set.number f2 q2 p2 x2) ∙ e);
+      keyed = λ f2 q2 p2 x2 a e. sound.keyed f2 q2 p2 x2 a (sym (set.number f2 q2 p2 x2) ∙ e);
       begun = λ f2 q2 p2 x2 a e. set.number f2 q2 (skipped g (g.entry f2)) q2 ∙ sound.begun f2 q2 p2 x2 a (sym (set.number f2 q2 p2 x2) ∙ e);
       violated = λ a e. subst (IsHitCut g) (same_Some k a (sym set.best ∙ e)) hit;
     }
@@ -164,7 +164,7 @@ begins_sound g functions fair s er en eb arrival = record {
   ];
   known = λ f q p x a e. absurd (none-some a (sym (en f q p x) ∙ e));
   inside = λ f q p x a e. absurd (none-some a (sym (en f q p x) ∙ e));
-  placed = λ f q p x a e. absurd (none-some a (sym (en f q p x) ∙ e));
+  keyed = λ f q p x a e. absurd (none-some a (sym (en f q p x) ∙ e));
   begun = λ f q p x a e. absurd (none-some a (sym (en f q p x) ∙ e));
   violated = λ k e. absurd (none-some k (sym eb ∙ e));
 }

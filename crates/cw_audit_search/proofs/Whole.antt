@@ -38,24 +38,24 @@ Under g s f0 q0 f q [] = (f ≡ f0) × (q ≡ q0)
 Under g s f0 q0 f q (ret ∷ rets) = (w : Waiting g s f q ret) × Under g s f0 q0 w.function w.entered rets
 
 -- The top frame has a row behind its skips, or a bad pair stands there.
-abbrev pub IsTold : Game → Found → (f q p x : ℕ) → Type 0
-IsTold g s f q p x = IsKnown s f q (skipped g p) x ⊎ (bad_in g x (slice_get g.spots (skipped g p)) ≡ true)
+abbrev pub IsNoted : Game → Found → (f q p x : ℕ) → Type 0
+IsNoted g s f q p x = IsKnown s f q (skipped g p) x ⊎ (bad_in g x (slice_get g.spots (skipped g p)) ≡ true)
 
 pub record Stands (g : Game) (s : Found) (f0 q0 : ℕ) (c : Config) : Type 0 where
   pub function : ℕ
   pub entered : ℕ
   pub known : (r : ℕ) × (s.reach function entered ≡ Some r)
-  pub told : IsTold g s function entered c.pos c.state
+  pub noted : IsNoted g s function entered c.pos c.state
   pub under : Under g s f0 q0 function entered c.rets
 
 module _ (g : Game) (functions : ℕ) (fair : IsFair g functions) (s : Found) (sound : IsSound g functions s) (settled : IsSettled g s 65538) where
   closed_at : (f q p x : ℕ) → (row : IsKnown s f q p x) → (r : ℕ) × (s.reach f q ≡ Some r) × IsClosedAt g s f q r p x row.0
   closed_at f q p x row = let z = sound.known f q p x row.0 row.1 in (z.0, z.1, settled.closed f q z.0 p x row.0 z.1 row.1 (omega arith))
 
-  told : (f q r p x n : ℕ) → IsCovered g s f q r p x n → IsTold g s f q p x
-  told f q r p x n c = by (bad_in g x (slice_get g.spots (skipped g p))) refl
+  noted : (f q r p x n : ℕ) → IsCovered g s f q r p x n → IsNoted g s f q p x
+  noted f q r p x n c = by (bad_in g x (slice_get g.spots (skipped g p))) refl
     where
-      by : (b : Bool) → bad_in g x (slice_get g.spots (skipped g p)) ≡ b → IsTold g s f q p x
+      by : (b : Bool) → bad_in g x (slice_get g.spots (skipped g p)) ≡ b → IsNoted g s f q p x
       by true e = inr e
       by false e = let z = c.good e in inl (z.0, z.1)
 
@@ -68,7 +68,7 @@ module _ (g : Game) (functions : ℕ) (fair : IsFair g functions) (s : Found) (s
           function = k.function;
           entered = k.entered;
           known = k.known;
-          told = subst (λ p. IsKnown s k.function k.entered p d.state ⊎ (bad_in g d.state (slice_get g.spots p) ≡ true)) (sym (skip_on g d.pos z.0)) k.told;
+          noted = subst (λ p. IsKnown s k.function k.entered p d.state ⊎ (bad_in g d.state (slice_get g.spots p) ≡ true)) (sym (skip_on g d.pos z.0)) k.noted;
           under = k.under;
         })
 
@@ -81,7 +81,7 @@ module _ (g : Game) (functions : ℕ) (fair : IsFair g functions) (s : Found) (s
           function = f;
           entered = q;
           known = (c.0, c.1);
-          told = told f q c.0 e.pos e.state (cut (row.0 + 1)) (c.2.steps by (at_pair e.pos e.state []) inner step z.0);
+          noted = noted f q c.0 e.pos e.state (cut (row.0 + 1)) (c.2.steps by (at_pair e.pos e.state []) inner step z.0);
           under = subst (Under g s f0 q0 f q) z.1 under;
         }
 
@@ -93,7 +93,7 @@ module _ (g : Game) (functions : ℕ) (fair : IsFair g functions) (s : Found) (s
           function = h;
           entered = state;
           known = (c.0, c.1);
-          told = told h state c.0 (g.entry h) state 0 c.3;
+          noted = noted h state c.0 (g.entry h) state 0 c.3;
           under = (record { function = f; entered = q; pos = pos; seam = j; row = row; call = call; plain = refl }, under);
         }
 
@@ -101,13 +101,13 @@ module _ (g : Game) (functions : ℕ) (fair : IsFair g functions) (s : Found) (s
         → Stands g s f0 q0 (at_pair ret.back (returned g.states ret.kept state) rets)
     exit_at pos state i ret rets f q row under exit =
         let w = under.0 in
-        let at = sound.placed f q pos state row.0 row.1 in
+        let at = sound.keyed f q pos state row.0 row.1 in
         let last = fair.alone f pos i at.below at.position exit in
         let c = closed_at w.function w.entered w.pos q w.row in
         let z = c.2.returns w.seam f ret.back state row.0 w.call (subst (λ p. s.number f q p state ≡ Some row.0) last row.1) in
         let same : state ≡ returned g.states ret.kept state = sym (ap (λ o. returned g.states o state) w.plain) in
         subst (λ y. Stands g s f0 q0 (at_pair ret.back y rets)) same
-        (record { function = w.function; entered = w.entered; known = (c.0, c.1); told = told w.function w.entered c.0 ret.back state (cut (w.row.0 + row.0 + 2)) z; under = under.1 })
+        (record { function = w.function; entered = w.entered; known = (c.0, c.1); noted = noted w.function w.entered c.0 ret.back state (cut (w.row.0 + row.0 + 2)) z; under = under.1 })
 
     -- a step from a row
     step_at : (pos state : ℕ) (rets : List Ret) (e : Config) (by : Move) (spot : Option Spot) (f q : ℕ) → IsKnown s f q pos state → Under g s f0 q0 f q rets
@@ -132,11 +132,11 @@ module _ (g : Game) (functions : ℕ) (fair : IsFair g functions) (s : Found) (s
     step_at pos state (ret ∷ rets) e by (Some (Exit i)) f q row under free step es l = absurd (none-some e l)
     step_at pos state rets e _ _ f q row under free step es l = absurd (none-some e l)
 
-    -- a told pair at rest that isn't bad has its row
+    -- a noted pair at rest that isn't bad has its row
     row_here : (d : Config) → (k : Stands g s f0 q0 d) → weavers_in (slice_get g.spots d.pos) ≡ false → is_bad_at g d ≡ false → IsKnown s k.function k.entered d.pos d.state
     row_here d k rest good =
         let at = stays g d.pos rest in
-        elim k.told [
+        elim k.noted [
           | inl h ↦ subst (λ p. IsKnown s k.function k.entered p d.state) at h
           | inr h ↦ absurd (not_both (bad_in g d.state (slice_get g.spots (skipped g d.pos))) h (ap (λ p. bad_in g d.state (slice_get g.spots p)) at ∙ good))
         ]
@@ -147,15 +147,15 @@ module _ (g : Game) (functions : ℕ) (fair : IsFair g functions) (s : Found) (s
     goes_stand c e _ k (goes ms d _ by h good step l) =
         let z = goes_stand c d ms k h in
         let row = row_here d z (visit_stays g d.pos d.state d.rets (slice_get g.spots d.pos) by e step l) good in
-        step_at d.pos d.state d.rets e by (slice_get g.spots d.pos) z.function z.entered row z.under (sound.placed z.function z.entered d.pos d.state row.0 row.1).free step refl l
+        step_at d.pos d.state d.rets e by (slice_get g.spots d.pos) z.function z.entered row z.under (sound.keyed z.function z.entered d.pos d.state row.0 row.1).free step refl l
 
-  -- what is entered has its group, and its entry is told
+  -- what is entered has its group, and its entry is noted
   main_stands : Stands g s g.main g.states.start (start_at g)
   main_stands = record {
     function = g.main;
     entered = g.states.start;
     known = (0, sound.main);
-    told = told g.main g.states.start 0 (g.entry g.main) g.states.start 0 settled.begins;
+    noted = noted g.main g.states.start 0 (g.entry g.main) g.states.start 0 settled.begins;
     under = (refl, refl);
   }
 
@@ -165,7 +165,7 @@ module _ (g : Game) (functions : ℕ) (fair : IsFair g functions) (s : Found) (s
       let z = goes_stand g.main g.states.start (start_at g) c ms main_stands h in
       let row = row_here g.main g.states.start c z (ap weavers_in e) (ap (bad_in g c.state) e) in
       let d = (closed_at z.function z.entered c.pos c.state row).2.calls j f k e in
-      record { function = f; entered = c.state; known = (d.0, d.1); told = told f c.state d.0 (g.entry f) c.state 0 d.3; under = (refl, refl) }
+      record { function = f; entered = c.state; known = (d.0, d.1); noted = noted f c.state d.0 (g.entry f) c.state 0 d.3; under = (refl, refl) }
 
   -- The lemma.
   pub all_known : (f q p x n m : ℕ) → IsEntered g f q n → IsWithin g f q p x m → IsKnown s f q p x

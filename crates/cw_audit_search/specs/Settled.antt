@@ -7,7 +7,7 @@ use Rattle.cw_audit_table.specs.Runs.{skipped, cut, is_step}
 use Rattle.cw_audit_table.specs.Conditions.{is_inner, is_before}
 use Rattle.cw_audit_search.specs.Searches.{Found}
 
--- In the group of f and q, entered at r, n moves to the pair of p and x, with skips behind them, are told: the pair behind the skips is bad, and the nearest violation
+-- In the group of f and q, entered at r, n moves to the pair of p and x, with skips behind them, are noted: the pair behind the skips is bad, and the nearest violation
 -- isn't later, or it has a row that isn't greater.
 pub record IsCovered (g : Game) (s : Found) (f q r p x n : ℕ) : Type 0 where
   pub bad : bad_in g x (slice_get g.spots (skipped g p)) ≡ true → (k : ℕ) × (s.best ≡ Some k) × (k ≤ cut (r + n))

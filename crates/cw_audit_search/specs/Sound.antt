@@ -58,7 +58,7 @@ pub record IsSound (g : Game) (functions : ℕ) (s : Found) : Type 0 where
   pub entered : (f q r : ℕ) → s.reach f q ≡ Some r → IsArrival g f q r
   pub known : (f q p x a : ℕ) → s.number f q p x ≡ Some a → (r : ℕ) × (s.reach f q ≡ Some r)
   pub inside : (f q p x a : ℕ) → s.number f q p x ≡ Some a → (n : ℕ) × IsWithin g f q p x n × (a ≡ cut n)
-  pub placed : (f q p x a : ℕ) → s.number f q p x ≡ Some a → IsRowKey g functions f q p x
+  pub keyed : (f q p x a : ℕ) → s.number f q p x ≡ Some a → IsRowKey g functions f q p x
   pub begun : (f q p x a : ℕ) → s.number f q p x ≡ Some a → s.number f q (skipped g (g.entry f)) q ≡ Some 0
   pub violated : (k : ℕ) → s.best ≡ Some k → IsHitCut g k
 

@@ -23,16 +23,16 @@ use Rattle.cw_audit_text.proofs.Behind.{is_end, is_head, is_states, is_verdict, 
 
 -- ---- where a line may stand
 
-data Place : Type 0 where
-  at_head : Place
-  at_states : Place
-  at_verdict : Place
-  in_moves : Place
-  in_groups : Place
-  in_rows : Place
-  behind : Place
+data Stage : Type 0 where
+  at_head : Stage
+  at_states : Stage
+  at_verdict : Stage
+  in_moves : Stage
+  in_groups : Stage
+  in_rows : Stage
+  behind : Stage
 
-abbrev step : Place → TextLine → Option Place
+abbrev step : Stage → TextLine → Option Stage
 step at_head Head = Some at_states
 step at_states (States n) = Some at_verdict
 step at_verdict Meets = Some in_groups
@@ -48,15 +48,15 @@ step in_rows End = Some behind
 step _ _ = None
 
 -- behind these lines
-abbrev after : Option Place → List TextLine → Option Place
-after place [] = place
-after place (l ∷ ls) = after (option_and_then (λ p. step p l) place) ls
+abbrev after : Option Stage → List TextLine → Option Stage
+after stage [] = stage
+after stage (l ∷ ls) = after (option_and_then (λ p. step p l) stage) ls
 
-after-append : (place : Option Place) (xs ys : List TextLine) → after place (xs ++ ys) ≡ after (after place xs) ys
-after-append place [] ys = refl
-after-append place (x ∷ xs) ys = after-append (option_and_then (λ p. step p x) place) xs ys
+after-append : (stage : Option Stage) (xs ys : List TextLine) → after stage (xs ++ ys) ≡ after (after stage xs) ys
+after-append stage [] ys = refl
+after-append stage (x ∷ xs) ys = after-append (option_and_then (λ p. step p x) stage) xs ys
 
-some_step : (place : Option Place) (ls : List TextLine) (last : Place) → after place ls ≡ Some last → (next : Place) × (place ≡ Some next)
+some_step : (stage : Option Stage) (ls : List TextLine) (last : Stage) → after stage ls ≡ Some last → (next : Stage) × (stage ≡ Some next)
 some_step None [] last e = absurd (none-some last e)
 some_step None (l ∷ ls) last e = some_step None ls last e
 some_step (Some next) ls last e = (next, refl)
@@ -109,19 +109,19 @@ walk (x ∷ xs) (y ∷ ys) rest more fits well e =
     ]
 
 -- a front of a text behind which no line may follow that does
-record Stops (text : List ℕ) (ls : List TextLine) (rest : List ℕ) (place : Place) : Type 0 where
+record Stops (text : List ℕ) (ls : List TextLine) (rest : List ℕ) (stage : Stage) : Type 0 where
   fits : All FitsLine ls
   spelled : text ≡ whole_lines ls ++ rest
-  stands : after (Some at_head) ls ≡ Some place
-  stuck : (l : TextLine) (next : Place) (more : List ℕ) → step place l ≡ Some next → StartsWith rest l more → ⊥
+  stands : after (Some at_head) ls ≡ Some stage
+  stuck : (l : TextLine) (next : Stage) (more : List ℕ) → step stage l ≡ Some next → StartsWith rest l more → ⊥
 
-no_further : (text : List ℕ) (xs ys : List TextLine) (rest more : List ℕ) (p q : Place) → Stops text xs rest p → Stops text ys more q → Further xs ys rest → ⊥
+no_further : (text : List ℕ) (xs ys : List TextLine) (rest more : List ℕ) (p q : Stage) → Stops text xs rest p → Stops text ys more q → Further xs ys rest → ⊥
 no_further text xs ys rest more p q s t f =
     let e = sym (after-append (Some at_head) xs (f.item ∷ f.more)) ∙ ap (after (Some at_head)) (sym f.both) ∙ t.stands in
     let on = some_step (step p f.item) f.more q (ap (λ o. after o (f.item ∷ f.more)) (sym s.stands) ∙ e) in
     s.stuck f.item on.0 f.tail on.1 f.stands
 
-one_stop : (text : List ℕ) (xs ys : List TextLine) (rest more : List ℕ) (p q : Place) → Stops text xs rest p → Stops text ys more q → (xs ≡ ys) × (rest ≡ more) × (p ≡ q)
+one_stop : (text : List ℕ) (xs ys : List TextLine) (rest more : List ℕ) (p q : Stage) → Stops text xs rest p → Stops text ys more q → (xs ≡ ys) × (rest ≡ more) × (p ≡ q)
 one_stop text xs ys rest more p q s t =
     elim (walk xs ys rest more s.fits t.fits (sym s.spelled ∙ t.spelled)) [
       | inl same ↦ (same.0, same.1, same_Some p q (sym s.stands ∙ ap (after (Some at_head)) same.0 ∙ t.stands))
@@ -136,10 +136,10 @@ one_stop text xs ys rest more p q s t =
 abbrev lines_of : Audit → List TextLine
 lines_of t = Head ∷ States t.states ∷ verdict_of t.distance ∷ body_of t
 
-abbrev place_of : Option ℕ → List PlainGroup → Place
-place_of None [] = in_groups
-place_of (Some T) [] = in_moves
-place_of D (g ∷ groups) = in_rows
+abbrev stage_of : Option ℕ → List PlainGroup → Stage
+stage_of None [] = in_groups
+stage_of (Some T) [] = in_moves
+stage_of D (g ∷ groups) = in_rows
 
 after_rows : (rows : List PlainRow) (ls : List TextLine) → after (Some in_rows) (map row_line rows ++ ls) ≡ after (Some in_rows) ls
 after_rows [] ls = refl
@@ -154,7 +154,7 @@ after_moves [] ls = refl
 after_moves (by ∷ moves) ls = after_moves moves ls
 
 after_verdict : (D : Option ℕ) (moves : List Move) (groups : List PlainGroup) → HasNoMoves D moves
-    → after (Some at_verdict) (verdict_of D ∷ (map Go moves ++ flat_map group_lines groups)) ≡ Some (place_of D groups)
+    → after (Some at_verdict) (verdict_of D ∷ (map Go moves ++ flat_map group_lines groups)) ≡ Some (stage_of D groups)
 after_verdict None moves [] none = ap (λ ms. after (Some in_groups) (map Go ms ++ [])) none
 after_verdict None moves (g ∷ groups) none =
     ap (λ ms. after (Some in_groups) (map Go ms ++ flat_map group_lines (g ∷ groups))) none ∙ after_rows g.rows (flat_map group_lines groups) ∙ after_groups groups
@@ -162,7 +162,7 @@ after_verdict (Some T) moves [] none = after_moves moves []
 after_verdict (Some T) moves (g ∷ groups) none = after_moves moves (flat_map group_lines (g ∷ groups)) ∙ after_rows g.rows (flat_map group_lines groups) ∙ after_groups groups
 
 -- behind them the end may follow, and what may follow an audit's lines
-may_step : (D : Option ℕ) (groups : List PlainGroup) (l : TextLine) (next : Place) → step (place_of D groups) l ≡ Some next → (l ≡ End) ⊎ MayFollow D groups l
+may_step : (D : Option ℕ) (groups : List PlainGroup) (l : TextLine) (next : Stage) → step (stage_of D groups) l ≡ Some next → (l ≡ End) ⊎ MayFollow D groups l
 may_step None [] (In f q r) next e = inr tt
 may_step None [] End next e = inl refl
 may_step (Some T) [] (Go by) next e = inr tt
@@ -176,7 +176,7 @@ may_step (Some T) (g ∷ groups) (In f q r) next e = inr tt
 may_step (Some T) (g ∷ groups) End next e = inl refl
 may_step _ _ _ next e = absurd (none-some next e)
 
-to_end : (D : Option ℕ) (groups : List PlainGroup) → step (place_of D groups) End ≡ Some behind
+to_end : (D : Option ℕ) (groups : List PlainGroup) → step (stage_of D groups) End ≡ Some behind
 to_end None [] = refl
 to_end (Some T) [] = refl
 to_end None (g ∷ groups) = refl
@@ -219,7 +219,7 @@ ended_spelled : (t : Audit) (more : List ℕ) → whole_lines (lines_of t ++ End
 ended_spelled t more = ap (λ a. a ++ more) (lines_two (lines_of t) (End ∷ []) ∙ ap (λ a. whole_lines (lines_of t) ++ a) (lines_one End))
     ∙ append_assoc (whole_lines (lines_of t)) (whole_line End) more
 
-front_stands : (t : Audit) → Fits t → after (Some at_head) (lines_of t) ≡ Some (place_of t.distance t.groups)
+front_stands : (t : Audit) → Fits t → after (Some at_head) (lines_of t) ≡ Some (stage_of t.distance t.groups)
 front_stands t fits = after_verdict t.distance t.moves t.groups fits.moves
 
 ended_stands : (t : Audit) → Fits t → after (Some at_head) (lines_of t ++ End ∷ []) ≡ Some behind
@@ -227,29 +227,29 @@ ended_stands t fits = after-append (Some at_head) (lines_of t) (End ∷ []) ∙ 
 
 -- ---- an answer is where a text stops
 
-abbrev is_over : Place → Bool
+abbrev is_over : Stage → Bool
 is_over behind = true
 is_over _ = false
 
-not_over : (D : Option ℕ) (groups : List PlainGroup) → is_over (place_of D groups) ≡ false
+not_over : (D : Option ℕ) (groups : List PlainGroup) → is_over (stage_of D groups) ≡ false
 not_over None [] = refl
 not_over (Some T) [] = refl
 not_over None (g ∷ groups) = refl
 not_over (Some T) (g ∷ groups) = refl
 
 -- an audit where the text stops behind its end; else the line behind which it does
-abbrev IsTold : List TextLine → List ℕ → Place → Result Audit AuditTextFault → Type 0
-IsTold ls rest place (Ok t) = (is_over place ≡ true) × (rest ≡ []) × (ls ≡ lines_of t ++ End ∷ [])
-IsTold ls rest place (Err f) = (is_over place ≡ true → rest ≢ []) × (f ≡ Line (length ls + 1))
+abbrev IsTold : List TextLine → List ℕ → Stage → Result Audit AuditTextFault → Type 0
+IsTold ls rest stage (Ok t) = (is_over stage ≡ true) × (rest ≡ []) × (ls ≡ lines_of t ++ End ∷ [])
+IsTold ls rest stage (Err f) = (is_over stage ≡ true → rest ≢ []) × (f ≡ Line (length ls + 1))
 
 record StopOf (text : List ℕ) (answer : Result Audit AuditTextFault) : Type 0 where
   ls : List TextLine
   rest : List ℕ
-  place : Place
-  stops : Stops text ls rest place
-  told : IsTold ls rest place answer
+  stage : Stage
+  stops : Stops text ls rest stage
+  told : IsTold ls rest stage answer
 
-only_head : (l : TextLine) (next : Place) → step at_head l ≡ Some next → l ≡ Head
+only_head : (l : TextLine) (next : Stage) → step at_head l ≡ Some next → l ≡ Head
 only_head Head next e = refl
 only_head _ next e = absurd (none-some next e)
 
@@ -257,7 +257,7 @@ record IsStates (l : TextLine) : Type 0 where
   states : ℕ
   same : l ≡ States states
 
-only_states : (l : TextLine) (next : Place) → step at_states l ≡ Some next → IsStates l
+only_states : (l : TextLine) (next : Stage) → step at_states l ≡ Some next → IsStates l
 only_states (States n) next e = record { states = n; same = refl }
 only_states _ next e = absurd (none-some next e)
 
@@ -265,7 +265,7 @@ record IsVerdict (l : TextLine) : Type 0 where
   distance : Option ℕ
   same : l ≡ verdict_of distance
 
-only_verdict : (l : TextLine) (next : Place) → step at_verdict l ≡ Some next → IsVerdict l
+only_verdict : (l : TextLine) (next : Stage) → step at_verdict l ≡ Some next → IsVerdict l
 only_verdict Meets next e = record { distance = None; same = refl }
 only_verdict (Violates T) next e = record { distance = Some T; same = refl }
 only_verdict _ next e = absurd (none-some next e)
@@ -282,7 +282,7 @@ stop_of_fault : (text : List ℕ) (f : AuditTextFault) → IsFault text f → St
 stop_of_fault text f (no_head none) = record {
   ls = [];
   rest = text;
-  place = at_head;
+  stage = at_head;
   stops = record {
     fits = All-nil FitsLine;
     spelled = no_lines text;
@@ -294,7 +294,7 @@ stop_of_fault text f (no_head none) = record {
 stop_of_fault text f (no_states rest s none) = record {
   ls = Head ∷ [];
   rest = rest;
-  place = at_states;
+  stage = at_states;
   stops = record {
     fits = All-cons FitsLine Head [] tt (All-nil FitsLine);
     spelled = one_line_text Head text rest s;
@@ -306,7 +306,7 @@ stop_of_fault text f (no_states rest s none) = record {
 stop_of_fault text f (no_verdict states between rest s h none) = record {
   ls = Head ∷ States states ∷ [];
   rest = rest;
-  place = at_verdict;
+  stage = at_verdict;
   stops = record {
     fits = All-cons FitsLine Head (States states ∷ []) tt (All-cons FitsLine (States states) [] h.fits (All-nil FitsLine));
     spelled = two_lines_text Head (States states) text between rest s h;
@@ -318,7 +318,7 @@ stop_of_fault text f (no_verdict states between rest s h none) = record {
 stop_of_fault text f (no_line t rest begins over none) = record {
   ls = lines_of t;
   rest = rest;
-  place = place_of t.distance t.groups;
+  stage = stage_of t.distance t.groups;
   stops = record {
     fits = lines_fit t begins.fits;
     spelled = begins.spelled ∙ lines_spelled t rest;
@@ -336,7 +336,7 @@ stop_of_fault text f (no_line t rest begins over none) = record {
 stop_of_fault text f (no_end t rest more begins s some) = record {
   ls = lines_of t ++ End ∷ [];
   rest = more;
-  place = behind;
+  stage = behind;
   stops = record {
     fits = All-push FitsLine (lines_of t) End (lines_fit t begins.fits) tt;
     spelled = begins.spelled ∙ lines_spelled t rest ∙ ap (λ a. whole_lines (lines_of t) ++ a) s.spelled ∙ sym (ended_spelled t more);
@@ -355,7 +355,7 @@ stop_of text (Err f) h = stop_of_fault text f h
 stop_of text (Ok t) h = record {
   ls = lines_of t ++ End ∷ [];
   rest = [];
-  place = behind;
+  stage = behind;
   stops = record {
     fits = All-push FitsLine (lines_of t) End (lines_fit t h.fits) tt;
     spelled = h.spelled ∙ lines_spelled t end_line ∙ ap (λ a. whole_lines (lines_of t) ++ a) (is_end ∙ sym (append-nil (whole_line End))) ∙ sym (ended_spelled t []);
@@ -486,7 +486,7 @@ audit_back t =
 
 -- ---- the law
 
-one_told : (xs ys : List TextLine) (rest more : List ℕ) (p q : Place) (a b : Result Audit AuditTextFault) → xs ≡ ys → rest ≡ more → p ≡ q → IsTold xs rest p a
+one_told : (xs ys : List TextLine) (rest more : List ℕ) (p q : Stage) (a b : Result Audit AuditTextFault) → xs ≡ ys → rest ≡ more → p ≡ q → IsTold xs rest p a
     → IsTold ys more q b → a ≡ b
 one_told xs ys rest more p q (Ok t) (Ok u) lines texts places h k = ap Ok (sym (audit_back t) ∙ ap audit_in (sym h.2 ∙ lines ∙ k.2) ∙ audit_back u)
 one_told xs ys rest more p q (Ok t) (Err f) lines texts places h k = absurd (k.0 (ap is_over (sym places) ∙ h.0) (sym texts ∙ h.1))
@@ -497,8 +497,8 @@ pub one_answer : (text : List ℕ) (a b : Result Audit AuditTextFault) → IsAns
 one_answer text a b is also =
     let s = stop_of text a is in
     let t = stop_of text b also in
-    let same = one_stop text s.ls t.ls s.rest t.rest s.place t.place s.stops t.stops in
-    one_told s.ls t.ls s.rest t.rest s.place t.place a b same.0 same.1 same.2 s.told t.told
+    let same = one_stop text s.ls t.ls s.rest t.rest s.stage t.stage s.stops t.stops in
+    one_told s.ls t.ls s.rest t.rest s.stage t.stage a b same.0 same.1 same.2 s.told t.told
 
 -- ---- what is printed is read again
 

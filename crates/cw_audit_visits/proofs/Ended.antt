@@ -53,7 +53,7 @@ ends_more h s n ends ends2 before put = λ i l. elim (leb_tells n i) [
 pub all_ends : (h : Held) (s : Search) (ends : Lists) (count : ℕ) → count ≡ length s.store.rows.entries → AreEndsUpTo h s ends count → AreEnds h s ends
 all_ends h s ends count is each = λ n at row e end. each n (omega (arith, is, slice_get_within s.store.rows.entries n (at, row) e)) at row e end
 
--- what was told of so many listed ends, and one more
+-- what is noted of so many listed ends, and of one more
 pub noted_more : (h : Held) (s s1 : Search) (call : Calling) (ns : List ℕ) (n number : ℕ) → s1.store ≡ s.store → AreEndsNoted h s call ns n → slice_get ns n ≡ Some number
     → IsEndNoted h s1 call number
     → AreEndsNoted h s call ns (n + 1)
@@ -71,7 +71,7 @@ pub call_ends : (h : Held) (s s1 : Search) (ends : Lists) (call : Calling) (ns :
 call_ends h s s1 ends call ns same is are = λ y number row there.
     subst (λ ns. IsIn ns number) (sym is) (are number (end_of h call y) row (sym (ap (λ (t : Store). slice_get t.rows.entries number) same) ∙ there) refl)
 
--- each return is told of, where each listed end is
+-- each return is noted, where each listed end is
 pub returns_noted : (h : Held) (s : Search) (call : Calling) (ns : List ℕ) (many : ℕ) → AreEndsOf h s call ns → many ≡ length ns → AreEndsNoted h s call ns many
     → (y : ℕ) → IsReturnNoted h s call.met.row_key call.callee call.back.0 y
 returns_noted h s call ns many are is noted y = λ r a e er ea ee.
@@ -92,7 +92,7 @@ module _ (h : Held) (s : Search) (call : Calling) (number : ℕ) where
     same_end : (y : ℕ) (row : Row) → slice_get s.store.rows.entries number ≡ Some (end_of h call y, row) → end ≡ end_of h call y
     same_end y row e = ap (λ (p : RowKey × Row). p.0) (same_Some (end, ended) (end_of h call y, row) (sym there ∙ e))
 
-    -- the row is at an end of the callee, and the return is told of
+    -- the row is at an end of the callee, and the return is noted
     pub end_noted : IsReturnNoted h s call.met.row_key call.callee call.back.0 end.state.0 → IsEndNoted h s call number
     end_noted noted = λ y row e. subst (λ (p : RowKey). IsReturnNoted h s call.met.row_key call.callee call.back.0 p.state.0) (same_end y row e) noted
 

@@ -22,7 +22,7 @@ use Rattle.cw_audit_search.proofs.Setting.{reach_sound, reach_falls, group_itsel
 use Rattle.cw_audit_visits.specs.declared.met.Met.{Met}
 use Rattle.cw_audit_visits.specs.declared.under_way.Search.{Search}
 use Rattle.cw_audit_visits.specs.Searching.{row_key, found_of, functions_of, left, ways_of, caller_of, IsFairGame, IsKept, IsGoneOn, IsNoted, Tells}
-use Rattle.cw_audit_visits.specs.Searching.{IsGroupFalling, IsGroupSet, IsCallAt, IsPlaced, IsReturnNoted, IsDue, IsThere}
+use Rattle.cw_audit_visits.specs.Searching.{IsGroupFalling, IsGroupSet, IsCallAt, MayStand, IsReturnNoted, IsDue, IsThere}
 use Rattle.cw_audit_visits.proofs.Sets.{group_reach, group_call}
 use Rattle.cw_audit_visits.proofs.Oks.{by_truth}
 use Rattle.cw_audit_visits.proofs.Waits.{waits_same, wait_trans}
@@ -95,14 +95,14 @@ module _ (h : Held) (s : Search) (at : RowKey) (f k y : ℕ) (call : IsCallAt h 
       subst (λ n. IsCovered (game_of h) (found_of s.store) at.entrance.function at.entrance.state.0 r k y n) (omega (arith, number, same_a, same_e)) (noted r rr)
 
 -- where a row may stand, its position is the game's
-pub placed_position : (h : Held) (at : RowKey) → IsFairGame h → IsPlaced h at → at.pos.0 < length (game_of h).spots
-placed_position h at fair placed = omega (arith, placed.position.1, fair.short at.entrance.function placed.function)
+pub standing_position : (h : Held) (at : RowKey) → IsFairGame h → MayStand h at → at.pos.0 < length (game_of h).spots
+standing_position h at fair may_stand = omega (arith, may_stand.position.1, fair.short at.entrance.function may_stand.function)
 
 -- what a row within a function may go on from
-pub there_placed : (h : Held) (s : Search) (met : Met) → IsKept (game_of h) (functions_of h) s → IsThere s met → IsPlaced h met.row_key
-there_placed h s met kept there =
+pub there_may_stand : (h : Held) (s : Search) (met : Met) → IsKept (game_of h) (functions_of h) s → IsThere s met → MayStand h met.row_key
+there_may_stand h s met kept there =
     let at = met.row_key in
-    kept.sound.placed at.entrance.function at.entrance.state.0 at.pos.0 at.state.0 met.row.inside (ap (option_map (λ (r : Row). r.inside)) there.row)
+    kept.sound.keyed at.entrance.function at.entrance.state.0 at.pos.0 at.state.0 met.row.inside (ap (option_map (λ (r : Row). r.inside)) there.row)
 
 -- nothing changed that is found or waits
 pub tells_nothing : (a b : Search) → b.store ≡ a.store → left b ≡ left a → Tells a b false

@@ -1,4 +1,4 @@
--- A proposal is told of where nothing changes; and what is set keeps the search sound.
+-- A proposal is noted where nothing changes; and what is set keeps the search sound.
 use Rattle.std.proofs.Common.{◌≡◌, ℕ, ◌+◌, ◌∙◌, ◌≤◌, Bool, true, false, Some, sym, ap, subst, arith}
 use Rattle.std.specs.Prelude.{option_map, slice_get}
 use Rattle.std.proofs.Math.Nat.{min-le_right}

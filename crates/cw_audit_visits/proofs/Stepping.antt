@@ -68,13 +68,13 @@ step_later h s s2 at a by fair fallen due = λ c l.
       way_later (game_of h) (found_of s.store) (found_of s2.store) fallen f q (skipped (game_of h) c.pos) c.state (cut (a + 1)) (way.Moved at.pos.0 at.state.0 by) d.1,
     )
 
--- all moves are told of where the first and the second are
+-- all moves are noted where the first and the second are
 pub moves_noted : (h : Held) (s : Search) (at : RowKey) (a : ℕ) → is_inner (spot_at h at) ≡ true → IsStepNoted h s at a (first_move (spot_at h at))
     → ((m : Move) → second_move (spot_at h at) ≡ Some m → IsStepNoted h s at a m) → (by : Move) → is_step by ≡ true → IsStepNoted h s at a by
 moves_noted h s at a inner one other by step = λ r c er l.
     two_moves (game_of h) (λ m. IsStepNoted h s at a m) at.pos.0 at.state.0 (spot_at h at) by c inner step l one other r c er l
 
--- what was told of a search is told of one with the same store
+-- what is noted in a search is noted in one with the same store
 pub noted_same : (h : Held) (s s1 : Search) (at : RowKey) (a : ℕ) (by : Move) → s1.store ≡ s.store → IsStepNoted h s1 at a by → IsStepNoted h s at a by
 noted_same h s s1 at a by same noted = subst (λ t. IsStepNoted h (record { store = t; frontier = s.frontier }) at a by) same noted
 
@@ -145,7 +145,7 @@ back_in _ = 0
 same_call : {j f k j2 f2 k2 : ℕ} → Call j f k ≡ Call j2 f2 k2 → (f ≡ f2) × (k ≡ k2)
 same_call e = (ap function_in e, ap back_in e)
 
--- a call's row, where the callee is entered no later and each return is told of
+-- a call's row, where the callee is entered no later and each return is noted
 pub visited_call : (h : Held) (s : Search) (call : Calling) → IsThere s call.met → IsCallOf h call.met.row_key call.callee call.back.0 → AreBegun h s → IsCallNear s call
     → ((y : ℕ) → IsReturnNoted h s call.met.row_key call.callee call.back.0 y) → IsVisited h s call.met.row_key
 visited_call h s call there stands begun near returned = λ r a er ea.

@@ -1,4 +1,4 @@
--- What a visited row leads to is told of, but for what is behind returns.
+-- What a visited row leads to is noted, but for what is behind returns.
 use Rattle.std.proofs.Common.{◌≡◌, ℕ, ◌+◌, ◌∙◌, ◌≤◌, true, false, Option, Some, sym, ap, subst}
 use Rattle.std.specs.Prelude.{slice_get}
 use Rattle.std.proofs.lemmas.Option.{same_Some}

@@ -32,7 +32,7 @@ use Rattle.cw_audit_visits.specs.declared.under_way.Search.{Search}
 abbrev pub left : Search → ℕ
 left s = 2 * work s.store + length s.frontier.rows
 
--- Whether a step changed anything is told: where not, all is as it was; else less is left.
+-- Whether a step changed anything is answered: where not, all is as it was; else less is left.
 pub record Tells (old new : Search) (changed : Bool) : Type 0 where
   pub same : changed ≡ false → (new.store ≡ old.store) × (left new ≡ left old)
   pub less : changed ≡ true → left new < left old
@@ -83,7 +83,7 @@ pub record IsDue (h : Held) (s : Search) (at : RowKey) (n : ℕ) (by : Way) : Ty
   pub proposal : IsProposal (game_of h) (found_of s.store) at.entrance.function at.entrance.state.0 at.pos.0 at.state.0 n
   pub leads : IsWay (game_of h) (found_of s.store) at.entrance.function at.entrance.state.0 (skipped (game_of h) at.pos.0) at.state.0 n (way_of by)
 
--- the row key is told of by so many moves
+-- the row key is noted with so many moves
 abbrev pub IsNoted : Held → Search → RowKey → ℕ → Type 0
 IsNoted h s at n =
     (r : ℕ) → (found_of s.store).reach at.entrance.function at.entrance.state.0 ≡ Some r
@@ -125,7 +125,7 @@ IsHitFalling s n = (h : Hit) → s.store.hit ≡ Some h → n ≤ h.distance
 abbrev pub IsGroupNear : Search → Entrance → ℕ → Type 0
 IsGroupNear s at n = (e : Entered) × (group_at s.store at ≡ Some e) × (e.reach ≤ n)
 
--- where the move leads from the row key may be proposed; and is told of
+-- where the move leads from the row key may be proposed; and is noted
 abbrev pub number_of : Search → RowKey → Option ℕ
 number_of s at = (found_of s.store).number at.entrance.function at.entrance.state.0 at.pos.0 at.state.0
 
@@ -151,8 +151,8 @@ abbrev pub IsNoCall : Held → RowKey → Type 0
 IsNoCall h at = (j f k : ℕ) → spot_at h at ≡ Some (Call j f k) → ⊥
 
 -- a row may stand at the row key
-abbrev pub IsPlaced : Held → RowKey → Type 0
-IsPlaced h at = IsRowKey (game_of h) (functions_of h) at.entrance.function at.entrance.state.0 at.pos.0 at.state.0
+abbrev pub MayStand : Held → RowKey → Type 0
+MayStand h at = IsRowKey (game_of h) (functions_of h) at.entrance.function at.entrance.state.0 at.pos.0 at.state.0
 
 -- its row and the reach of its group are there
 pub record IsThere (s : Search) (met : Met) : Type 0 where
@@ -173,7 +173,7 @@ pub record IsCallOf (h : Held) (at : RowKey) (f k : ℕ) : Type 0 where
 abbrev pub IsCallNear : Search → Calling → Type 0
 IsCallNear s call = IsGroupNear s (record { function = call.callee; state = call.met.row_key.state }) (cut (call.met.reach + call.met.row.inside + 1))
 
--- the moves from the row key are told of, where it is within its function, and its callee is entered no later, where it is a call
+-- the moves from the row key are noted, where it is within its function, and its callee is entered no later, where it is a call
 pub record AreLeadsNoted (h : Held) (s : Search) (at : RowKey) (row : Row) (r : ℕ) : Type 0 where
   pub moves : is_inner (spot_at h at) ≡ true → (by : Move) → is_step by ≡ true → IsStepNoted h s at row.inside by
   pub callee : (f k : ℕ) → IsCallAt h at f k → IsGroupNear s (entrance f at.state.0) (cut (r + row.inside + 1))
@@ -183,7 +183,7 @@ abbrev pub AreLeadsNotedBy : Held → Search → (key number : ℕ) → Type 0
 AreLeadsNotedBy h s key number =
     (at : RowKey) (row : Row) (r : ℕ) → slice_get s.store.rows.entries number ≡ Some (at, row) → reach_of s at ≡ Some r → key ≤ r + row.inside → AreLeadsNoted h s at row r
 
--- the entry of each group is told of
+-- the entry of each group is noted
 abbrev pub IsEntryNoted : Held → Search → (f q r : ℕ) → Type 0
 IsEntryNoted h s f q r = IsCovered (game_of h) (found_of s.store) f q r ((game_of h).entry f) q 0
 
@@ -216,19 +216,19 @@ pub record IsEndPut (h : Held) (s : Search) (number : ℕ) (ends ends2 : Lists) 
   pub one : IsEndIn h s ends2 number
   pub others : (at : Entrance) (n : ℕ) → IsIn (list_of ends at) n → IsIn (list_of ends2 at) n
 
--- where the callee ends in y, what is behind the return is told of
+-- where the callee ends in y, what is behind the return is noted
 abbrev pub IsReturnNoted : Held → Search → RowKey → (f k y : ℕ) → Type 0
 IsReturnNoted h s at f k y =
     (r a e : ℕ) → reach_of s at ≡ Some r → number_of s at ≡ Some a → (found_of s.store).number f at.state.0 ((game_of h).exit f) y ≡ Some e
     → IsCovered (game_of h) (found_of s.store) at.entrance.function at.entrance.state.0 r k y (cut (a + e + 2))
 
--- all that the row key's row leads to is told of
+-- all that the row key's row leads to is noted
 abbrev pub IsVisited : Held → Search → RowKey → Type 0
 IsVisited h s at =
     (r a : ℕ) → reach_of s at ≡ Some r → number_of s at ≡ Some a
     → IsClosedAt (game_of h) (found_of s.store) at.entrance.function at.entrance.state.0 r at.pos.0 at.state.0 a
 
--- the row key at which the callee ends in y; and what is behind the return from the row with the number, where that is such an end, is told of
+-- the row key at which the callee ends in y; and what is behind the return from the row with the number, where that is such an end, is noted
 abbrev pub end_of : Held → Calling → (y : ℕ) → RowKey
 end_of h call y = row_key call.callee call.met.row_key.state.0 ((game_of h).exit call.callee) y
 
@@ -243,7 +243,7 @@ AreEndsOf h s call ns = (y number : ℕ) (row : Row) → slice_get s.store.rows.
 abbrev pub AreEndsNoted : Held → Search → Calling → List ℕ → (many : ℕ) → Type 0
 AreEndsNoted h s call ns many = (i number : ℕ) → i < many → slice_get ns i ≡ Some number → IsEndNoted h s call number
 
--- where the row key's row is below the bound, all that it leads to is told of; so of the row with a number, of as many rows, and of each row key
+-- where the row key's row is below the bound, all that it leads to is noted; so of the row with a number, of as many rows, and of each row key
 abbrev pub IsSettledAt : Held → Search → (bound : ℕ) → RowKey → Type 0
 IsSettledAt h s bound at =
     (r a : ℕ) → reach_of s at ≡ Some r → number_of s at ≡ Some a → cut (r + a) < bound

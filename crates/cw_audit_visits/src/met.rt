@@ -3,7 +3,7 @@
 ghost use Rattle.std.specs.Prelude.{◌≡◌, slice_get, Some, IfSome, IfNone};
 ghost use Rattle.cw_product.specs.Product.{game_of};
 ghost use Rattle.cw_audit_table.specs.Conditions.{is_inner};
-ghost use Rattle.cw_audit_visits.specs.Searching.{IsCallOf, IsFairGame, IsNoCall, IsPlaced, IsThere, IsUnknown};
+ghost use Rattle.cw_audit_visits.specs.Searching.{IsCallOf, IsFairGame, IsNoCall, IsThere, IsUnknown, MayStand};
 
 use crate::under_way::Search;
 use cw_audit_store::{Row, RowKey};
@@ -44,7 +44,7 @@ pub(crate) fn meet(search: &Search, number: usize) -> Option<Met>
 /// Which function is called at the row key, and where it returns, if it is a call.
 pub(crate) fn call_at(game: &Game, row_key: RowKey) -> Option<(u16, PosId)>
     requires fair { IsFairGame game.now }
-    requires placed { IsPlaced game.now row_key }
+    requires may_stand { MayStand game.now row_key }
     ensures some { IfSome result (λ (callee, back). IsCallOf game.now row_key callee back.0) }
     ensures none { IfNone result (IsNoCall game.now row_key) }
 {
@@ -58,7 +58,7 @@ pub(crate) fn call_at(game: &Game, row_key: RowKey) -> Option<(u16, PosId)>
 /// Whether a row at the row key goes on within its function.
 pub(crate) fn is_within(game: &Game, row_key: RowKey) -> bool
     requires fair { IsFairGame game.now }
-    requires placed { IsPlaced game.now row_key }
+    requires may_stand { MayStand game.now row_key }
     ensures { result ≡ is_inner (slice_get (game_of game.now).spots row_key.pos.0) }
 {
     match game.turn(row_key.pos) {

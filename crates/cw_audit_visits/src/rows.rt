@@ -15,7 +15,7 @@ use cw_core::NoMemory;
 use cw_product::Game;
 
 /// All that the row with the number leads to is proposed, where it isn't nearer than by the key with which it waited: then it waits,
-/// or was visited, by that. The answer is whether anything changed: where nothing did, its moves and its callee are told of. What
+/// or was visited, by that. The answer is whether anything changed: where nothing did, its moves and its callee are noted. What
 /// waited still waits, and so does each row that was made or lowered.
 ///
 /// What is behind returns isn't promised: `settle` shows what is settled.

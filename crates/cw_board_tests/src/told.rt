@@ -1,4 +1,4 @@
-//! Whether a board goes as a play has it. A play is a line of words, a word for each board but the last: the moves that the board has, a
+//! Whether a board goes as a play has it. A play is a line of entries, one for each board but the last: the moves that the board has, a
 //! point, and the move that is made, `s` skip, `t` try, `g` grant, `r` refuse, `o` on, `<` left, `>` right, `+` opened, `-` failed,
 //! `x` stop. The board at its end has no moves.
 
@@ -17,10 +17,10 @@ use std::process::Abort;
 /// A policy, a source and a play, each by its text.
 pub type Row<'t> = (&'t str, &'t str, &'t str);
 
-/// What stands behind a mark where there is the move; `?`, which is no mark, where the mark isn't there.
-fn behind<'t>(text: &'t str, is_there: bool, mark: &str) -> &'t str {
+/// What stands behind a sign where there is the move; `?`, which is no sign, where the sign isn't there.
+fn behind<'t>(text: &'t str, is_there: bool, sign: &str) -> &'t str {
     if is_there {
-        text.strip_prefix(mark).unwrap_or("?")
+        text.strip_prefix(sign).unwrap_or("?")
     } else {
         text
     }
@@ -40,9 +40,9 @@ fn are_moves(moves: Moves, text: &str) -> bool {
     behind(rest, moves.stop, "x").is_empty()
 }
 
-/// The move of a mark.
-fn move_of(mark: &str) -> Move {
-    match mark {
+/// The move of a sign.
+fn move_of(sign: &str) -> Move {
+    match sign {
         "s" => Move::Skip,
         "t" => Move::Try,
         "g" => Move::Grant,
@@ -64,12 +64,12 @@ fn is_play(alloc: Global, checked: &Checked, policy: &Policy, play: &str) -> boo
         Ok(board) => board,
         Err(_) => return false,
     };
-    for word in play.split_whitespace() {
-        let (moves, mark) = word.split_once(".").unwrap_or(("?", ""));
+    for entry in play.split_whitespace() {
+        let (moves, sign) = entry.split_once(".").unwrap_or(("?", ""));
         if !are_moves(board_moves(checked, policy, &board), moves) {
             return false;
         }
-        match board_move(alloc, checked, policy, board, move_of(mark)) {
+        match board_move(alloc, checked, policy, board, move_of(sign)) {
             Ok(Some(next)) => board = next,
             _ => return false,
         }

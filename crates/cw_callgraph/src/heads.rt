@@ -8,7 +8,7 @@ ghost use Rattle.cw_callgraph.specs.Lowest.{lowest};
 
 use cw_syntax::program::{Base, CType, Function, Param};
 
-/// Whether the result of a function that is split may have this word: `void`, or `int` that isn't `unsigned`.
+/// Whether the result of a function that is split may have this keyword: `void`, or `int` that isn't `unsigned`.
 fn is_result(base: Base, unsigned: bool) -> bool
     ensures { result ≡ is_result base unsigned }
 {
@@ -26,7 +26,7 @@ fn may_be_result(kind: CType) -> bool
     kind.stars == 0 && is_result(kind.base, kind.unsigned)
 }
 
-/// Whether a type's word is `void`.
+/// Whether a type's keyword is `void`.
 fn is_void(base: Base) -> bool
     ensures { result ≡ is_void base }
 {

@@ -8,7 +8,7 @@ use Rattle.cw_grammar.specs.Lexemes.{from_of, to_of, AreAll, statements}
 use Rattle.cw_grammar.specs.Expressions.{IsExpression, nesting_limit}
 use Rattle.cw_grammar.specs.Declarations.{Expressions}
 use Rattle.cw_grammar.specs.Spelling.{lexemes_of}
-use Rattle.cw_grammar.specs.Statements.{Place, InBlock, BeforeElse, Elsewhere, last, IsForm, IsStatement}
+use Rattle.cw_grammar.specs.Statements.{Setting, InBlock, BeforeElse, Elsewhere, last, IsForm, IsStatement}
 use Rattle.cw_grammar.specs.Files.{Part, Declares as DeclaresPart, Holds, Defines, IsPart, IsFunction, IsProgram, file_of}
 use Rattle.cw_syntax.specs.Trees.{Tree, Statement, Stated, Form, Block, Declares, Evaluates, Empties, Labels, Chooses, Whiles, Does, Fors, Breaks, Continues, Returns, nothing, just, Definition, File}
 use Rattle.cw_scope.specs.Walks.{Nested, nested, nested_all, body_of, every_statement}
@@ -41,8 +41,8 @@ module _ (source : List ℕ) (names : List (List ℕ)) where
       by false t = rw t (omega arith)
 
   -- a rule, where the claim holds of the statements in it
-  module _ (E : Expressions) (P : Place → List Lexeme → Statement → Type 0)
-      (h : (place : Place) (ts : List Lexeme) (st : Statement) (looped : Bool) (from to : ℕ) → P place ts st → Lie from to ts → AreApart from to (own (nested looped st))) where
+  module _ (E : Expressions) (P : Setting → List Lexeme → Statement → Type 0)
+      (h : (setting : Setting) (ts : List Lexeme) (st : Statement) (looped : Bool) (from to : ℕ) → P setting ts st → Lie from to ts → AreApart from to (own (nested looped st))) where
     all_apart : (ts : List Lexeme) (ss : List Statement) (looped : Bool) (from to : ℕ) → AreAll (P InBlock) ts ss → Lie from to ts → AreApart from to (own (nested_all looped (statements ss)))
     all_apart ts [] looped from to none lie = lie_le from to ts lie
     all_apart ts (st ∷ ss) looped from to (x, y, whole, first, rest) lie =
@@ -50,66 +50,66 @@ module _ (source : List ℕ) (names : List (List ℕ)) where
         rw (own_both (nested looped st) (nested_all looped (statements ss)))
         (apart_both from p.0 to _ _ (h InBlock x st looped from p.0 first p.1) (all_apart y ss looped p.0 to rest p.2))
 
-    form_apart : (place : Place) (ts : List Lexeme) (form : Form) (looped : Bool) (from to : ℕ) → IsForm E P place ts form → Lie from to ts
+    form_apart : (setting : Setting) (ts : List Lexeme) (form : Form) (looped : Bool) (from to : ℕ) → IsForm E P setting ts form → Lie from to ts
         → AreApart from to (own (nested looped (Stated form (from_of ts) (to_of ts))))
-    form_apart place ts (Block kids) looped from to (inner, kids_are, (o, x, c, whole, opens, closes, all)) lie =
+    form_apart setting ts (Block kids) looped from to (inner, kids_are, (o, x, c, whole, opens, closes, all)) lie =
         let p = lie_at from to ts (o ∷ x ++ c ∷ []) whole lie in
         let q = split o.to to x (c ∷ []) p.2 in
         let up : from ≤ o.to = (let a = p.0 in let b = p.1 in omega arith) in
         rw kids_are (apart_wider o.to q.0 from to _ up (lie_le q.0 to (c ∷ []) q.2) (all_apart x inner looped o.to q.0 all q.1))
-    form_apart place ts (Declares d) looped from to is lie = lie_le from to ts lie
-    form_apart place ts (Evaluates e) looped from to (inner, c, whole, closes, is) lie =
+    form_apart setting ts (Declares d) looped from to is lie = lie_le from to ts lie
+    form_apart setting ts (Evaluates e) looped from to (inner, c, whole, closes, is) lie =
         let some : 0 < length ts = omega (arith, ap length whole, length-append inner (c ∷ [])) in
         let p = ends from to ts some lie in
         one e looped from to (from_of ts) (to_of ts) p.0 p.1 p.2
-    form_apart place ts Empties looped from to is lie = lie_le from to ts lie
-    form_apart place ts (Labels name mark body) looped from to (n, k, x, whole, n_is, k_is, name_is, mark_is, is) lie =
+    form_apart setting ts Empties looped from to is lie = lie_le from to ts lie
+    form_apart setting ts (Labels name mark body) looped from to (n, k, x, whole, n_is, k_is, name_is, mark_is, is) lie =
         let p = lie_at from to ts (n ∷ k ∷ x) whole lie in
         let up : from ≤ k.to = (let a = p.0 in let b = p.1 in let c = p.2.0 in let d = p.2.1 in omega arith) in
-        apart_wider k.to to from to _ up (omega arith) (h (last place) x body looped k.to to is p.2.2)
-    form_apart place ts (Chooses test arm nothing) looped from to (i, x, y, whole, place_is, i_is, test_is, is) lie =
+        apart_wider k.to to from to _ up (omega arith) (h (last setting) x body looped k.to to is p.2.2)
+    form_apart setting ts (Chooses test arm nothing) looped from to (i, x, y, whole, setting_is, i_is, test_is, is) lie =
         let p = lie_at from to ts (i ∷ x ++ y) whole lie in
         let q = split i.to to x y p.2 in
         let up : from ≤ q.0 = (let a = p.0 in let b = p.1 in let c = lie_le i.to q.0 x q.1 in omega arith) in
         let first = apart_wider q.0 to from to _ up (omega arith) (h Elsewhere y arm looped q.0 to is q.2) in
         rw (own_both (nested looped arm) []) (apart_both from to to _ _ first (omega arith))
-    form_apart place ts (Chooses test arm (just other)) looped from to (i, x, y, e, z, whole, i_is, test_is, is, e_is, other_is) lie =
+    form_apart setting ts (Chooses test arm (just other)) looped from to (i, x, y, e, z, whole, i_is, test_is, is, e_is, other_is) lie =
         let p = lie_at from to ts (i ∷ x ++ (y ++ e ∷ z)) whole lie in
         let q = split i.to to x (y ++ e ∷ z) p.2 in
         let r = split q.0 to y (e ∷ z) q.2 in
         let up : from ≤ q.0 = (let a = p.0 in let b = p.1 in let c = lie_le i.to q.0 x q.1 in omega arith) in
         let between : r.0 ≤ e.to = (let a = r.2.0 in let b = r.2.1 in omega arith) in
         let first = apart_wider q.0 r.0 from r.0 _ up (omega arith) (h BeforeElse y arm looped q.0 r.0 is r.1) in
-        let second = apart_wider e.to to r.0 to _ between (omega arith) (h (last place) z other looped e.to to other_is r.2.2) in
+        let second = apart_wider e.to to r.0 to _ between (omega arith) (h (last setting) z other looped e.to to other_is r.2.2) in
         rw (own_both (nested looped arm) (nested looped other)) (apart_both from r.0 to _ _ first second)
-    form_apart place ts (Whiles test body) looped from to (w, x, y, whole, w_is, test_is, is) lie =
+    form_apart setting ts (Whiles test body) looped from to (w, x, y, whole, w_is, test_is, is) lie =
         let p = lie_at from to ts (w ∷ x ++ y) whole lie in
         let q = split w.to to x y p.2 in
         let up : from ≤ q.0 = (let a = p.0 in let b = p.1 in let c = lie_le w.to q.0 x q.1 in omega arith) in
-        apart_wider q.0 to from to _ up (omega arith) (h (last place) y body true q.0 to is q.2)
-    form_apart place ts (Does body test) looped from to (d, x, w, y, c, whole, d_is, is, w_is, test_is, c_is) lie =
+        apart_wider q.0 to from to _ up (omega arith) (h (last setting) y body true q.0 to is q.2)
+    form_apart setting ts (Does body test) looped from to (d, x, w, y, c, whole, d_is, is, w_is, test_is, c_is) lie =
         let p = lie_at from to ts (d ∷ x ++ (w ∷ y ++ c ∷ [])) whole lie in
         let q = split d.to to x (w ∷ y ++ c ∷ []) p.2 in
         let up : from ≤ d.to = (let a = p.0 in let b = p.1 in omega arith) in
         apart_wider d.to q.0 from to _ up (lie_le q.0 to (w ∷ y ++ c ∷ []) q.2) (h Elsewhere x body true d.to q.0 is q.1)
-    form_apart place ts (Fors init test step body) looped from to (f, o, x, y, z, v, whole, f_is, o_is, init_is, test_is, step_is, is) lie =
+    form_apart setting ts (Fors init test step body) looped from to (f, o, x, y, z, v, whole, f_is, o_is, init_is, test_is, step_is, is) lie =
         let p = lie_at from to ts (f ∷ o ∷ x ++ (y ++ (z ++ v))) whole lie in
         let q = split o.to to x (y ++ (z ++ v)) p.2.2 in
         let r = split q.0 to y (z ++ v) q.2 in
         let u = split r.0 to z v r.2 in
         let head : from ≤ o.to = (let a = p.0 in let b = p.1 in let c = p.2.0 in let d = p.2.1 in omega arith) in
         let up : from ≤ u.0 = (let a = lie_le o.to q.0 x q.1 in let b = lie_le q.0 r.0 y r.1 in let c = lie_le r.0 u.0 z u.1 in omega (arith, head)) in
-        apart_wider u.0 to from to _ up (omega arith) (h (last place) v body true u.0 to is u.2)
-    form_apart place ts Breaks looped from to is lie = lie_le from to ts lie
-    form_apart place ts Continues looped from to is lie = lie_le from to ts lie
-    form_apart place ts (Returns value) looped from to is lie = lie_le from to ts lie
+        apart_wider u.0 to from to _ up (omega arith) (h (last setting) v body true u.0 to is u.2)
+    form_apart setting ts Breaks looped from to is lie = lie_le from to ts lie
+    form_apart setting ts Continues looped from to is lie = lie_le from to ts lie
+    form_apart setting ts (Returns value) looped from to is lie = lie_le from to ts lie
 
   module _ (limit : ℕ) where
-    statement_apart : (n : ℕ) (place : Place) (ts : List Lexeme) (st : Statement) (looped : Bool) (from to : ℕ) → IsStatement limit n place ts st → Lie from to ts
+    statement_apart : (n : ℕ) (setting : Setting) (ts : List Lexeme) (st : Statement) (looped : Bool) (from to : ℕ) → IsStatement limit n setting ts st → Lie from to ts
         → AreApart from to (own (nested looped st))
-    statement_apart zero place ts st looped from to is lie = absurd is
-    statement_apart (suc n) place ts (Stated form begin finish) looped from to (begin_is, finish_is, is) lie =
-        rw (begin_is, finish_is) (form_apart (IsExpression limit) (IsStatement limit n) (statement_apart n) place ts form looped from to is lie)
+    statement_apart zero setting ts st looped from to is lie = absurd is
+    statement_apart (suc n) setting ts (Stated form begin finish) looped from to (begin_is, finish_is, is) lie =
+        rw (begin_is, finish_is) (form_apart (IsExpression limit) (IsStatement limit n) (statement_apart n) setting ts form looped from to is lie)
 
     function_apart : (ts : List Lexeme) (f : Definition) (from to : ℕ) → IsFunction limit ts f → Lie from to ts → AreApart from to (own (body_of f))
     function_apart ts f from to (x, o, y, c, body, whole, header, named, opens, brace, all, body_is, closes) lie =

@@ -13,10 +13,11 @@ use Rattle.cw_grammar.specs.Lexemes.{AreAll, statements}
 use Rattle.cw_grammar.specs.Expressions.{IsExpression, nesting_limit}
 use Rattle.cw_grammar.specs.Declarations.{Expressions}
 use Rattle.cw_grammar.specs.Spelling.{lexemes_of}
-use Rattle.cw_grammar.specs.Statements.{Place, InBlock, BeforeElse, Elsewhere, last, IsForm, IsStatement}
+use Rattle.cw_grammar.specs.Statements.{Setting, InBlock, BeforeElse, Elsewhere, last, IsForm, IsStatement}
 use Rattle.cw_grammar.specs.Files.{Part, Declares as DeclaresPart, Holds, Defines, IsPart, IsProgram, file_of}
 use Rattle.cw_syntax.specs.declared.program.Op.TheVariants.{Call as CallOp, Assign}
-use Rattle.cw_syntax.specs.Trees.{Tree, Node, none, more, Statement, Stated, Form, Block, Declares, Evaluates, Empties, Labels, Chooses, Whiles, Does, Fors, Breaks, Continues, Returns, nothing, just, File}
+use Rattle.cw_syntax.specs.Trees.{Tree, Node, none, more, Statement, Stated, Form, Block, Declares, Evaluates, Empties, Labels, Chooses, Whiles, Does, Fors}
+use Rattle.cw_syntax.specs.Trees.{Breaks, Continues, Returns, nothing, just, File}
 use Rattle.cw_scope.specs.Walks.{Nested, every_statement}
 use Rattle.cw_source.specs.Read.{ReadsAs}
 use Rattle.cw_core.specs.declared.quantity.Quantity.TheVariants.{SourceBytes, Nesting}
@@ -63,33 +64,33 @@ form_same source file = ap (form_from source 0) (no_spans source file)
 
 module _ (source : List ℕ) where
   -- a rule, where the claim holds of the statements in it
-  module _ (E : Expressions) (P : Place → List Lexeme → Statement → Type 0) (n : ℕ) (h : (place : Place) (ts : List Lexeme) (st : Statement) → P place ts st → nesting source [] st ≤ n) where
+  module _ (E : Expressions) (P : Setting → List Lexeme → Statement → Type 0) (n : ℕ) (h : (setting : Setting) (ts : List Lexeme) (st : Statement) → P setting ts st → nesting source [] st ≤ n) where
     pub all_nest : (ts : List Lexeme) (ss : List Statement) → AreAll (P InBlock) ts ss → nesting_all source [] (statements ss) ≤ n
     all_nest ts [] is = omega arith
     all_nest ts (st ∷ ss) (x, y, whole, first, rest) = max-le (h InBlock x st first) (all_nest y ss rest)
 
-    form_nests : (place : Place) (ts : List Lexeme) (form : Form) → IsForm E P place ts form → nesting_in source [] form ≤ suc n
-    form_nests place ts (Block kids) (inner, kids_are, (o, x, c, whole, opens, closes, all)) = rw kids_are (let p = all_nest x inner all in omega arith)
-    form_nests place ts (Declares d) is = omega arith
-    form_nests place ts (Evaluates e) is = rw (calls_none source e) (omega arith)
-    form_nests place ts Empties is = omega arith
-    form_nests place ts (Labels name mark body) (k, colon, x, whole, k_is, colon_is, name_is, mark_is, is) = let p = h (last place) x body is in omega arith
-    form_nests place ts (Chooses test arm nothing) (i, x, y, whole, place_is, i_is, test_is, is) =
+    form_nests : (setting : Setting) (ts : List Lexeme) (form : Form) → IsForm E P setting ts form → nesting_in source [] form ≤ suc n
+    form_nests setting ts (Block kids) (inner, kids_are, (o, x, c, whole, opens, closes, all)) = rw kids_are (let p = all_nest x inner all in omega arith)
+    form_nests setting ts (Declares d) is = omega arith
+    form_nests setting ts (Evaluates e) is = rw (calls_none source e) (omega arith)
+    form_nests setting ts Empties is = omega arith
+    form_nests setting ts (Labels name mark body) (k, colon, x, whole, k_is, colon_is, name_is, mark_is, is) = let p = h (last setting) x body is in omega arith
+    form_nests setting ts (Chooses test arm nothing) (i, x, y, whole, setting_is, i_is, test_is, is) =
         let zero_le : 0 ≤ n = omega arith in
         let p = max-le (h Elsewhere y arm is) zero_le in omega arith
-    form_nests place ts (Chooses test arm (just other)) (i, x, y, e, z, whole, i_is, test_is, is, e_is, other_is) =
-        let p = max-le (h BeforeElse y arm is) (h (last place) z other other_is) in omega arith
-    form_nests place ts (Whiles test body) (w, x, y, whole, w_is, test_is, is) = let p = h (last place) y body is in omega arith
-    form_nests place ts (Does body test) (d, x, w, y, c, whole, d_is, is, w_is, test_is, c_is) = let p = h Elsewhere x body is in omega arith
-    form_nests place ts (Fors init test step body) (f, o, x, y, z, v, whole, f_is, o_is, init_is, test_is, step_is, is) = let p = h (last place) v body is in omega arith
-    form_nests place ts Breaks is = omega arith
-    form_nests place ts Continues is = omega arith
-    form_nests place ts (Returns value) is = omega arith
+    form_nests setting ts (Chooses test arm (just other)) (i, x, y, e, z, whole, i_is, test_is, is, e_is, other_is) =
+        let p = max-le (h BeforeElse y arm is) (h (last setting) z other other_is) in omega arith
+    form_nests setting ts (Whiles test body) (w, x, y, whole, w_is, test_is, is) = let p = h (last setting) y body is in omega arith
+    form_nests setting ts (Does body test) (d, x, w, y, c, whole, d_is, is, w_is, test_is, c_is) = let p = h Elsewhere x body is in omega arith
+    form_nests setting ts (Fors init test step body) (f, o, x, y, z, v, whole, f_is, o_is, init_is, test_is, step_is, is) = let p = h (last setting) v body is in omega arith
+    form_nests setting ts Breaks is = omega arith
+    form_nests setting ts Continues is = omega arith
+    form_nests setting ts (Returns value) is = omega arith
 
-  pub statement_nests : (limit n : ℕ) (place : Place) (ts : List Lexeme) (st : Statement) → IsStatement limit n place ts st → nesting source [] st ≤ n
-  statement_nests limit zero place ts st is = absurd is
-  statement_nests limit (suc n) place ts (Stated form begin finish) (begin_is, finish_is, is) =
-      form_nests (IsExpression limit) (IsStatement limit n) n (statement_nests limit n) place ts form is
+  pub statement_nests : (limit n : ℕ) (setting : Setting) (ts : List Lexeme) (st : Statement) → IsStatement limit n setting ts st → nesting source [] st ≤ n
+  statement_nests limit zero setting ts st is = absurd is
+  statement_nests limit (suc n) setting ts (Stated form begin finish) (begin_is, finish_is, is) =
+      form_nests (IsExpression limit) (IsStatement limit n) n (statement_nests limit n) setting ts form is
 
   parts_nest : (limit : ℕ) (parts : List Part) (ts : List Lexeme) → AreAll (IsPart limit) ts parts → list_all (λ f. nat_le (nesting_all source [] f.body) limit) (file_of parts).functions ≡ true
   parts_nest limit [] ts is = refl
@@ -118,7 +119,8 @@ no_names source file split = refl
 
 no_results : (source : List ℕ) (file : File) → result_taken source file [] ≡ None
 unfolding result_taken
-no_results source file = ap (λ (l : List ℕ). option_map Result (slice_get l 0)) (nothing_given (λ (p : Nested). result_in source [] p.statement) (λ p. no_result source p.statement) (every_statement file))
+no_results source file =
+    ap (λ (l : List ℕ). option_map Result (slice_get l 0)) (nothing_given (λ (p : Nested). result_in source [] p.statement) (λ p. no_result source p.statement) (every_statement file))
 
 never_long : (source : List ℕ) → length source ≤ 262144 → long source ≡ None
 unfolding long

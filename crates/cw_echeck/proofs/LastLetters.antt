@@ -63,14 +63,14 @@ hit t a w h =
     subst (λ (x : Letter). hits x.label x.caps.amb t ≡ true) (sym e) (truly (nat_eq t.label c.label) (same t.wanted c.caps.amb) s.3.2)
 
 -- any word is a list of letters that `.` matches
-any_pieces : (w : Word) → Matches (star (one (record { label = None; tests = [] }))) w
-any_pieces [] = ([], refl)
-any_pieces (a ∷ w) =
-    let r = any_pieces w in
+any_factors : (w : Word) → Matches (star (one (record { label = None; tests = [] }))) w
+any_factors [] = ([], refl)
+any_factors (a ∷ w) =
+    let r = any_factors w in
     ((a ∷ []) ∷ r.0, (w, refl, (a, refl, refl), r.1))
 
 matched : (t : LetterTest) (a : Letter) (w : Word) → hits a.label a.caps.amb t ≡ true → Matches (bad_words t) (w ++ a ∷ [])
-matched t a w e = (w, a ∷ [], refl, any_pieces w, (a ∷ [], [], refl, (a, refl, true_from (nat_eq t.label a.label) (same t.wanted a.caps.amb) e), refl))
+matched t a w e = (w, a ∷ [], refl, any_factors w, (a ∷ [], [], refl, (a, refl, true_from (nat_eq t.label a.label) (same t.wanted a.caps.amb) e), refl))
 
 or_of : (a b : Bool) → (a ≡ true) ⊎ (b ≡ true) → (a || b) ≡ true
 or_of true b h = refl

@@ -10,11 +10,11 @@ along f i [] m = gives done m
 along f i (x ∷ xs) m = f i x m and (λ d k. along f (i + 1) xs k)
 
 module _ {X : Type 0} (f : ℕ → X → Memory → Outcome Done) (xs : List X) (i : ℕ) (m : Memory) where
-  opened : (x : X) → i < length xs → x ≡ get_or xs i x → along f i (drop i xs) m ≡ (f i x m and (λ d k. along f (i + 1) (drop (i + 1) xs) k))
-  opened x within is = at_drop_more (λ l. along f i l m) xs i x within ∙ ap (λ x'. along f i (x' ∷ drop (i + 1) xs) m) (sym is)
+  unfolded : (x : X) → i < length xs → x ≡ get_or xs i x → along f i (drop i xs) m ≡ (f i x m and (λ d k. along f (i + 1) (drop (i + 1) xs) k))
+  unfolded x within is = at_drop_more (λ l. along f i l m) xs i x within ∙ ap (λ x'. along f i (x' ∷ drop (i + 1) xs) m) (sym is)
 
   pub step_stops : (x : X) (s : Stop) (k : Memory) → i < length xs → x ≡ get_or xs i x → f i x m ≡ stops s k → along f i (drop i xs) m ≡ stops s k
-  step_stops x s k within is stopped = opened x within is ∙ ap (λ o. o and (λ d k. along f (i + 1) (drop (i + 1) xs) k)) stopped
+  step_stops x s k within is stopped = unfolded x within is ∙ ap (λ o. o and (λ d k. along f (i + 1) (drop (i + 1) xs) k)) stopped
 
   pub all_done : length xs ≤ i → along f i (drop i xs) m ≡ gives done m
   all_done le = at_drop_all (λ l. along f i l m) xs i le

@@ -23,18 +23,18 @@ abbrev pub left : {X Y : Type 0} → (X → Memory → Outcome Y) → List X →
 left f xs i before m = behind before (each f (drop i xs) m)
 
 module _ {X Y : Type 0} (f : X → Memory → Outcome Y) (xs : List X) (i : ℕ) (before : List Y) (m : Memory) where
-  opened : (x : X) → i < length xs → x ≡ get_or xs i x → left f xs i before m ≡ behind before (f x m and (λ y k. each f (drop (i + 1) xs) k and (λ ys l. gives (y ∷ ys) l)))
-  opened x within is = at_drop_more (λ l. behind before (each f l m)) xs i x within ∙ ap (λ x'. behind before (each f (x' ∷ drop (i + 1) xs) m)) (sym is)
+  unfolded : (x : X) → i < length xs → x ≡ get_or xs i x → left f xs i before m ≡ behind before (f x m and (λ y k. each f (drop (i + 1) xs) k and (λ ys l. gives (y ∷ ys) l)))
+  unfolded x within is = at_drop_more (λ l. behind before (each f l m)) xs i x within ∙ ap (λ x'. behind before (each f (x' ∷ drop (i + 1) xs) m)) (sym is)
 
   pub one_more : (x : X) (y : Y) (k : Memory) → i < length xs → x ≡ get_or xs i x → f x m ≡ gives y k → left f xs i before m ≡ left f xs (i + 1) (before ++ y ∷ []) k
   one_more x y k within is gave =
-      opened x within is
+      unfolded x within is
       ∙ ap (λ o. behind before (o and (λ y k. each f (drop (i + 1) xs) k and (λ ys l. gives (y ∷ ys) l)))) gave
       ∙ behind_one before y (each f (drop (i + 1) xs) k)
 
   pub one_stops : (x : X) (s : Stop) (k : Memory) → i < length xs → x ≡ get_or xs i x → f x m ≡ stops s k → left f xs i before m ≡ stops s k
   one_stops x s k within is stopped =
-      opened x within is ∙ ap (λ o. behind before (o and (λ y k. each f (drop (i + 1) xs) k and (λ ys l. gives (y ∷ ys) l)))) stopped
+      unfolded x within is ∙ ap (λ o. behind before (o and (λ y k. each f (drop (i + 1) xs) k and (λ ys l. gives (y ∷ ys) l)))) stopped
 
   pub none_left : length xs ≤ i → left f xs i before m ≡ gives before m
   none_left le = at_drop_all (λ l. behind before (each f l m)) xs i le ∙ ap (λ l. gives l m) (append-nil before)

@@ -21,8 +21,8 @@ pub named_last : {K : Type 0} (keys : List K) (k : K) → named (keys ++ k ∷ [
 named_last keys k = let n : length keys + 1 ≡ suc (length keys) = omega arith in ap (named (keys ++ k ∷ [])) n ∙ get_last keys k
 
 -- one item more of a filtered list
-pub filtered_more : {A B : Type 0} (f : A → Option B) (xs : List A) (i : ℕ) (d : A) (old new : List B) → i < length xs → old ≡ filter_map f (take i xs) → new ≡ old ++ cons_option (f (get_or xs i d)) []
-    → new ≡ filter_map f (take (i + 1) xs)
+pub filtered_more : {A B : Type 0} (f : A → Option B) (xs : List A) (i : ℕ) (d : A) (old new : List B) → i < length xs → old ≡ filter_map f (take i xs)
+    → new ≡ old ++ cons_option (f (get_or xs i d)) [] → new ≡ filter_map f (take (i + 1) xs)
 filtered_more f xs i d old new lt h e =
     e ∙ ap (λ l. l ++ cons_option (f (get_or xs i d)) []) h ∙ sym (ap (filter_map f) (take_more xs i d lt) ∙ filter_map-append f (take i xs) (get_or xs i d ∷ []))
 

@@ -8,7 +8,7 @@ use Rattle.cw_grammar.specs.declared.terminals.Lexeme.{Lexeme}
 use Rattle.cw_grammar.specs.declared.rules.Rule.TheVariants.{Expression, Level}
 use Rattle.cw_grammar.specs.Lexemes.{Is, name_of, from_of, to_of, statements}
 use Rattle.cw_grammar.specs.Expressions.{loosest, Derives, node, IsLevel, IsDerived, IsExpression}
-use Rattle.cw_grammar.specs.Statements.{Place, InBlock, BeforeElse, Elsewhere, IsStatement}
+use Rattle.cw_grammar.specs.Statements.{Setting, InBlock, BeforeElse, Elsewhere, IsStatement}
 use Rattle.cw_grammar.proofs.Deeper.{expression_deeper}
 use Rattle.cw_forms.specs.Stretches.{opening, closed}
 
@@ -197,8 +197,8 @@ module _ (limit : ℕ) (enough : 2 ≤ limit) where
       ),
     )
 
-    whole_is : (place : Place) → IsStatement limit 5 place all_tokens whole
-    whole_is place =
+    whole_is : (setting : Setting) → IsStatement limit 5 setting all_tokens whole
+    whole_is setting =
         (refl, refl, (choice ∷ [], refl, (b1, choice_tokens, d2, refl, refl, refl, (choice_tokens, [], sym (append-nil choice_tokens), choice_is, refl))))
 
     tokens_are : all_tokens ≡ opening p ++ (us ++ (closed q ++ []))
@@ -206,5 +206,5 @@ module _ (limit : ℕ) (enough : 2 ≤ limit) where
         let e = exit_tokens ++ loop_tokens in
         ap (λ (k : List Lexeme). b1 ∷ i ∷ o1 ∷ x ∷ f ∷ o2 ∷ c2 ∷ c1 ∷ b2 ∷ k) (append_assoc (us ++ e) (d1 ∷ []) (d2 ∷ []) ∙ append_assoc us e (d1 ∷ d2 ∷ []))
 
-    pub brought_is : (place : Place) → IsStatement limit 5 place (opening p ++ (us ++ (closed q ++ []))) whole
-    brought_is place = subst (λ (k : List Lexeme). IsStatement limit 5 place k whole) tokens_are (whole_is place)
+    pub brought_is : (setting : Setting) → IsStatement limit 5 setting (opening p ++ (us ++ (closed q ++ []))) whole
+    brought_is setting = subst (λ (k : List Lexeme). IsStatement limit 5 setting k whole) tokens_are (whole_is setting)

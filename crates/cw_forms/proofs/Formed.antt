@@ -14,7 +14,7 @@ use Rattle.cw_grammar.specs.declared.rules.Rule.TheVariants.{Expression}
 use Rattle.cw_grammar.specs.Lexemes.{name_of, from_of, to_of, IsOptional, AreAll, IsBetween, IsEnded, statements}
 use Rattle.cw_grammar.specs.Expressions.{loosest, Derives, IsPrimary, IsPostfix, IsUnary, IsOperand, IsLevel, IsRule, IsDerived, IsExpression}
 use Rattle.cw_grammar.specs.Declarations.{Expressions}
-use Rattle.cw_grammar.specs.Statements.{Place, InBlock, BeforeElse, Elsewhere, last, IsInit, IsForm, IsStatement}
+use Rattle.cw_grammar.specs.Statements.{Setting, InBlock, BeforeElse, Elsewhere, last, IsInit, IsForm, IsStatement}
 use Rattle.cw_grammar.proofs.Deeper.{statement_deeper}
 use Rattle.cw_scope.specs.Walks.{Nested, nested, nested_within, nested_all, init_trees, inner}
 use Rattle.cw_scope.specs.Names.{init_names}
@@ -99,8 +99,8 @@ module _ (source form : List ℕ) (names : List (List ℕ)) (limit : ℕ) (enoug
   abbrev m : ℕ → List Lexeme → List Lexeme
   m d ts = map (moved d) ts
 
-  abbrev Made : ℕ → Place → Bool → List Nested → (v : ℕ) → ℕ → List Lexeme → Type 0
-  Made n place looped ps v d us = (st : Statement) × IsStatement limit n place us st × StandFor source form ps (nested looped st) × (nesting form [] st ≡ v)
+  abbrev Made : ℕ → Setting → Bool → List Nested → (v : ℕ) → ℕ → List Lexeme → Type 0
+  Made n setting looped ps v d us = (st : Statement) × IsStatement limit n setting us st × StandFor source form ps (nested looped st) × (nesting form [] st ≡ v)
 
   abbrev MadeAll : ℕ → Bool → List Nested → (v : ℕ) → ℕ → List Lexeme → Type 0
   MadeAll n looped ps v d us =
@@ -148,13 +148,13 @@ module _ (source form : List ℕ) (names : List (List ℕ)) (limit : ℕ) (enoug
   inits d ts (just (Stated (Returns value) from to)) k h = absurd h
 
   -- a statement without statements in it
-  alone : (n : ℕ) (place : Place) (ts : List Lexeme) (fm : Form) (looped : Bool) → nested_within looped fm ≡ [] → pair_at source names fm (from_of ts) (to_of ts) ≡ None
-      → ((d : ℕ) → AreKept source form d ts → (made : Form) × IsForm E (IsStatement limit n) place (m d ts) made × (nested_within looped made ≡ [])
+  alone : (n : ℕ) (setting : Setting) (ts : List Lexeme) (fm : Form) (looped : Bool) → nested_within looped fm ≡ [] → pair_at source names fm (from_of ts) (to_of ts) ≡ None
+      → ((d : ℕ) → AreKept source form d ts → (made : Form) × IsForm E (IsStatement limit n) setting (m d ts) made × (nested_within looped made ≡ [])
       × SamePlaced source form (record { statement = stated fm ts; looped = looped }) (record { statement = stated made (m d ts); looped = looped })
       × (nesting_in form [] made ≡ nesting_in source names fm))
-      → P ts (nested looped (stated fm ts)) (Made (suc n) place looped (nested looped (stated fm ts)) (nesting_in source names fm))
-  alone n place ts fm looped leaf other g =
-      kept_with ts (nested looped (stated fm ts)) (Made (suc n) place looped (nested looped (stated fm ts)) (nesting_in source names fm)) (rw (other, leaf) refl)
+      → P ts (nested looped (stated fm ts)) (Made (suc n) setting looped (nested looped (stated fm ts)) (nesting_in source names fm))
+  alone n setting ts fm looped leaf other g =
+      kept_with ts (nested looped (stated fm ts)) (Made (suc n) setting looped (nested looped (stated fm ts)) (nesting_in source names fm)) (rw (other, leaf) refl)
       (λ d k. (let r = g d k in (stated r.0 (m d ts), (refl, refl, r.1), one_more source form _ _ (nested_within looped fm) (nested_within looped r.0) r.3 (rw leaf r.2), r.4)))
 
   whole_nests : (p q : ℕ) (us : List Lexeme) (again : Tree) (is : IsStatement limit 2 InBlock us (stated (Evaluates again) us))
@@ -162,9 +162,9 @@ module _ (source form : List ℕ) (names : List (List ℕ)) (limit : ℕ) (enoug
   whole_nests p q us again is = rw (calls_none form again) refl
 
   -- the call of a statement that gets the two texts
-  called : (n : ℕ) (place : Place) (ts : List Lexeme) (e : Tree) (looped : Bool) → calls_one source names e ≡ true → 5 ≤ n → IsEnded w.Semicolon E ts e
-      → P ts (nested looped (stated (Evaluates e) ts)) (Made n place looped (nested looped (stated (Evaluates e) ts)) (nesting_in source names (Evaluates e)))
-  called n place ts e looped calls deep (inner_tokens, c, whole_ts, closes, is) =
+  called : (n : ℕ) (setting : Setting) (ts : List Lexeme) (e : Tree) (looped : Bool) → calls_one source names e ≡ true → 5 ≤ n → IsEnded w.Semicolon E ts e
+      → P ts (nested looped (stated (Evaluates e) ts)) (Made n setting looped (nested looped (stated (Evaluates e) ts)) (nesting_in source names (Evaluates e)))
+  called n setting ts e looped calls deep (inner_tokens, c, whole_ts, closes, is) =
       let some = derived_some limit inner_tokens e is in
       let t = some.0 in
       let ys = some.1 in
@@ -185,27 +185,27 @@ module _ (source form : List ℕ) (names : List (List ℕ)) (limit : ℕ) (enoug
       span_is t ys c same = rw calls (ap₂ (λ (a b : ℕ). (a, b) ∷ []) (ap from_of same) (sym (last_to t ys c) ∙ ap to_of same))
 
       made : (t : Lexeme) (ys : List Lexeme) (c : Lexeme) (d : ℕ) → IsEnded w.Semicolon E (call_tokens t ys c) e → AreKept source form (d + 13) (call_tokens t ys c)
-          → IsBrought form (t.from + d) (c.to + (d + 13)) → Made n place looped (nested looped (stated (Evaluates e) ts)) (nesting_in source names (Evaluates e)) d (rights d (Calls t ys c ∷ []))
+          → IsBrought form (t.from + d) (c.to + (d + 13)) → Made n setting looped (nested looped (stated (Evaluates e) ts)) (nesting_in source names (Evaluates e)) d (rights d (Calls t ys c ∷ []))
       made t ys c d ended kept brought =
           let r = ended_moves source form (d + 13) E (Alike source form) (expression_moves source form (d + 13) limit) w.Semicolon (call_tokens t ys c) e kept ended in
           let us = m (d + 13) (call_tokens t ys c) in
           let p = t.from + d in
           let q = c.to + (d + 13) in
           let first : Statement = stated (Evaluates r.0) us in
-          let five = brought_is limit enough p q us first (refl, refl, r.1) place in
+          let five = brought_is limit enough p q us first (refl, refl, r.1) setting in
           let stands = called_is source form e r.0 (exit_tree limit enough p q us first (refl, refl, r.1)) (test_tree limit enough p q us first
           (refl, refl, r.1)) looped _ _ _ _ _ _ _ _ _ _ _ _ _ _ _ _ r.2
           (_, _, _, _, _, refl, brought.0) (_, _, _, _, _, refl, brought.1) in (
             whole_statement limit enough p q us first (refl, refl, r.1),
-            statement_deeper limit limit 5 n (omega arith) deep place _ _ five,
+            statement_deeper limit limit 5 n (omega arith) deep setting _ _ five,
             (nested looped (whole_statement limit enough p q us first (refl, refl, r.1)), [], sym (append-nil _), inr stands, refl),
             rw calls (whole_nests p q us r.0 (refl, refl, r.1)),
           )
 
   abbrev Forms : ℕ → ℕ → Type 0
   Forms n k =
-      (place : Place) (ts : List Lexeme) (st : Statement) (looped : Bool) → IsStatement limit n place ts st → nesting source names st ≤ k
-      → P ts (nested looped st) (Made k place looped (nested looped st) (nesting source names st))
+      (setting : Setting) (ts : List Lexeme) (st : Statement) (looped : Bool) → IsStatement limit n setting ts st → nesting source names st ≤ k
+      → P ts (nested looped st) (Made k setting looped (nested looped st) (nesting source names st))
 
   -- a rule, where the statements in it are formed
   module _ (n k : ℕ) (h : Forms n k) where
@@ -226,28 +226,29 @@ module _ (source form : List ℕ) (names : List (List ℕ)) (limit : ℕ) (enoug
         (arith, other, deep))))
 
     -- kept tokens, then a statement
-    abbrev Front : List Lexeme → Place → Bool → List Nested → (v : ℕ) → ℕ → List Lexeme → Type 0
-    Front a place looped ps v d us = Then source form names (K a) (Made k place looped ps v) d us
+    abbrev Front : List Lexeme → Setting → Bool → List Nested → (v : ℕ) → ℕ → List Lexeme → Type 0
+    Front a setting looped ps v d us = Then source form names (K a) (Made k setting looped ps v) d us
 
-    front : (a ts : List Lexeme) (place : Place) (st : Statement) (looped : Bool) → IsStatement limit n place ts st → nesting source names st ≤ k
-        → P (a ++ ts) (nested looped st) (Front a place looped (nested looped st) (nesting source names st))
-    front a ts place st looped is deep = part_then source form names a ts [] (nested looped st) (K a) (Made k place looped (nested looped st) (nesting source names st))
+    front : (a ts : List Lexeme) (setting : Setting) (st : Statement) (looped : Bool) → IsStatement limit n setting ts st → nesting source names st ≤ k
+        → P (a ++ ts) (nested looped st) (Front a setting looped (nested looped st) (nesting source names st))
+    front a ts setting st looped is deep = part_then source form names a ts [] (nested looped st) (K a) (Made k setting looped (nested looped st) (nesting source names st))
         (kept_part source form names a)
-        (h place ts st looped is deep)
+        (h setting ts st looped is deep)
 
-    front_is : (a : List Lexeme) (place : Place) (looped : Bool) (ps : List Nested) (v d : ℕ) (us : List Lexeme) (t : Front a place looped ps v d us) → us ≡ m d a ++ t.1
-    front_is a place looped ps v d us t = t.3 ∙ ap (λ (z : List Lexeme). z ++ t.1) t.4.0
+    front_is : (a : List Lexeme) (setting : Setting) (looped : Bool) (ps : List Nested) (v d : ℕ) (us : List Lexeme) (t : Front a setting looped ps v d us) → us ≡ m d a ++ t.1
+    front_is a setting looped ps v d us t = t.3 ∙ ap (λ (z : List Lexeme). z ++ t.1) t.4.0
 
     -- a form with one statement at its end
-    with_one : (place : Place) (ts a b : List Lexeme) (fm : Form) (body : Statement) (at : Place) (looped turned : Bool) → ts ≡ a ++ b → IsStatement limit n at b body → nesting source names body ≤ k
+    with_one : (setting : Setting) (ts a b : List Lexeme) (fm : Form) (body : Statement) (at : Setting) (looped turned : Bool) → ts ≡ a ++ b
+        → IsStatement limit n at b body → nesting source names body ≤ k
         → nested_within looped fm ≡ nested turned body → pair_at source names fm (from_of ts) (to_of ts) ≡ None → nesting_in source names fm ≡ nesting source names body + 1
-        → ((d : ℕ) (us y : List Lexeme) (st : Statement) → us ≡ m d a ++ y → AreKept source form d a → IsStatement limit k at y st → (made : Form) × IsForm E (IsStatement limit k) place us made
+        → ((d : ℕ) (us y : List Lexeme) (st : Statement) → us ≡ m d a ++ y → AreKept source form d a → IsStatement limit k at y st → (made : Form) × IsForm E (IsStatement limit k) setting us made
         × (nested_within looped made ≡ nested turned st) × SamePlaced source form (record { statement = stated fm ts; looped = looped }) (record { statement = stated made us; looped = looped })
         × (nesting_in form [] made ≡ nesting form [] st + 1))
-        → P ts (nested looped (stated fm ts)) (Made (suc k) place looped (nested looped (stated fm ts)) (nesting_in source names fm))
-    with_one place ts a b fm body at looped turned whole is deep own other nests g =
+        → P ts (nested looped (stated fm ts)) (Made (suc k) setting looped (nested looped (stated fm ts)) (nesting_in source names fm))
+    with_one setting ts a b fm body at looped turned whole is deep own other nests g =
         part_as source form names (a ++ b) ts (nested turned body) (nested looped (stated fm ts)) (Front a at turned (nested turned body) (nesting source names body)) (Made
-        (suc k) place looped (nested looped
+        (suc k) setting looped (nested looped
         (stated fm ts)) (nesting_in source names fm)) whole
         (rw (other, own) refl)
         (λ d us t. (
@@ -260,14 +261,14 @@ module _ (source form : List ℕ) (names : List (List ℕ)) (limit : ℕ) (enoug
         )))
         (front a b at body turned is deep)
 
-    block : (place : Place) (ts : List Lexeme) (inner : List Statement) (looped : Bool) → IsBetween w.OpenBrace w.CloseBrace (AreAll (IsStatement limit n InBlock)) ts inner
+    block : (setting : Setting) (ts : List Lexeme) (inner : List Statement) (looped : Bool) → IsBetween w.OpenBrace w.CloseBrace (AreAll (IsStatement limit n InBlock)) ts inner
         → nesting_all source names (statements inner) ≤ k
-        → P ts (nested looped (stated (Block (statements inner)) ts)) (Made (suc k) place looped (nested looped (stated (Block (statements inner)) ts)) (nesting_all source names
+        → P ts (nested looped (stated (Block (statements inner)) ts)) (Made (suc k) setting looped (nested looped (stated (Block (statements inner)) ts)) (nesting_all source names
         (statements inner) + 1))
-    block place ts inner looped (o, x, c, whole, opens, closes, all) deep =
+    block setting ts inner looped (o, x, c, whole, opens, closes, all) deep =
         let ps = nested_all looped (statements inner) in
         part_as source form names (o ∷ (x ++ c ∷ [])) ts (ps ++ []) (nested looped (stated (Block (statements inner)) ts))
-        (Then source form names (K (o ∷ [])) (Then source form names (MadeAll k looped ps (nesting_all source names (statements inner))) (K (c ∷ [])))) (Made (suc k) place looped
+        (Then source form names (K (o ∷ [])) (Then source form names (MadeAll k looped ps (nesting_all source names (statements inner))) (K (c ∷ [])))) (Made (suc k) setting looped
         (nested looped (stated (Block (statements inner)) ts)) (nesting_all source names (statements inner) + 1)) whole
         (ap (pairs_in source names) (sym (append-nil ps)))
         (λ d us t. (
@@ -284,23 +285,23 @@ module _ (source form : List ℕ) (names : List (List ℕ)) (limit : ℕ) (enoug
         (part_then source form names x (c ∷ []) ps [] (MadeAll k looped ps (nesting_all source names (statements inner))) (K (c ∷ [])) (all_formed x inner looped all deep)
         (kept_part source form names (c ∷ []))))
 
-    arms : (place : Place) (ts : List Lexeme) (test : Tree) (body other : Statement) (looped : Bool) → IsForm E (IsStatement limit n) place ts (Chooses test body (just other))
+    arms : (setting : Setting) (ts : List Lexeme) (test : Tree) (body other : Statement) (looped : Bool) → IsForm E (IsStatement limit n) setting ts (Chooses test body (just other))
         → nesting source names body ≤ k → nesting source names other ≤ k
-        → P ts (nested looped (stated (Chooses test body (just other)) ts)) (Made (suc k) place looped (nested looped (stated (Chooses test body (just other)) ts)) (max
+        → P ts (nested looped (stated (Chooses test body (just other)) ts)) (Made (suc k) setting looped (nested looped (stated (Chooses test body (just other)) ts)) (max
         (nesting source names body) (nesting source names other) + 1))
-    arms place ts test body other looped (i, x, y, e, z, whole, i_is, test_is, is, e_is, other_is) deep too =
+    arms setting ts test body other looped (i, x, y, e, z, whole, i_is, test_is, is, e_is, other_is) deep too =
         let ps = nested looped body in
         let qs = nested looped other in
         let a = i ∷ x in
         part_as source form names (a ++ (y ++ e ∷ z)) ts (ps ++ qs) (nested looped (stated (Chooses test body (just other)) ts))
-        (Then source form names (K a) (Then source form names (Made k BeforeElse looped ps (nesting source names body)) (Front (e ∷ []) (last place) looped qs (nesting source names other))))
-        (Made (suc k) place looped (nested looped (stated (Chooses test body (just other)) ts)) (max (nesting source names body) (nesting source names other) + 1)) whole refl
+        (Then source form names (K a) (Then source form names (Made k BeforeElse looped ps (nesting source names body)) (Front (e ∷ []) (last setting) looped qs (nesting source names other))))
+        (Made (suc k) setting looped (nested looped (stated (Chooses test body (just other)) ts)) (max (nesting source names body) (nesting source names other) + 1)) whole refl
         (λ d us t. (
         let u = t.5 in
         let v = u.5 in
         let us_is : us ≡ moved d i ∷ m d x ++ (u.0 ++ moved u.2 e ∷ v.1) =
         t.3 ∙ ap (λ (l : List Lexeme). l ++ t.1) t.4.0 ∙ ap (λ (l : List Lexeme). m d a ++ l) (u.3
-        ∙ ap (λ (l : List Lexeme). u.0 ++ l) (front_is (e ∷ []) (last place) looped qs (nesting source names other) u.2 u.1 v)) in
+        ∙ ap (λ (l : List Lexeme). u.0 ++ l) (front_is (e ∷ []) (last setting) looped qs (nesting source names other) u.2 u.1 v)) in
         let r = tests d x test t.4.1.1 test_is in (
           stated (Chooses r.0 u.4.0 (just v.5.0)) us,
           (refl, refl, (moved d i, m d x, u.0, moved u.2 e, v.1, us_is, i_is, r.1, u.4.1, e_is, v.5.1)),
@@ -309,18 +310,18 @@ module _ (source form : List ℕ) (names : List (List ℕ)) (limit : ℕ) (enoug
           ap₂ (λ (i j : ℕ). max i j + 1) u.4.3 v.5.3,
         )))
         (part_then source form names a (y ++ e ∷ z) [] (ps ++ qs) (K a) (Then source form names (Made k BeforeElse looped ps (nesting source names body)) (Front (e ∷ [])
-        (last place) looped qs (nesting source names other))) (kept_part source form names a)
-        (part_then source form names y (e ∷ z) ps qs (Made k BeforeElse looped ps (nesting source names body)) (Front (e ∷ []) (last place) looped qs (nesting source names other))
+        (last setting) looped qs (nesting source names other))) (kept_part source form names a)
+        (part_then source form names y (e ∷ z) ps qs (Made k BeforeElse looped ps (nesting source names body)) (Front (e ∷ []) (last setting) looped qs (nesting source names other))
         (h BeforeElse y body looped is deep) (front (e ∷ []) z
-        (last place) other looped other_is too)))
+        (last setting) other looped other_is too)))
 
-    does : (place : Place) (ts : List Lexeme) (body : Statement) (test : Tree) (looped : Bool) → IsForm E (IsStatement limit n) place ts (Does body test) → nesting source names body ≤ k
-        → P ts (nested looped (stated (Does body test) ts)) (Made (suc k) place looped (nested looped (stated (Does body test) ts)) (nesting source names body + 1))
-    does place ts body test looped (o, x, i, y, c, whole, o_is, is, i_is, test_is, c_is) deep =
+    does : (setting : Setting) (ts : List Lexeme) (body : Statement) (test : Tree) (looped : Bool) → IsForm E (IsStatement limit n) setting ts (Does body test) → nesting source names body ≤ k
+        → P ts (nested looped (stated (Does body test) ts)) (Made (suc k) setting looped (nested looped (stated (Does body test) ts)) (nesting source names body + 1))
+    does setting ts body test looped (o, x, i, y, c, whole, o_is, is, i_is, test_is, c_is) deep =
         let ps = nested true body in
         let b = i ∷ (y ++ c ∷ []) in
         part_as source form names (o ∷ (x ++ b)) ts (ps ++ []) (nested looped (stated (Does body test) ts))
-        (Then source form names (Front (o ∷ []) Elsewhere true ps (nesting source names body)) (K b)) (Made (suc k) place looped (nested looped (stated (Does body test) ts))
+        (Then source form names (Front (o ∷ []) Elsewhere true ps (nesting source names body)) (K b)) (Made (suc k) setting looped (nested looped (stated (Does body test) ts))
         (nesting source names body + 1)) whole
         (ap (pairs_in source names) (sym (append-nil ps)))
         (λ d us t. (
@@ -342,16 +343,16 @@ module _ (source form : List ℕ) (names : List (List ℕ)) (limit : ℕ) (enoug
         ap (λ (l : List Lexeme). moved d f ∷ moved d o ∷ l)
         (ap (λ (l : List Lexeme). l ++ y) (three_moved d (a ++ (b ++ c)) a b c refl) ∙ append_assoc (m d a) (m d b ++ m d c) y ∙ ap (λ (l : List Lexeme). m d a ++ l) (append_assoc (m d b) (m d c) y))
 
-    form_formed : (place : Place) (ts : List Lexeme) (fm : Form) (looped : Bool) → IsForm E (IsStatement limit n) place ts fm → nesting_in source names fm ≤ suc k
-        → P ts (nested looped (stated fm ts)) (Made (suc k) place looped (nested looped (stated fm ts)) (nesting_in source names fm))
-    form_formed place ts (Block kids) looped (inner, kids_are, between) deep =
+    form_formed : (setting : Setting) (ts : List Lexeme) (fm : Form) (looped : Bool) → IsForm E (IsStatement limit n) setting ts fm → nesting_in source names fm ≤ suc k
+        → P ts (nested looped (stated fm ts)) (Made (suc k) setting looped (nested looped (stated fm ts)) (nesting_in source names fm))
+    form_formed setting ts (Block kids) looped (inner, kids_are, between) deep =
         let same : nesting_all source names kids ≡ nesting_all source names (statements inner) = ap (nesting_all source names) kids_are in
-        subst (λ (z : Statements). P ts (nested looped (stated (Block z) ts)) (Made (suc k) place looped (nested looped (stated (Block z) ts)) (nesting_all source names z + 1))) (sym kids_are)
-        (block place ts inner looped between (omega (arith, same, deep)))
-    form_formed place ts (Declares x) looped (block_place, is) deep = alone k place ts (Declares x) looped refl refl (λ d l. (
+        subst (λ (z : Statements). P ts (nested looped (stated (Block z) ts)) (Made (suc k) setting looped (nested looped (stated (Block z) ts)) (nesting_all source names z + 1))) (sym kids_are)
+        (block setting ts inner looped between (omega (arith, same, deep)))
+    form_formed setting ts (Declares x) looped (block_setting, is) deep = alone k setting ts (Declares x) looped refl refl (λ d l. (
         let r = declaration_moves source form d E (expression_moves source form d limit) ts x l is in (
           Declares r.0,
-          (block_place, r.1),
+          (block_setting, r.1),
           refl,
           record {
             looped = refl;
@@ -362,27 +363,27 @@ module _ (source form : List ℕ) (names : List (List ℕ)) (limit : ℕ) (enoug
           },
           refl,
         )))
-    form_formed place ts (Evaluates e) looped is deep = by (calls_one source names e) refl deep
+    form_formed setting ts (Evaluates e) looped is deep = by (calls_one source names e) refl deep
       where
         by : (b : Bool) → calls_one source names e ≡ b → cond b 5 1 ≤ suc k
-            → P ts (nested looped (stated (Evaluates e) ts)) (Made (suc k) place looped (nested looped (stated (Evaluates e) ts)) (nesting_in source names (Evaluates e)))
-        by true calls low = called (suc k) place ts e looped calls low is
-        by false calls low = alone k place ts (Evaluates e) looped refl (rw calls refl) (λ d l. (
+            → P ts (nested looped (stated (Evaluates e) ts)) (Made (suc k) setting looped (nested looped (stated (Evaluates e) ts)) (nesting_in source names (Evaluates e)))
+        by true calls low = called (suc k) setting ts e looped calls low is
+        by false calls low = alone k setting ts (Evaluates e) looped refl (rw calls refl) (λ d l. (
             let r = ended_moves source form d E (Alike source form) (expression_moves source form d limit) w.Semicolon ts e l is in
             (Evaluates r.0, r.1, refl, record { looped = refl; wholes = ((r.2, refl), tt); labels = tt; locals = tt; jump = refl }, rw (calls, calls_none form r.0) refl)))
-    form_formed place ts Empties looped is deep = alone k place ts Empties looped refl refl
+    form_formed setting ts Empties looped is deep = alone k setting ts Empties looped refl refl
         (λ d l. (Empties, terminals_moved d ts ∙ is, refl, record { looped = refl; wholes = tt; labels = tt; locals = tt; jump = refl }, refl))
-    form_formed place ts (Labels name mark body) looped (t, c, x, whole, t_is, c_is, name_is, mark_is, is) deep =
-        with_one place ts (t ∷ c ∷ []) x (Labels name mark body) body (last place) looped looped whole is (omega arith) refl refl refl (λ d us y st us_is l st_is. (
+    form_formed setting ts (Labels name mark body) looped (t, c, x, whole, t_is, c_is, name_is, mark_is, is) deep =
+        with_one setting ts (t ∷ c ∷ []) x (Labels name mark body) body (last setting) looped looped whole is (omega arith) refl refl refl (λ d us y st us_is l st_is. (
           Labels (name_of (moved d t)) (moved d c).to st,
           (moved d t, moved d c, y, us_is, t_is, c_is, refl, refl, st_is),
           refl,
           record { looped = refl; wholes = tt; labels = (subst (λ (z : Name). SameName source form z (name_of (moved d t))) (sym name_is) l.0, tt); locals = tt; jump = refl },
           refl,
         ))
-    form_formed place ts (Chooses test body nothing) looped (i, x, y, whole, ne, i_is, test_is, is) deep =
+    form_formed setting ts (Chooses test body nothing) looped (i, x, y, whole, ne, i_is, test_is, is) deep =
         let low = le-max_left (nesting source names body) 0 in
-        with_one place ts (i ∷ x) y (Chooses test body nothing) body Elsewhere looped looped whole is (omega (arith, low, deep)) (append-nil (nested looped body)) refl (no_arm
+        with_one setting ts (i ∷ x) y (Chooses test body nothing) body Elsewhere looped looped whole is (omega (arith, low, deep)) (append-nil (nested looped body)) refl (no_arm
         (nesting source names body)) (λ d us z st us_is l st_is. (
         let r = tests d x test l.1 test_is in (
           Chooses r.0 st nothing,
@@ -391,20 +392,20 @@ module _ (source form : List ℕ) (names : List (List ℕ)) (limit : ℕ) (enoug
           record { looped = refl; wholes = ((r.2, refl), tt); labels = tt; locals = tt; jump = refl },
           no_arm (nesting form [] st),
         )))
-    form_formed place ts (Chooses test body (just other)) looped is deep =
+    form_formed setting ts (Chooses test body (just other)) looped is deep =
         let low = le-max_left (nesting source names body) (nesting source names other) in
         let too = le-max_right (nesting source names body) (nesting source names other) in
-        arms place ts test body other looped is (omega (arith, low, deep)) (omega (arith, too, deep))
-    form_formed place ts (Whiles test body) looped (i, x, y, whole, i_is, test_is, is) deep =
-        with_one place ts (i ∷ x) y (Whiles test body) body (last place) looped true whole is (omega arith) refl refl refl (λ d us z st us_is l st_is. (
+        arms setting ts test body other looped is (omega (arith, low, deep)) (omega (arith, too, deep))
+    form_formed setting ts (Whiles test body) looped (i, x, y, whole, i_is, test_is, is) deep =
+        with_one setting ts (i ∷ x) y (Whiles test body) body (last setting) looped true whole is (omega arith) refl refl refl (λ d us z st us_is l st_is. (
         let r = tests d x test l.1 test_is in
         (Whiles r.0 st, (moved d i, m d x, z, us_is, i_is, r.1, st_is), refl, record { looped = refl; wholes = ((r.2, refl), tt); labels = tt; locals = tt; jump = refl }, refl)))
-    form_formed place ts (Does body test) looped is deep = does place ts body test looped is (omega arith)
-    form_formed place ts (Fors init test step body) looped (f, o, a, b, c, y, whole, f_is, o_is, init_is, test_is, step_is, is) deep =
+    form_formed setting ts (Does body test) looped is deep = does setting ts body test looped is (omega arith)
+    form_formed setting ts (Fors init test step body) looped (f, o, a, b, c, y, whole, f_is, o_is, init_is, test_is, step_is, is) deep =
         let front_tokens = f ∷ o ∷ (a ++ (b ++ c)) in
         let split : ts ≡ front_tokens ++ y =
         whole ∙ ap (λ (l : List Lexeme). f ∷ o ∷ l) (ap (λ (l : List Lexeme). a ++ l) (sym (append_assoc b c y)) ∙ sym (append_assoc a (b ++ c) y)) in
-        with_one place ts front_tokens y (Fors init test step body) body (last place) looped true split is (omega arith) refl refl refl (λ d us z st us_is l st_is. (
+        with_one setting ts front_tokens y (Fors init test step body) body (last setting) looped true split is (omega arith) refl refl refl (λ d us z st us_is l st_is. (
         let own = kept_parts source form d (a ++ (b ++ c)) a (b ++ c) refl l.1.1 in
         let rest = kept_parts source form d (b ++ c) b c refl own.1 in
         let p = inits d a init own.0 init_is in
@@ -423,11 +424,11 @@ module _ (source form : List ℕ) (names : List (List ℕ)) (limit : ℕ) (enoug
           },
           refl,
         )))
-    form_formed place ts Breaks looped is deep = alone k place ts Breaks looped refl refl
+    form_formed setting ts Breaks looped is deep = alone k setting ts Breaks looped refl refl
         (λ d l. (Breaks, terminals_moved d ts ∙ is, refl, record { looped = refl; wholes = tt; labels = tt; locals = tt; jump = refl }, refl))
-    form_formed place ts Continues looped is deep = alone k place ts Continues looped refl refl
+    form_formed setting ts Continues looped is deep = alone k setting ts Continues looped refl refl
         (λ d l. (Continues, terminals_moved d ts ∙ is, refl, record { looped = refl; wholes = tt; labels = tt; locals = tt; jump = refl }, refl))
-    form_formed place ts (Returns value) looped (t, b, whole, t_is, ended) deep = alone k place ts (Returns value) looped refl refl (λ d l. (
+    form_formed setting ts (Returns value) looped (t, b, whole, t_is, ended) deep = alone k setting ts (Returns value) looped refl refl (λ d l. (
         let own = kept_as source form d ts (t ∷ b) whole l in
         let r = maybe d w.Semicolon b value own.1 ended in (
           Returns r.0,
@@ -456,9 +457,9 @@ module _ (source form : List ℕ) (names : List (List ℕ)) (limit : ℕ) (enoug
   nests_some (Returns value) = omega arith
 
   pub statement_formed : (n k : ℕ) → Forms n k
-  statement_formed zero k place ts st looped is deep = absurd is
-  statement_formed (suc n) zero place ts (Stated fm from to) looped is deep = absurd (let some = nests_some fm in omega (arith, some, deep))
-  statement_formed (suc n) (suc k) place ts (Stated fm from to) looped (from_is, to_is, is) deep =
-      subst (λ (z : ℕ). P ts (nested looped (Stated fm z to)) (Made (suc k) place looped (nested looped (Stated fm z to)) (nesting_in source names fm))) (sym from_is)
-      (subst (λ (z : ℕ). P ts (nested looped (Stated fm (from_of ts) z)) (Made (suc k) place looped (nested looped (Stated fm (from_of ts) z)) (nesting_in source names fm))) (sym to_is)
-      (form_formed n k (statement_formed n k) place ts fm looped is deep))
+  statement_formed zero k setting ts st looped is deep = absurd is
+  statement_formed (suc n) zero setting ts (Stated fm from to) looped is deep = absurd (let some = nests_some fm in omega (arith, some, deep))
+  statement_formed (suc n) (suc k) setting ts (Stated fm from to) looped (from_is, to_is, is) deep =
+      subst (λ (z : ℕ). P ts (nested looped (Stated fm z to)) (Made (suc k) setting looped (nested looped (Stated fm z to)) (nesting_in source names fm))) (sym from_is)
+      (subst (λ (z : ℕ). P ts (nested looped (Stated fm (from_of ts) z)) (Made (suc k) setting looped (nested looped (Stated fm (from_of ts) z)) (nesting_in source names fm))) (sym to_is)
+      (form_formed n k (statement_formed n k) setting ts fm looped is deep))

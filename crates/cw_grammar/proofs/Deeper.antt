@@ -8,7 +8,7 @@ use Rattle.cw_grammar.specs.declared.rules.Rule.TheVariants.{Expression, Level, 
 use Rattle.cw_grammar.specs.Lexemes.{IsOptional, AreAll, AreSeparated}
 use Rattle.cw_grammar.specs.Expressions.{loosest, Derives, IsPrimary, IsPostfix, IsUnary, IsOperand, IsLevel, IsRule, IsDerived, IsExpression}
 use Rattle.cw_grammar.specs.Declarations.{Expressions, Specifiers, IsArray, AreElements, IsInitialiser, IsItem, IsDeclaration}
-use Rattle.cw_grammar.specs.Statements.{Place, InBlock, BeforeElse, Elsewhere, last, IsInit, IsForm, IsStatement}
+use Rattle.cw_grammar.specs.Statements.{Setting, InBlock, BeforeElse, Elsewhere, last, IsInit, IsForm, IsStatement}
 use Rattle.cw_grammar.specs.Files.{Part, Declares as DeclaresPart, Holds, Defines, IsPart}
 
 pub separated_weaker : {X : Type 0} (P Q : List Lexeme → X → Type 0) → ((ts : List Lexeme) (x : X) → P ts x → Q ts x) → (xs : List X) (ts : List Lexeme) → AreSeparated P ts xs → AreSeparated Q ts xs
@@ -110,29 +110,29 @@ module _ (E F : Expressions) (f : (ts : List Lexeme) (x : Tree) → E ts x → F
   init_weaker (just (Stated Continues from to)) ts h = absurd h
   init_weaker (just (Stated (Returns value) from to)) ts h = absurd h
 
-  module _ (P Q : Place → List Lexeme → Statement → Type 0) (g : (place : Place) (ts : List Lexeme) (x : Statement) → P place ts x → Q place ts x) where
-    form_weaker : (place : Place) (form : Form) (ts : List Lexeme) → IsForm E P place ts form → IsForm F Q place ts form
-    form_weaker place (Block kids) ts (inner, t, (o, body, c, e, p, q, d)) = (inner, t, (o, body, c, e, p, q, all_weaker (P InBlock) (Q InBlock) (g InBlock) inner body d))
-    form_weaker place (Declares x) ts (p, d) = (p, declaration_weaker x ts d)
-    form_weaker place (Evaluates x) ts (inner, c, e, is, d) = (inner, c, e, is, f inner x d)
-    form_weaker place Empties ts h = h
-    form_weaker place (Labels name mark body) ts (n, k, b, e, p, q, r, t, d) = (n, k, b, e, p, q, r, t, g (last place) b body d)
-    form_weaker place (Chooses test body nothing) ts (i, a, b, e, ne, p, (o, inner, c, e2, q, r, t), d) = (i, a, b, e, ne, p, (o, inner, c, e2, q, r, f inner test t), g Elsewhere b body d)
-    form_weaker place (Chooses test body (just other)) ts (i, a, b, l, z, e, p, (o, inner, c, e2, q, r, t), d, is, h) =
-        (i, a, b, l, z, e, p, (o, inner, c, e2, q, r, f inner test t), g BeforeElse b body d, is, g (last place) z other h)
-    form_weaker place (Whiles test body) ts (i, a, b, e, p, (o, inner, c, e2, q, r, t), d) = (i, a, b, e, p, (o, inner, c, e2, q, r, f inner test t), g (last place) b body d)
-    form_weaker place (Does body test) ts (i, a, h, b, s, e, p, d, is, (o, inner, c, e2, q, r, t), z) = (i, a, h, b, s, e, p, g Elsewhere a body d, is, (o, inner, c, e2, q, r, f inner test t), z)
-    form_weaker place (Fors init test each body) ts (i, o, a, b, c, d, e, p, q, h, (u, m, e2, is, t), (v, n, e3, is2, r), k) =
-        (i, o, a, b, c, d, e, p, q, init_weaker init a h, (u, m, e2, is, optional_weaker E F f test u t), (v, n, e3, is2, optional_weaker E F f each v r), g (last place) d body k)
-    form_weaker place Breaks ts h = h
-    form_weaker place Continues ts h = h
-    form_weaker place (Returns value) ts (l, b, e, p, (inner, c, e2, is, d)) = (l, b, e, p, (inner, c, e2, is, optional_weaker E F f value inner d))
+  module _ (P Q : Setting → List Lexeme → Statement → Type 0) (g : (setting : Setting) (ts : List Lexeme) (x : Statement) → P setting ts x → Q setting ts x) where
+    form_weaker : (setting : Setting) (form : Form) (ts : List Lexeme) → IsForm E P setting ts form → IsForm F Q setting ts form
+    form_weaker setting (Block kids) ts (inner, t, (o, body, c, e, p, q, d)) = (inner, t, (o, body, c, e, p, q, all_weaker (P InBlock) (Q InBlock) (g InBlock) inner body d))
+    form_weaker setting (Declares x) ts (p, d) = (p, declaration_weaker x ts d)
+    form_weaker setting (Evaluates x) ts (inner, c, e, is, d) = (inner, c, e, is, f inner x d)
+    form_weaker setting Empties ts h = h
+    form_weaker setting (Labels name mark body) ts (n, k, b, e, p, q, r, t, d) = (n, k, b, e, p, q, r, t, g (last setting) b body d)
+    form_weaker setting (Chooses test body nothing) ts (i, a, b, e, ne, p, (o, inner, c, e2, q, r, t), d) = (i, a, b, e, ne, p, (o, inner, c, e2, q, r, f inner test t), g Elsewhere b body d)
+    form_weaker setting (Chooses test body (just other)) ts (i, a, b, l, z, e, p, (o, inner, c, e2, q, r, t), d, is, h) =
+        (i, a, b, l, z, e, p, (o, inner, c, e2, q, r, f inner test t), g BeforeElse b body d, is, g (last setting) z other h)
+    form_weaker setting (Whiles test body) ts (i, a, b, e, p, (o, inner, c, e2, q, r, t), d) = (i, a, b, e, p, (o, inner, c, e2, q, r, f inner test t), g (last setting) b body d)
+    form_weaker setting (Does body test) ts (i, a, h, b, s, e, p, d, is, (o, inner, c, e2, q, r, t), z) = (i, a, h, b, s, e, p, g Elsewhere a body d, is, (o, inner, c, e2, q, r, f inner test t), z)
+    form_weaker setting (Fors init test each body) ts (i, o, a, b, c, d, e, p, q, h, (u, m, e2, is, t), (v, n, e3, is2, r), k) =
+        (i, o, a, b, c, d, e, p, q, init_weaker init a h, (u, m, e2, is, optional_weaker E F f test u t), (v, n, e3, is2, optional_weaker E F f each v r), g (last setting) d body k)
+    form_weaker setting Breaks ts h = h
+    form_weaker setting Continues ts h = h
+    form_weaker setting (Returns value) ts (l, b, e, p, (inner, c, e2, is, d)) = (l, b, e, p, (inner, c, e2, is, optional_weaker E F f value inner d))
 
-pub statement_deeper : (l k m n : ℕ) → l ≤ k → m ≤ n → (place : Place) (ts : List Lexeme) (x : Statement) → IsStatement l m place ts x → IsStatement k n place ts x
-statement_deeper l k zero n lk le place ts x h = absurd h
-statement_deeper l k (suc m) zero lk le place ts x h = absurd (omega arith)
-statement_deeper l k (suc m) (suc n) lk le place ts (Stated form from to) h =
-    (h.0, h.1, form_weaker (IsExpression l) (IsExpression k) (expression_deeper l k lk) (IsStatement l m) (IsStatement k n) (statement_deeper l k m n lk (omega arith)) place form ts h.2)
+pub statement_deeper : (l k m n : ℕ) → l ≤ k → m ≤ n → (setting : Setting) (ts : List Lexeme) (x : Statement) → IsStatement l m setting ts x → IsStatement k n setting ts x
+statement_deeper l k zero n lk le setting ts x h = absurd h
+statement_deeper l k (suc m) zero lk le setting ts x h = absurd (omega arith)
+statement_deeper l k (suc m) (suc n) lk le setting ts (Stated form from to) h =
+    (h.0, h.1, form_weaker (IsExpression l) (IsExpression k) (expression_deeper l k lk) (IsStatement l m) (IsStatement k n) (statement_deeper l k m n lk (omega arith)) setting form ts h.2)
 
 pub part_deeper : (m n : ℕ) → m ≤ n → (ts : List Lexeme) (x : Part) → IsPart m ts x → IsPart n ts x
 part_deeper m n le ts (DeclaresPart p) h = h

@@ -80,7 +80,7 @@ pub(crate) fn listing_told(
     text
 }
 
-/// Whether the program has this name as a label's, as a word.
+/// Whether the program has this name as a label's, as text.
 fn kind_of(checked: &Checked, name: &[u8]) -> &'static str {
     if is_label(checked.source, name, &checked.program) {
         "label"

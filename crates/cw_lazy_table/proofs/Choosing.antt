@@ -29,12 +29,12 @@ module _ (g : Game) (functions : ℕ) (can : CanBegin g functions) where
   pub safe_at : (p q e : ℕ) → IsLive g p q e → IsSafe g functions p q e
   safe_at p q e live = safe g functions can.routed can.staged can.first can.kept p q e live
 
-  abbrev IsTold : (p q e : ℕ) → Type 0
-  IsTold p q e = ((lost_in g p q e ≡ true) × IsLost g p q (has e)) ⊎ ((lost_in g p q e ≡ false) × (IsLost g p q (has e) → ⊥))
+  abbrev IsDecided : (p q e : ℕ) → Type 0
+  IsDecided p q e = ((lost_in g p q e ≡ true) × IsLost g p q (has e)) ⊎ ((lost_in g p q e ≡ false) × (IsLost g p q (has e) → ⊥))
 
-  tells : (p q e : ℕ) (h : Option ℕ) → q < g.states.count → HeightIs g p q e h → IsLow h → IsTold p q e
-  tells p q e None s h l = inr (ap not (h most), λ k. let w : true ≡ false = sym (h k.0) ∙ k.1 in cc)
-  tells p q e (Some n) s h l = inl (ap not (later g functions can.routed n most p q (has e) (low_most n l) s h.lost), (n, h.lost))
+  decides : (p q e : ℕ) (h : Option ℕ) → q < g.states.count → HeightIs g p q e h → IsLow h → IsDecided p q e
+  decides p q e None s h l = inr (ap not (h most), λ k. let w : true ≡ false = sym (h k.0) ∙ k.1 in cc)
+  decides p q e (Some n) s h l = inl (ap not (later g functions can.routed n most p q (has e) (low_most n l) s h.lost), (n, h.lost))
 
   -- what a height says
   pub none_is : (p q e : ℕ) → HeightIs g p q e None → false ≡ lost_in g p q e
@@ -44,20 +44,20 @@ module _ (g : Game) (functions : ℕ) (can : CanBegin g functions) where
   some_is p q e n s l h = sym (ap not (later g functions can.routed n most p q (has e) (low_most n l) s h.lost))
 
   module _ (low : HeightsAreLow g) where
-    told : (f p q e : ℕ) → IsNeeded g (context f e) → IsOf g f p → q < g.states.count → IsTold p q e
-    told f p q e needed of s = let k = low f p q e needed of s in tells p q e k.0 s k.1 k.2
+    decided : (f p q e : ℕ) → IsNeeded g (context f e) → IsOf g f p → q < g.states.count → IsDecided p q e
+    decided f p q e needed of s = let k = low f p q e needed of s in decides p q e k.0 s k.1 k.2
 
     pub lost_is : (f p q e : ℕ) → IsNeeded g (context f e) → IsOf g f p → q < g.states.count → lost_in g p q e ≡ true → IsLost g p q (has e)
-    lost_is f p q e needed of s t = by (told f p q e needed of s)
+    lost_is f p q e needed of s t = by (decided f p q e needed of s)
       where
-        by : IsTold p q e → IsLost g p q (has e)
+        by : IsDecided p q e → IsLost g p q (has e)
         by (inl x) = x.1
         by (inr x) = let w : true ≡ false = sym t ∙ x.0 in cc
 
     pub kept_is : (f p q e : ℕ) → IsNeeded g (context f e) → IsOf g f p → q < g.states.count → lost_in g p q e ≡ false → IsLost g p q (has e) → ⊥
-    kept_is f p q e needed of s t = by (told f p q e needed of s)
+    kept_is f p q e needed of s t = by (decided f p q e needed of s)
       where
-        by : IsTold p q e → IsLost g p q (has e) → ⊥
+        by : IsDecided p q e → IsLost g p q (has e) → ⊥
         by (inl x) = let w : true ≡ false = sym x.0 ∙ t in cc
         by (inr x) = x.1
 

@@ -14,7 +14,7 @@ use Rattle.cw_grammar.specs.declared.rules.Rule.TheVariants.{Expression, Level}
 use Rattle.cw_grammar.specs.Lexemes.{Is, terminals, name_of, from_of, to_of, IsFlag, IsOptional, AreAll, IsBetween, IsEnded, statements}
 use Rattle.cw_grammar.specs.Expressions.{IsExpression, IsDerived, node, loosest, nesting_limit}
 use Rattle.cw_grammar.specs.Declarations.{IsDeclaration, IsStorage, Specifiers, AreSpecifiers}
-use Rattle.cw_grammar.specs.Statements.{Place, InBlock, BeforeElse, Elsewhere, last, IsTest, IsInit, IsForm, IsStatement}
+use Rattle.cw_grammar.specs.Statements.{Setting, InBlock, BeforeElse, Elsewhere, last, IsTest, IsInit, IsForm, IsStatement}
 use Rattle.cw_grammar.proofs.SameTerminal.{is_plain}
 use Rattle.cw_expressions.specs.declared.refusal.Refusal.{Refusal}
 use Rattle.cw_expressions.specs.Cursor.{◌>>=◌, begins, after, first, expect}
@@ -47,9 +47,9 @@ ok_statement s rest = Ok (s, rest)
 finish : (D : Type 0) (form given : Form) (f t from to : ℕ) (rest : List Lexeme) → given ≡ form → f ≡ from → t ≡ to → Reads D (ok_statement (Stated given f t) rest) (Stated form from to, rest)
 finish D form given f t from to rest p q r = inl (rw (p, q, r) refl)
 
-pub statement_to : (limit n : ℕ) (place : Place) (ts : List Lexeme) (s : Statement) → IsStatement limit n place ts s → end_of s ≡ to_of ts
-statement_to limit zero place ts s h = absurd h
-statement_to limit (suc n) place ts (Stated form from to) h = h.1
+pub statement_to : (limit n : ℕ) (setting : Setting) (ts : List Lexeme) (s : Statement) → IsStatement limit n setting ts s → end_of s ≡ to_of ts
+statement_to limit zero setting ts s h = absurd h
+statement_to limit (suc n) setting ts (Stated form from to) h = h.1
 
 -- ---- what begins what
 
@@ -249,18 +249,18 @@ module _ (limit : ℕ) (D : Type 0) (deep : nesting_limit < limit → D) where
 
   -- ---- statements
 
-  -- what follows a statement in this place
-  abbrev pub Stops : Place → List Lexeme → Type 0
+  -- what follows a statement in this setting
+  abbrev pub Stops : Setting → List Lexeme → Type 0
   Stops InBlock rest = begins w.Else rest ≡ false
   Stops BeforeElse rest = Unit {0}
   Stops Elsewhere rest = begins w.Else rest ≡ false
 
-  no_else : (place : Place) (rest : List Lexeme) → place ≢ BeforeElse → Stops place rest → begins w.Else rest ≡ false
+  no_else : (setting : Setting) (rest : List Lexeme) → setting ≢ BeforeElse → Stops setting rest → begins w.Else rest ≡ false
   no_else InBlock rest never h = h
   no_else BeforeElse rest never h = absurd (never refl)
   no_else Elsewhere rest never h = h
 
-  abbrev pub may_declare : Place → Bool
+  abbrev pub may_declare : Setting → Bool
   may_declare InBlock = true
   may_declare BeforeElse = false
   may_declare Elsewhere = false
@@ -268,24 +268,25 @@ module _ (limit : ℕ) (D : Type 0) (deep : nesting_limit < limit → D) where
   expression_starts : (a : List Lexeme) (e : Tree) (rest : List Lexeme) → IsEnded w.Semicolon E a e → Starts opens_statement (a ++ rest)
   expression_starts a e rest h = starts_wider starts_expression opens_statement expression_opens (a ++ rest) (evaluated_start a e rest h)
 
-  form_starts : (P : Place → List Lexeme → Statement → Type 0) (place : Place) (ts : List Lexeme) (form : Form) (rest : List Lexeme) → IsForm E P place ts form → Starts opens_statement (ts ++ rest)
-  form_starts P place ts (Block k) rest (inner, e, (o, b, c, parts, opens, closes, h)) = rw (parts, opens) refl
-  form_starts P place ts (Declares d) rest (e, h) = starts_wider starts_declaration opens_statement declaration_opens (ts ++ rest) (declaration_start ts d rest h)
-  form_starts P place ts (Evaluates e) rest h = expression_starts ts e rest h
-  form_starts P place ts Empties rest h = let p = one_token ts w.Semicolon h in rw (p.1, p.2) refl
-  form_starts P place ts (Labels n m s) rest h = rw (h.3, h.4) refl
-  form_starts P place ts (Chooses e s nothing) rest h = rw (h.3, h.5) refl
-  form_starts P place ts (Chooses e s (just o)) rest h = rw (h.5, h.6) refl
-  form_starts P place ts (Whiles e s) rest h = rw (h.3, h.4) refl
-  form_starts P place ts (Does s e) rest h = rw (h.5, h.6) refl
-  form_starts P place ts (Fors x y z s) rest h = rw (h.6, h.7) refl
-  form_starts P place ts Breaks rest h = let p = two_tokens ts w.Break w.Semicolon h in rw (p.2, p.3) refl
-  form_starts P place ts Continues rest h = let p = two_tokens ts w.Continue w.Semicolon h in rw (p.2, p.3) refl
-  form_starts P place ts (Returns e) rest h = rw (h.2, h.3) refl
+  form_starts : (P : Setting → List Lexeme → Statement → Type 0) (setting : Setting) (ts : List Lexeme) (form : Form) (rest : List Lexeme)
+      → IsForm E P setting ts form → Starts opens_statement (ts ++ rest)
+  form_starts P setting ts (Block k) rest (inner, e, (o, b, c, parts, opens, closes, h)) = rw (parts, opens) refl
+  form_starts P setting ts (Declares d) rest (e, h) = starts_wider starts_declaration opens_statement declaration_opens (ts ++ rest) (declaration_start ts d rest h)
+  form_starts P setting ts (Evaluates e) rest h = expression_starts ts e rest h
+  form_starts P setting ts Empties rest h = let p = one_token ts w.Semicolon h in rw (p.1, p.2) refl
+  form_starts P setting ts (Labels n m s) rest h = rw (h.3, h.4) refl
+  form_starts P setting ts (Chooses e s nothing) rest h = rw (h.3, h.5) refl
+  form_starts P setting ts (Chooses e s (just o)) rest h = rw (h.5, h.6) refl
+  form_starts P setting ts (Whiles e s) rest h = rw (h.3, h.4) refl
+  form_starts P setting ts (Does s e) rest h = rw (h.5, h.6) refl
+  form_starts P setting ts (Fors x y z s) rest h = rw (h.6, h.7) refl
+  form_starts P setting ts Breaks rest h = let p = two_tokens ts w.Break w.Semicolon h in rw (p.2, p.3) refl
+  form_starts P setting ts Continues rest h = let p = two_tokens ts w.Continue w.Semicolon h in rw (p.2, p.3) refl
+  form_starts P setting ts (Returns e) rest h = rw (h.2, h.3) refl
 
-  pub statement_starts : (m : ℕ) (place : Place) (ts : List Lexeme) (s : Statement) (rest : List Lexeme) → IsStatement limit m place ts s → Starts opens_statement (ts ++ rest)
-  statement_starts zero place ts s rest h = absurd h
-  statement_starts (suc m) place ts (Stated form from to) rest h = form_starts (IsStatement limit m) place ts form rest h.2
+  pub statement_starts : (m : ℕ) (setting : Setting) (ts : List Lexeme) (s : Statement) (rest : List Lexeme) → IsStatement limit m setting ts s → Starts opens_statement (ts ++ rest)
+  statement_starts zero setting ts s rest h = absurd h
+  statement_starts (suc m) setting ts (Stated form from to) rest h = form_starts (IsStatement limit m) setting ts form rest h.2
 
   pub statement_goes_on : (m : ℕ) (ts : List Lexeme) (s : Statement) (rest : List Lexeme) → IsStatement limit m InBlock ts s → goes_on (ts ++ rest) ≡ true
   statement_goes_on m ts s rest h = ap not (starts_never opens_statement w.CloseBrace refl refl (ts ++ rest) (statement_starts m InBlock ts s rest h))
@@ -293,8 +294,8 @@ module _ (limit : ℕ) (D : Type 0) (deep : nesting_limit < limit → D) where
   pub statement_stops : (m : ℕ) (ts : List Lexeme) (s : Statement) (rest : List Lexeme) → IsStatement limit m InBlock ts s → begins w.Else (ts ++ rest) ≡ false
   statement_stops m ts s rest h = starts_never opens_statement w.Else refl refl (ts ++ rest) (statement_starts m InBlock ts s rest h)
 
-  some : (m : ℕ) (place : Place) (a : List Lexeme) (s : Statement) → IsStatement limit m place a s → 0 < length a
-  some m place a s h = starts_some opens_statement a (subst (λ (z : List Lexeme). Starts opens_statement z) (append-nil a) (statement_starts m place a s [] h))
+  some : (m : ℕ) (setting : Setting) (a : List Lexeme) (s : Statement) → IsStatement limit m setting a s → 0 < length a
+  some m setting a s h = starts_some opens_statement a (subst (λ (z : List Lexeme). Starts opens_statement z) (append-nil a) (statement_starts m setting a s [] h))
 
   ended_some : (b : List Lexeme) (x : Option Tree) → IsEnded w.Semicolon (IsOptional E) b x → 0 < length b
   ended_some b x (inner, c, parts, is, h) = omega (arith, ap length parts, length-append inner (c ∷ []))
@@ -302,12 +303,12 @@ module _ (limit : ℕ) (D : Type 0) (deep : nesting_limit < limit → D) where
   -- ---- by the first terminal
 
   module _ (read : Bool → Reader Statement) (m : ℕ) (short_read : Shortening (read true) goes_on)
-      (again : (place : Place) (a : List Lexeme) (s : Statement) (rest : List Lexeme) → IsStatement limit m place a s → Stops place rest
-      → Reads D (read (may_declare place) (a ++ rest)) (s, rest)) where
-    abbrev P : Place → List Lexeme → Statement → Type 0
-    P place ts s = IsStatement limit m place ts s
+      (again : (setting : Setting) (a : List Lexeme) (s : Statement) (rest : List Lexeme) → IsStatement limit m setting a s → Stops setting rest
+      → Reads D (read (may_declare setting) (a ++ rest)) (s, rest)) where
+    abbrev P : Setting → List Lexeme → Statement → Type 0
+    P setting ts s = IsStatement limit m setting ts s
 
-    last_again : (place : Place) (a : List Lexeme) (s : Statement) (rest : List Lexeme) → P (last place) a s → Stops place rest → Reads D (read false (a ++ rest)) (s, rest)
+    last_again : (setting : Setting) (a : List Lexeme) (s : Statement) (rest : List Lexeme) → P (last setting) a s → Stops setting rest → Reads D (read false (a ++ rest)) (s, rest)
     last_again InBlock a s rest h stop = again Elsewhere a s rest h stop
     last_again BeforeElse a s rest h stop = again BeforeElse a s rest h stop
     last_again Elsewhere a s rest h stop = again Elsewhere a s rest h stop
@@ -335,23 +336,23 @@ module _ (limit : ℕ) (D : Type 0) (deep : nesting_limit < limit → D) where
         (finish D (Block (statements ss)) (Block (statements ss)) o.from c.to from to rest refl (sym (p ∙ ap from_of parts))
         (sym (q ∙ ap to_of parts ∙ to_of_append (o ∷ b) (c ∷ []) (omega arith)))))))
 
-    label_again : (place : Place) (ts : List Lexeme) (n k : Lexeme) (b : List Lexeme) (s : Statement) (from to : ℕ) (rest : List Lexeme) → from ≡ from_of ts → to ≡ to_of ts
-        → ts ≡ n ∷ k ∷ b → Is w.Name n → Is w.Colon k → P (last place) b s → Stops place rest → Stating ts (Stated (Labels (name_of n) k.to s) from to) rest
+    label_again : (setting : Setting) (ts : List Lexeme) (n k : Lexeme) (b : List Lexeme) (s : Statement) (from to : ℕ) (rest : List Lexeme) → from ≡ from_of ts → to ≡ to_of ts
+        → ts ≡ n ∷ k ∷ b → Is w.Name n → Is w.Colon k → P (last setting) b s → Stops setting rest → Stating ts (Stated (Labels (name_of n) k.to s) from to) rest
     unfolding stated labelled
-    label_again place ts n k b s from to rest p q parts is colon h stop =
+    label_again setting ts n k b s from to rest p q parts is colon h stop =
         reads_of D (stated read) (ts ++ rest) (n ∷ k ∷ (b ++ rest)) _ (ap (λ (z : List Lexeme). z ++ rest) parts)
         (rw is
         (reads_then D (begins w.Colon (k ∷ (b ++ rest))) _ _ _ (begins_again w.Colon k (b ++ rest) colon)
         (reads_bind D (expect w.Colon (k ∷ (b ++ rest))) _ (k, b ++ rest) _ (reads_expect D w.Colon k (b ++ rest) colon)
-        (reads_bind D (read false (b ++ rest)) _ (s, rest) _ (last_again place b s rest h stop)
+        (reads_bind D (read false (b ++ rest)) _ (s, rest) _ (last_again setting b s rest h stop)
         (finish D (Labels (name_of n) k.to s) (Labels (name_of n) k.to s) n.from (end_of s) from to rest refl (sym (p ∙ ap from_of parts))
-        (statement_to limit m (last place) b s h ∙ sym (to_of_append (n ∷ k ∷ []) b (some m (last place) b s h)) ∙ sym (q ∙ ap to_of parts)))))))
+        (statement_to limit m (last setting) b s h ∙ sym (to_of_append (n ∷ k ∷ []) b (some m (last setting) b s h)) ∙ sym (q ∙ ap to_of parts)))))))
 
-    alone_again : (place : Place) (ts : List Lexeme) (i : Lexeme) (a b : List Lexeme) (e : Tree) (s : Statement) (from to : ℕ) (rest : List Lexeme) → from ≡ from_of ts
-        → to ≡ to_of ts → ts ≡ i ∷ a ++ b → place ≢ BeforeElse → Is w.If i → IsTest E a e → P Elsewhere b s → Stops place rest → Stating ts (Stated (Chooses e s nothing) from to) rest
+    alone_again : (setting : Setting) (ts : List Lexeme) (i : Lexeme) (a b : List Lexeme) (e : Tree) (s : Statement) (from to : ℕ) (rest : List Lexeme) → from ≡ from_of ts
+        → to ≡ to_of ts → ts ≡ i ∷ a ++ b → setting ≢ BeforeElse → Is w.If i → IsTest E a e → P Elsewhere b s → Stops setting rest → Stating ts (Stated (Chooses e s nothing) from to) rest
     unfolding stated branched chosen
-    alone_again place ts i a b e s from to rest p q parts never is ha hb stop =
-        let ends_it = no_else place rest never stop in
+    alone_again setting ts i a b e s from to rest p q parts never is ha hb stop =
+        let ends_it = no_else setting rest never stop in
         reads_of D (stated read) (ts ++ rest) (i ∷ (a ++ (b ++ rest))) _ (ap (λ (z : List Lexeme). z ++ rest) parts ∙ ap (λ (z : List Lexeme). i ∷ z) (append_assoc a b rest))
         (rw is
         (reads_bind D (condition (a ++ (b ++ rest))) _ (e, b ++ rest) _ (test_again a e (b ++ rest) ha)
@@ -360,34 +361,34 @@ module _ (limit : ℕ) (D : Type 0) (deep : nesting_limit < limit → D) where
         (finish D (Chooses e s nothing) (Chooses e s nothing) i.from (end_of s) from to rest refl (sym (p ∙ ap from_of parts))
         (statement_to limit m Elsewhere b s hb ∙ sym (to_of_append (i ∷ a) b (some m Elsewhere b s hb)) ∙ sym (q ∙ ap to_of parts)))))))
 
-    both_again : (place : Place) (ts : List Lexeme) (i : Lexeme) (a b : List Lexeme) (k : Lexeme) (c : List Lexeme) (e : Tree) (s o : Statement) (from to : ℕ) (rest : List Lexeme)
-        → from ≡ from_of ts → to ≡ to_of ts → ts ≡ i ∷ a ++ (b ++ k ∷ c) → Is w.If i → IsTest E a e → P BeforeElse b s → Is w.Else k → P (last place) c o → Stops place rest
+    both_again : (setting : Setting) (ts : List Lexeme) (i : Lexeme) (a b : List Lexeme) (k : Lexeme) (c : List Lexeme) (e : Tree) (s o : Statement) (from to : ℕ) (rest : List Lexeme)
+        → from ≡ from_of ts → to ≡ to_of ts → ts ≡ i ∷ a ++ (b ++ k ∷ c) → Is w.If i → IsTest E a e → P BeforeElse b s → Is w.Else k → P (last setting) c o → Stops setting rest
         → Stating ts (Stated (Chooses e s (just o)) from to) rest
     unfolding stated branched chosen
-    both_again place ts i a b k c e s o from to rest p q parts is ha hb isk hc stop =
+    both_again setting ts i a b k c e s o from to rest p q parts is ha hb isk hc stop =
         let whole : ts ++ rest ≡ i ∷ (a ++ (b ++ (k ∷ (c ++ rest)))) = ap (λ (z : List Lexeme). z ++ rest) parts
         ∙ ap (λ (z : List Lexeme). i ∷ z) (append_assoc a (b ++ k ∷ c) rest ∙ ap (λ (z : List Lexeme). a ++ z) (append_assoc b (k ∷ c) rest)) in
-        let some_c = some m (last place) c o hc in
+        let some_c = some m (last setting) c o hc in
         reads_of D (stated read) (ts ++ rest) (i ∷ (a ++ (b ++ (k ∷ (c ++ rest))))) _ whole
         (rw is
         (reads_bind D (condition (a ++ (b ++ (k ∷ (c ++ rest))))) _ (e, b ++ (k ∷ (c ++ rest))) _ (test_again a e (b ++ (k ∷ (c ++ rest))) ha)
         (reads_bind D (read false (b ++ (k ∷ (c ++ rest)))) _ (s, k ∷ (c ++ rest)) _ (again BeforeElse b s (k ∷ (c ++ rest)) hb tt)
         (reads_then D (begins w.Else (k ∷ (c ++ rest))) _ _ _ (begins_again w.Else k (c ++ rest) isk)
-        (reads_bind D (read false (c ++ rest)) _ (o, rest) _ (last_again place c o rest hc stop)
+        (reads_bind D (read false (c ++ rest)) _ (o, rest) _ (last_again setting c o rest hc stop)
         (finish D (Chooses e s (just o)) (Chooses e s (just o)) i.from (end_of o) from to rest refl (sym (p ∙ ap from_of parts))
-        (statement_to limit m (last place) c o hc ∙ sym (to_of_cons k c some_c) ∙ sym (to_of_append b (k ∷ c) (omega arith))
+        (statement_to limit m (last setting) c o hc ∙ sym (to_of_cons k c some_c) ∙ sym (to_of_append b (k ∷ c) (omega arith))
         ∙ sym (to_of_append (i ∷ a) (b ++ k ∷ c) (omega (arith, length-append b (k ∷ c)))) ∙ sym (q ∙ ap to_of parts))))))))
 
-    while_again : (place : Place) (ts : List Lexeme) (i : Lexeme) (a b : List Lexeme) (e : Tree) (s : Statement) (from to : ℕ) (rest : List Lexeme) → from ≡ from_of ts
-        → to ≡ to_of ts → ts ≡ i ∷ a ++ b → Is w.While i → IsTest E a e → P (last place) b s → Stops place rest → Stating ts (Stated (Whiles e s) from to) rest
+    while_again : (setting : Setting) (ts : List Lexeme) (i : Lexeme) (a b : List Lexeme) (e : Tree) (s : Statement) (from to : ℕ) (rest : List Lexeme) → from ≡ from_of ts
+        → to ≡ to_of ts → ts ≡ i ∷ a ++ b → Is w.While i → IsTest E a e → P (last setting) b s → Stops setting rest → Stating ts (Stated (Whiles e s) from to) rest
     unfolding stated looped
-    while_again place ts i a b e s from to rest p q parts is ha hb stop =
+    while_again setting ts i a b e s from to rest p q parts is ha hb stop =
         reads_of D (stated read) (ts ++ rest) (i ∷ (a ++ (b ++ rest))) _ (ap (λ (z : List Lexeme). z ++ rest) parts ∙ ap (λ (z : List Lexeme). i ∷ z) (append_assoc a b rest))
         (rw is
         (reads_bind D (condition (a ++ (b ++ rest))) _ (e, b ++ rest) _ (test_again a e (b ++ rest) ha)
-        (reads_bind D (read false (b ++ rest)) _ (s, rest) _ (last_again place b s rest hb stop)
+        (reads_bind D (read false (b ++ rest)) _ (s, rest) _ (last_again setting b s rest hb stop)
         (finish D (Whiles e s) (Whiles e s) i.from (end_of s) from to rest refl (sym (p ∙ ap from_of parts))
-        (statement_to limit m (last place) b s hb ∙ sym (to_of_append (i ∷ a) b (some m (last place) b s hb)) ∙ sym (q ∙ ap to_of parts))))))
+        (statement_to limit m (last setting) b s hb ∙ sym (to_of_append (i ∷ a) b (some m (last setting) b s hb)) ∙ sym (q ∙ ap to_of parts))))))
 
     do_again : (ts : List Lexeme) (d : Lexeme) (a : List Lexeme) (h : Lexeme) (b : List Lexeme) (c : Lexeme) (s : Statement) (e : Tree) (from to : ℕ) (rest : List Lexeme)
         → from ≡ from_of ts → to ≡ to_of ts → ts ≡ d ∷ a ++ (h ∷ b ++ c ∷ []) → Is w.Do d → P Elsewhere a s → Is w.While h → IsTest E b e → Is w.Semicolon c
@@ -405,23 +406,23 @@ module _ (limit : ℕ) (D : Type 0) (deep : nesting_limit < limit → D) where
         (finish D (Does s e) (Does s e) d.from c.to from to rest refl (sym (p ∙ ap from_of parts))
         (sym (to_of_append (h ∷ b) (c ∷ []) (omega arith)) ∙ sym (to_of_append (d ∷ a) (h ∷ b ++ c ∷ []) (omega arith)) ∙ sym (q ∙ ap to_of parts))))))))
 
-    for_again : (place : Place) (ts : List Lexeme) (f o : Lexeme) (a b c d : List Lexeme) (i : Perhaps) (x y : Option Tree) (s : Statement) (from to : ℕ) (rest : List Lexeme)
+    for_again : (setting : Setting) (ts : List Lexeme) (f o : Lexeme) (a b c d : List Lexeme) (i : Perhaps) (x y : Option Tree) (s : Statement) (from to : ℕ) (rest : List Lexeme)
         → from ≡ from_of ts → to ≡ to_of ts → ts ≡ f ∷ o ∷ a ++ (b ++ (c ++ d)) → Is w.For f → Is w.Open o → IsInit E a i → IsEnded w.Semicolon (IsOptional E) b x
-        → IsEnded w.Close (IsOptional E) c y → P (last place) d s → Stops place rest → Stating ts (Stated (Fors i x y s) from to) rest
+        → IsEnded w.Close (IsOptional E) c y → P (last setting) d s → Stops setting rest → Stating ts (Stated (Fors i x y s) from to) rest
     unfolding stated counted
-    for_again place ts f o a b c d i x y s from to rest p q parts is iso ha hb hc hd stop =
+    for_again setting ts f o a b c d i x y s from to rest p q parts is iso ha hb hc hd stop =
         let whole : ts ++ rest ≡ f ∷ o ∷ (a ++ (b ++ (c ++ (d ++ rest)))) = ap (λ (z : List Lexeme). z ++ rest) parts
         ∙ ap (λ (z : List Lexeme). f ∷ o ∷ z) (four a b c d (a ++ (b ++ (c ++ d))) rest refl) in
-        let some_d = some m (last place) d s hd in
+        let some_d = some m (last setting) d s hd in
         reads_of D (stated read) (ts ++ rest) (f ∷ o ∷ (a ++ (b ++ (c ++ (d ++ rest))))) _ whole
         (rw is
         (reads_bind D (expect w.Open (o ∷ (a ++ (b ++ (c ++ (d ++ rest)))))) _ (o, a ++ (b ++ (c ++ (d ++ rest)))) _ (reads_expect D w.Open o (a ++ (b ++ (c ++ (d ++ rest)))) iso)
         (reads_bind D (start (a ++ (b ++ (c ++ (d ++ rest))))) _ (i, b ++ (c ++ (d ++ rest))) _ (start_again a i (b ++ (c ++ (d ++ rest))) ha)
         (reads_bind D (ended w.Semicolon (b ++ (c ++ (d ++ rest)))) _ ((x, to_of b), c ++ (d ++ rest)) _ (ended_again w.Semicolon refl refl refl b x (c ++ (d ++ rest)) hb)
         (reads_bind D (ended w.Close (c ++ (d ++ rest))) _ ((y, to_of c), d ++ rest) _ (ended_again w.Close refl refl refl c y (d ++ rest) hc)
-        (reads_bind D (read false (d ++ rest)) _ (s, rest) _ (last_again place d s rest hd stop)
+        (reads_bind D (read false (d ++ rest)) _ (s, rest) _ (last_again setting d s rest hd stop)
         (finish D (Fors i x y s) (Fors i x y s) f.from (end_of s) from to rest refl (sym (p ∙ ap from_of parts))
-        (statement_to limit m (last place) d s hd ∙ sym (to_of_append c d some_d) ∙ sym (to_of_append b (c ++ d) (omega (arith, some_d, length-append c d)))
+        (statement_to limit m (last setting) d s hd ∙ sym (to_of_append c d some_d) ∙ sym (to_of_append b (c ++ d) (omega (arith, some_d, length-append c d)))
         ∙ sym (to_of_append (f ∷ o ∷ a) (b ++ (c ++ d)) (omega (arith, some_d, length-append c d, length-append b (c ++ d)))) ∙ sym (q ∙ ap to_of parts)))))))))
 
     return_again : (ts : List Lexeme) (r : Lexeme) (b : List Lexeme) (x : Option Tree) (from to : ℕ) (rest : List Lexeme) → from ≡ from_of ts → to ≡ to_of ts → ts ≡ r ∷ b
@@ -449,7 +450,8 @@ module _ (limit : ℕ) (D : Type 0) (deep : nesting_limit < limit → D) where
         (reads_bind D (expect w.Semicolon (t.1 ∷ rest)) _ (t.1, rest) _ (reads_expect D w.Semicolon t.1 rest t.4)
         (finish D Breaks Breaks t.0.from t.1.to from to rest refl (sym (p ∙ ap from_of t.2)) (sym (q ∙ ap to_of t.2)))))
 
-    continue_again : (ts : List Lexeme) (from to : ℕ) (rest : List Lexeme) → from ≡ from_of ts → to ≡ to_of ts → terminals ts ≡ w.Continue ∷ w.Semicolon ∷ [] → Stating ts (Stated Continues from to) rest
+    continue_again : (ts : List Lexeme) (from to : ℕ) (rest : List Lexeme) → from ≡ from_of ts → to ≡ to_of ts → terminals ts ≡ w.Continue ∷ w.Semicolon ∷ []
+        → Stating ts (Stated Continues from to) rest
     unfolding stated short
     continue_again ts from to rest p q h =
         let t = two_tokens ts w.Continue w.Semicolon h in
@@ -504,87 +506,88 @@ module _ (limit : ℕ) (D : Type 0) (deep : nesting_limit < limit → D) where
   -- ---- all forms
 
   module _ (read : Bool → Reader Statement) (m : ℕ) (short_read : Shortening (read true) goes_on)
-      (again : (place : Place) (a : List Lexeme) (s : Statement) (rest : List Lexeme) → IsStatement limit m place a s → Stops place rest
-      → Reads D (read (may_declare place) (a ++ rest)) (s, rest)) where
+      (again : (setting : Setting) (a : List Lexeme) (s : Statement) (rest : List Lexeme) → IsStatement limit m setting a s → Stops setting rest
+      → Reads D (read (may_declare setting) (a ++ rest)) (s, rest)) where
     -- no declaration
     abbrev Spoken : Form → Type 0
     Spoken (Declares d) = ⊥
     Spoken _ = Unit {0}
 
-    stated_again : (place : Place) (ts : List Lexeme) (form : Form) (from to : ℕ) (rest : List Lexeme) → Spoken form → from ≡ from_of ts → to ≡ to_of ts
-        → IsForm E (IsStatement limit m) place ts form → Stops place rest → Reads D (stated read (ts ++ rest)) (Stated form from to, rest)
-    stated_again place ts (Block k) from to rest u p q (inner, e, h) stop = rw e (block_again read m short_read again ts inner from to rest p q h)
-    stated_again place ts (Declares d) from to rest u p q h stop = absurd u
-    stated_again place ts (Evaluates e) from to rest u p q h stop = expression_again read m short_read again ts e from to rest p q h
-    stated_again place ts Empties from to rest u p q h stop = empty_again read m short_read again ts from to rest p q h
-    stated_again place ts (Labels name mark s) from to rest u p q (n, k, b, parts, is, colon, e, g, h) stop =
-        rw (e, g) (label_again read m short_read again place ts n k b s from to rest p q parts is colon h stop)
-    stated_again place ts (Chooses e s nothing) from to rest u p q (i, a, b, parts, never, is, ha, hb) stop =
-        alone_again read m short_read again place ts i a b e s from to rest p q parts never is ha hb stop
-    stated_again place ts (Chooses e s (just o)) from to rest u p q (i, a, b, k, c, parts, is, ha, hb, isk, hc) stop =
-        both_again read m short_read again place ts i a b k c e s o from to rest p q parts is ha hb isk hc stop
-    stated_again place ts (Whiles e s) from to rest u p q (i, a, b, parts, is, ha, hb) stop = while_again read m short_read again place ts i a b e s from to rest p q parts is ha hb stop
-    stated_again place ts (Does s e) from to rest u p q (d, a, h, b, c, parts, is, ha, isw, hb, semi) stop = do_again read m short_read again ts d a h b c s e from to rest p q parts is ha isw hb semi
-    stated_again place ts (Fors i x y s) from to rest u p q (f, o, a, b, c, d, parts, is, iso, ha, hb, hc, hd) stop =
-        for_again read m short_read again place ts f o a b c d i x y s from to rest p q parts is iso ha hb hc hd stop
-    stated_again place ts Breaks from to rest u p q h stop = break_again read m short_read again ts from to rest p q h
-    stated_again place ts Continues from to rest u p q h stop = continue_again read m short_read again ts from to rest p q h
-    stated_again place ts (Returns x) from to rest u p q (r, b, parts, is, hb) stop = return_again read m short_read again ts r b x from to rest p q parts is hb
+    stated_again : (setting : Setting) (ts : List Lexeme) (form : Form) (from to : ℕ) (rest : List Lexeme) → Spoken form → from ≡ from_of ts → to ≡ to_of ts
+        → IsForm E (IsStatement limit m) setting ts form → Stops setting rest → Reads D (stated read (ts ++ rest)) (Stated form from to, rest)
+    stated_again setting ts (Block k) from to rest u p q (inner, e, h) stop = rw e (block_again read m short_read again ts inner from to rest p q h)
+    stated_again setting ts (Declares d) from to rest u p q h stop = absurd u
+    stated_again setting ts (Evaluates e) from to rest u p q h stop = expression_again read m short_read again ts e from to rest p q h
+    stated_again setting ts Empties from to rest u p q h stop = empty_again read m short_read again ts from to rest p q h
+    stated_again setting ts (Labels name mark s) from to rest u p q (n, k, b, parts, is, colon, e, g, h) stop =
+        rw (e, g) (label_again read m short_read again setting ts n k b s from to rest p q parts is colon h stop)
+    stated_again setting ts (Chooses e s nothing) from to rest u p q (i, a, b, parts, never, is, ha, hb) stop =
+        alone_again read m short_read again setting ts i a b e s from to rest p q parts never is ha hb stop
+    stated_again setting ts (Chooses e s (just o)) from to rest u p q (i, a, b, k, c, parts, is, ha, hb, isk, hc) stop =
+        both_again read m short_read again setting ts i a b k c e s o from to rest p q parts is ha hb isk hc stop
+    stated_again setting ts (Whiles e s) from to rest u p q (i, a, b, parts, is, ha, hb) stop = while_again read m short_read again setting ts i a b e s from to rest p q parts is ha hb stop
+    stated_again setting ts (Does s e) from to rest u p q (d, a, h, b, c, parts, is, ha, isw, hb, semi) stop =
+        do_again read m short_read again ts d a h b c s e from to rest p q parts is ha isw hb semi
+    stated_again setting ts (Fors i x y s) from to rest u p q (f, o, a, b, c, d, parts, is, iso, ha, hb, hc, hd) stop =
+        for_again read m short_read again setting ts f o a b c d i x y s from to rest p q parts is iso ha hb hc hd stop
+    stated_again setting ts Breaks from to rest u p q h stop = break_again read m short_read again ts from to rest p q h
+    stated_again setting ts Continues from to rest u p q h stop = continue_again read m short_read again ts from to rest p q h
+    stated_again setting ts (Returns x) from to rest u p q (r, b, parts, is, hb) stop = return_again read m short_read again ts r b x from to rest p q parts is hb
 
     -- none of the other forms begins as a declaration does
-    spoken_start : (place : Place) (ts : List Lexeme) (form : Form) (rest : List Lexeme) → Spoken form → IsForm E (IsStatement limit m) place ts form → declares (ts ++ rest) ≡ false
-    spoken_start place ts (Block k) rest u (inner, e, (o, b, c, parts, opens, closes, h)) = rw (parts, opens) refl
-    spoken_start place ts (Declares d) rest u h = absurd u
-    spoken_start place ts (Evaluates e) rest u h = no_declaration (ts ++ rest) (evaluated_start ts e rest h)
-    spoken_start place ts Empties rest u h = let p = one_token ts w.Semicolon h in rw (p.1, p.2) refl
-    spoken_start place ts (Labels n k s) rest u h = rw (h.3, h.4) refl
-    spoken_start place ts (Chooses e s nothing) rest u h = rw (h.3, h.5) refl
-    spoken_start place ts (Chooses e s (just o)) rest u h = rw (h.5, h.6) refl
-    spoken_start place ts (Whiles e s) rest u h = rw (h.3, h.4) refl
-    spoken_start place ts (Does s e) rest u h = rw (h.5, h.6) refl
-    spoken_start place ts (Fors x y z s) rest u h = rw (h.6, h.7) refl
-    spoken_start place ts Breaks rest u h = let p = two_tokens ts w.Break w.Semicolon h in rw (p.2, p.3) refl
-    spoken_start place ts Continues rest u h = let p = two_tokens ts w.Continue w.Semicolon h in rw (p.2, p.3) refl
-    spoken_start place ts (Returns e) rest u h = rw (h.2, h.3) refl
+    spoken_start : (setting : Setting) (ts : List Lexeme) (form : Form) (rest : List Lexeme) → Spoken form → IsForm E (IsStatement limit m) setting ts form → declares (ts ++ rest) ≡ false
+    spoken_start setting ts (Block k) rest u (inner, e, (o, b, c, parts, opens, closes, h)) = rw (parts, opens) refl
+    spoken_start setting ts (Declares d) rest u h = absurd u
+    spoken_start setting ts (Evaluates e) rest u h = no_declaration (ts ++ rest) (evaluated_start ts e rest h)
+    spoken_start setting ts Empties rest u h = let p = one_token ts w.Semicolon h in rw (p.1, p.2) refl
+    spoken_start setting ts (Labels n k s) rest u h = rw (h.3, h.4) refl
+    spoken_start setting ts (Chooses e s nothing) rest u h = rw (h.3, h.5) refl
+    spoken_start setting ts (Chooses e s (just o)) rest u h = rw (h.5, h.6) refl
+    spoken_start setting ts (Whiles e s) rest u h = rw (h.3, h.4) refl
+    spoken_start setting ts (Does s e) rest u h = rw (h.5, h.6) refl
+    spoken_start setting ts (Fors x y z s) rest u h = rw (h.6, h.7) refl
+    spoken_start setting ts Breaks rest u h = let p = two_tokens ts w.Break w.Semicolon h in rw (p.2, p.3) refl
+    spoken_start setting ts Continues rest u h = let p = two_tokens ts w.Continue w.Semicolon h in rw (p.2, p.3) refl
+    spoken_start setting ts (Returns e) rest u h = rw (h.2, h.3) refl
 
-    by_place : (place : Place) (ts : List Lexeme) (x : Statement × List Lexeme) → declares ts ≡ false → Reads D (stated read ts) x → Reads D (statement read (may_declare place) ts) x
+    by_setting : (setting : Setting) (ts : List Lexeme) (x : Statement × List Lexeme) → declares ts ≡ false → Reads D (stated read ts) x → Reads D (statement read (may_declare setting) ts) x
     unfolding statement
-    by_place InBlock ts x e h = reads_else D (declares ts) _ _ _ e h
-    by_place BeforeElse ts x e h = h
-    by_place Elsewhere ts x e h = h
+    by_setting InBlock ts x e h = reads_else D (declares ts) _ _ _ e h
+    by_setting BeforeElse ts x e h = h
+    by_setting Elsewhere ts x e h = h
 
-    spoken_again : (place : Place) (ts : List Lexeme) (form : Form) (from to : ℕ) (rest : List Lexeme) → Spoken form → from ≡ from_of ts → to ≡ to_of ts
-        → IsForm E (IsStatement limit m) place ts form → Stops place rest → Reads D (statement read (may_declare place) (ts ++ rest)) (Stated form from to, rest)
-    spoken_again place ts form from to rest u p q h stop =
-        by_place place (ts ++ rest) (Stated form from to, rest) (spoken_start place ts form rest u h) (stated_again place ts form from to rest u p q h stop)
+    spoken_again : (setting : Setting) (ts : List Lexeme) (form : Form) (from to : ℕ) (rest : List Lexeme) → Spoken form → from ≡ from_of ts → to ≡ to_of ts
+        → IsForm E (IsStatement limit m) setting ts form → Stops setting rest → Reads D (statement read (may_declare setting) (ts ++ rest)) (Stated form from to, rest)
+    spoken_again setting ts form from to rest u p q h stop =
+        by_setting setting (ts ++ rest) (Stated form from to, rest) (spoken_start setting ts form rest u h) (stated_again setting ts form from to rest u p q h stop)
 
-    in_block : (place : Place) → place ≡ InBlock → (ts : List Lexeme) (d : Declaration) (from to : ℕ) (rest : List Lexeme) → from ≡ from_of ts → to ≡ to_of ts
-        → IsDeclaration E ts d → Reads D (statement read (may_declare place) (ts ++ rest)) (Stated (Declares d) from to, rest)
+    in_block : (setting : Setting) → setting ≡ InBlock → (ts : List Lexeme) (d : Declaration) (from to : ℕ) (rest : List Lexeme) → from ≡ from_of ts → to ≡ to_of ts
+        → IsDeclaration E ts d → Reads D (statement read (may_declare setting) (ts ++ rest)) (Stated (Declares d) from to, rest)
     unfolding statement
-    in_block place e ts d from to rest p q h =
+    in_block setting e ts d from to rest p q h =
         rw e (reads_then D (declares (ts ++ rest)) _ _ _ (declares_next (ts ++ rest) (declaration_start ts d rest h)) (declared_again ts d from to rest p q h))
 
-    pub form_again : (place : Place) (ts : List Lexeme) (form : Form) (from to : ℕ) (rest : List Lexeme) → from ≡ from_of ts → to ≡ to_of ts
-        → IsForm E (IsStatement limit m) place ts form → Stops place rest → Reads D (statement read (may_declare place) (ts ++ rest)) (Stated form from to, rest)
-    form_again place ts (Declares d) from to rest p q (e, h) stop = in_block place e ts d from to rest p q h
-    form_again place ts (Block k) from to rest p q h stop = spoken_again place ts (Block k) from to rest tt p q h stop
-    form_again place ts (Evaluates e) from to rest p q h stop = spoken_again place ts (Evaluates e) from to rest tt p q h stop
-    form_again place ts Empties from to rest p q h stop = spoken_again place ts Empties from to rest tt p q h stop
-    form_again place ts (Labels n k s) from to rest p q h stop = spoken_again place ts (Labels n k s) from to rest tt p q h stop
-    form_again place ts (Chooses e s o) from to rest p q h stop = spoken_again place ts (Chooses e s o) from to rest tt p q h stop
-    form_again place ts (Whiles e s) from to rest p q h stop = spoken_again place ts (Whiles e s) from to rest tt p q h stop
-    form_again place ts (Does s e) from to rest p q h stop = spoken_again place ts (Does s e) from to rest tt p q h stop
-    form_again place ts (Fors x y z s) from to rest p q h stop = spoken_again place ts (Fors x y z s) from to rest tt p q h stop
-    form_again place ts Breaks from to rest p q h stop = spoken_again place ts Breaks from to rest tt p q h stop
-    form_again place ts Continues from to rest p q h stop = spoken_again place ts Continues from to rest tt p q h stop
-    form_again place ts (Returns x) from to rest p q h stop = spoken_again place ts (Returns x) from to rest tt p q h stop
+    pub form_again : (setting : Setting) (ts : List Lexeme) (form : Form) (from to : ℕ) (rest : List Lexeme) → from ≡ from_of ts → to ≡ to_of ts
+        → IsForm E (IsStatement limit m) setting ts form → Stops setting rest → Reads D (statement read (may_declare setting) (ts ++ rest)) (Stated form from to, rest)
+    form_again setting ts (Declares d) from to rest p q (e, h) stop = in_block setting e ts d from to rest p q h
+    form_again setting ts (Block k) from to rest p q h stop = spoken_again setting ts (Block k) from to rest tt p q h stop
+    form_again setting ts (Evaluates e) from to rest p q h stop = spoken_again setting ts (Evaluates e) from to rest tt p q h stop
+    form_again setting ts Empties from to rest p q h stop = spoken_again setting ts Empties from to rest tt p q h stop
+    form_again setting ts (Labels n k s) from to rest p q h stop = spoken_again setting ts (Labels n k s) from to rest tt p q h stop
+    form_again setting ts (Chooses e s o) from to rest p q h stop = spoken_again setting ts (Chooses e s o) from to rest tt p q h stop
+    form_again setting ts (Whiles e s) from to rest p q h stop = spoken_again setting ts (Whiles e s) from to rest tt p q h stop
+    form_again setting ts (Does s e) from to rest p q h stop = spoken_again setting ts (Does s e) from to rest tt p q h stop
+    form_again setting ts (Fors x y z s) from to rest p q h stop = spoken_again setting ts (Fors x y z s) from to rest tt p q h stop
+    form_again setting ts Breaks from to rest p q h stop = spoken_again setting ts Breaks from to rest tt p q h stop
+    form_again setting ts Continues from to rest p q h stop = spoken_again setting ts Continues from to rest tt p q h stop
+    form_again setting ts (Returns x) from to rest p q h stop = spoken_again setting ts (Returns x) from to rest tt p q h stop
 
   -- ---- statements
 
-  pub read_statement_again : (k m : ℕ) → (k < m → D) → (place : Place) (a : List Lexeme) (s : Statement) (rest : List Lexeme) → IsStatement limit m place a s → Stops place rest
-      → Reads D (read_statement k (may_declare place) (a ++ rest)) (s, rest)
+  pub read_statement_again : (k m : ℕ) → (k < m → D) → (setting : Setting) (a : List Lexeme) (s : Statement) (rest : List Lexeme) → IsStatement limit m setting a s → Stops setting rest
+      → Reads D (read_statement k (may_declare setting) (a ++ rest)) (s, rest)
   unfolding read_statement
-  read_statement_again k zero low place a s rest h stop = absurd h
-  read_statement_again zero (suc m) low place a s rest h stop = inr (low (omega arith), refl)
-  read_statement_again (suc k) (suc m) low place a (Stated form from to) rest (p, q, h) stop =
-      form_again (read_statement k) m (read_shortens k) (read_statement_again k m (λ lt. low (omega (arith, lt)))) place a form from to rest p q h stop
+  read_statement_again k zero low setting a s rest h stop = absurd h
+  read_statement_again zero (suc m) low setting a s rest h stop = inr (low (omega arith), refl)
+  read_statement_again (suc k) (suc m) low setting a (Stated form from to) rest (p, q, h) stop =
+      form_again (read_statement k) m (read_shortens k) (read_statement_again k m (λ lt. low (omega (arith, lt)))) setting a form from to rest p q h stop

@@ -11,7 +11,7 @@ use Rattle.cw_grammar.specs.Lexemes.{Is, terminals, from_of, to_of, IsOptional, 
 use Rattle.cw_grammar.specs.Expressions.{nesting_limit}
 use Rattle.cw_grammar.proofs.SameTerminal.{is_plain}
 use Rattle.cw_grammar.specs.Declarations.{IsDeclaration}
-use Rattle.cw_grammar.specs.Statements.{Place, InBlock, BeforeElse, Elsewhere, last, IsTest, IsInit, IsForm, IsStatement}
+use Rattle.cw_grammar.specs.Statements.{Setting, InBlock, BeforeElse, Elsewhere, last, IsTest, IsInit, IsForm, IsStatement}
 use Rattle.cw_expressions.specs.Cursor.{begins, after, first, expect}
 use Rattle.cw_expressions.specs.Next.{next_expression}
 use Rattle.cw_expressions.proofs.Steps.{if_bind, if_cond, first_takes, expect_takes, begins_takes, from_of_append, to_of_cons, to_of_append}
@@ -72,7 +72,7 @@ declared_sound ts =
 
 -- an expression, as the first part of a `for`, and as a statement
 abbrev pub IsEvaluated : List Lexeme → Statement → Type 0
-IsEvaluated ts s = (0 < length ts) × IsInit Allowed ts (just s) × ((n : ℕ) (place : Place) → IsStatement nesting_limit (suc n) place ts s)
+IsEvaluated ts s = (0 < length ts) × IsInit Allowed ts (just s) × ((n : ℕ) (setting : Setting) → IsStatement nesting_limit (suc n) setting ts s)
 
 pub evaluated_sound : (ts : List Lexeme) → IfOk (evaluated ts) (Took IsEvaluated ts)
 unfolding evaluated
@@ -86,7 +86,7 @@ evaluated_sound ts =
     let from : t.0.from ≡ from_of whole = sym (ap from_of p) ∙ ap from_of parts ∙ from_of_append whole s.1 some in
     let to : s.0.to ≡ to_of whole = sym (to_of_append f.0 (s.0 ∷ []) (omega arith)) in
     let ends : IsEnded w.Semicolon Allowed whole e.0 = (f.0, s.0, refl, q.1, f.2) in
-    (whole, parts, (some, (from, to, ends), λ n place. (from, to, ends))))))
+    (whole, parts, (some, (from, to, ends), λ n setting. (from, to, ends))))))
 
 pub start_sound : (ts : List Lexeme) → IfOk (start ts) (Took (IsInit Allowed) ts)
 unfolding start
@@ -101,49 +101,49 @@ start_sound ts =
 -- ---- statements
 
 -- where a statement may stand that was read as one that may be a declaration, or as one that may not
-abbrev pub Fits : Bool → Place → Type 0
-Fits true place = place ≡ InBlock
-Fits false place = Unit {0}
+abbrev pub Fits : Bool → Setting → Type 0
+Fits true setting = setting ≡ InBlock
+Fits false setting = Unit {0}
 
 -- what follows a statement in this place
-abbrev pub Follows : Place → List Lexeme → Type 0
+abbrev pub Follows : Setting → List Lexeme → Type 0
 Follows InBlock rest = Unit {0}
 Follows BeforeElse rest = begins w.Else rest ≡ true
 Follows Elsewhere rest = Unit {0}
 
 abbrev pub Stating : ℕ → Bool → List Lexeme → Statement × List Lexeme → Type 0
-Stating n flag ts x = (a : List Lexeme) × (ts ≡ a ++ x.1) × (0 < length a) × ((place : Place) → Fits flag place → Follows place x.1 → IsStatement nesting_limit n place a x.0)
+Stating n flag ts x = (a : List Lexeme) × (ts ≡ a ++ x.1) × (0 < length a) × ((setting : Setting) → Fits flag setting → Follows setting x.1 → IsStatement nesting_limit n setting a x.0)
 
-follows_last : (place : Place) (rest : List Lexeme) → Follows place rest → Follows (last place) rest
+follows_last : (setting : Setting) (rest : List Lexeme) → Follows setting rest → Follows (last setting) rest
 follows_last InBlock rest h = tt
 follows_last BeforeElse rest h = h
 follows_last Elsewhere rest h = tt
 
-not_before : (place : Place) (rest : List Lexeme) → begins w.Else rest ≡ false → Follows place rest → place ≢ BeforeElse
-not_before InBlock rest e h same_place = absurd (cc)
-not_before BeforeElse rest e h same_place = false≢true (sym e ∙ h)
-not_before Elsewhere rest e h same_place = absurd (cc)
+not_before : (setting : Setting) (rest : List Lexeme) → begins w.Else rest ≡ false → Follows setting rest → setting ≢ BeforeElse
+not_before InBlock rest e h same_setting = absurd (cc)
+not_before BeforeElse rest e h same_setting = false≢true (sym e ∙ h)
+not_before Elsewhere rest e h same_setting = absurd (cc)
 
-statement_to : (n : ℕ) (place : Place) (ts : List Lexeme) (s : Statement) → IsStatement nesting_limit n place ts s → end_of s ≡ to_of ts
-statement_to zero place ts s h = absurd h
-statement_to (suc n) place ts (Stated form from to) h = h.1
+statement_to : (n : ℕ) (setting : Setting) (ts : List Lexeme) (s : Statement) → IsStatement nesting_limit n setting ts s → end_of s ≡ to_of ts
+statement_to zero setting ts s h = absurd h
+statement_to (suc n) setting ts (Stated form from to) h = h.1
 
 pub short_sound : (n : ℕ) (terminal : Terminal) (form : Form) (t : Lexeme) (ts : List Lexeme) → Is terminal t
-    → ((place : Place) (c : Lexeme) → Is w.Semicolon c → IsForm Allowed (IsStatement nesting_limit n) place (t ∷ c ∷ []) form) → IfOk (short form t ts) (Stating (suc n) false (t ∷ ts))
+    → ((setting : Setting) (c : Lexeme) → Is w.Semicolon c → IsForm Allowed (IsStatement nesting_limit n) setting (t ∷ c ∷ []) form) → IfOk (short form t ts) (Stating (suc n) false (t ∷ ts))
 unfolding short
 short_sound n terminal form t ts is h =
     if_bind (expect w.Semicolon ts) _ _ _ (expect_takes w.Semicolon refl ts) (λ s q.
-    (t ∷ s.0 ∷ [], ap (λ (z : List Lexeme). t ∷ z) q.0, omega arith, λ place fits follows. (refl, refl, h place s.0 q.1)))
+    (t ∷ s.0 ∷ [], ap (λ (z : List Lexeme). t ∷ z) q.0, omega arith, λ setting fits follows. (refl, refl, h setting s.0 q.1)))
 
 returned_sound : (n : ℕ) (t : Lexeme) (ts : List Lexeme) → Is w.Return t → IfOk (returned t ts) (Stating (suc n) false (t ∷ ts))
 unfolding returned
 returned_sound n t ts is =
     if_bind (ended w.Semicolon ts) _ _ _ (ended_sound w.Semicolon refl ts) (λ e f.
-    (t ∷ f.0, ap (λ (z : List Lexeme). t ∷ z) f.1, omega arith, λ place fits follows. (refl, f.2.2 ∙ sym (to_of_cons t f.0 f.2.0), (t, f.0, refl, is, f.2.1))))
+    (t ∷ f.0, ap (λ (z : List Lexeme). t ∷ z) f.1, omega arith, λ setting fits follows. (refl, f.2.2 ∙ sym (to_of_cons t f.0 f.2.0), (t, f.0, refl, is, f.2.1))))
 
 module _ (n : ℕ) (read : Bool → Reader Statement) (h : (flag : Bool) (ts : List Lexeme) → IfOk (read flag ts) (Stating n flag ts)) where
-  abbrev P : Place → List Lexeme → Statement → Type 0
-  P place ts s = IsStatement nesting_limit n place ts s
+  abbrev P : Setting → List Lexeme → Statement → Type 0
+  P setting ts s = IsStatement nesting_limit n setting ts s
 
   inner_sound : (ts : List Lexeme) → goes_on ts ≡ true → IfOk (read true ts) (Took (P InBlock) ts)
   inner_sound ts go = IfOk-weaker (read true ts) _ _ (λ x f. (f.0, f.1, f.3 InBlock refl tt)) (h true ts)
@@ -162,7 +162,7 @@ module _ (n : ℕ) (read : Bool → Reader Statement) (h : (flag : Bool) (ts : L
         t ∷ f.0 ++ c.0 ∷ [],
         ap (λ (z : List Lexeme). t ∷ z) (joined ts f.0 ss.1 (c.0 ∷ []) c.1 f.1 q.0),
         omega arith,
-        λ place fits follows. (refl, sym (to_of_append (t ∷ f.0) (c.0 ∷ []) (omega arith)), (ss.0, refl, (t, f.0, c.0, refl, is, q.1, f.2))),
+        λ setting fits follows. (refl, sym (to_of_append (t ∷ f.0) (c.0 ∷ []) (omega arith)), (ss.0, refl, (t, f.0, c.0, refl, is, q.1, f.2))),
       )))
 
   labelled_sound : (t : Lexeme) (ts : List Lexeme) → Is w.Name t → IfOk (labelled read t ts) (Stating (suc n) false (t ∷ ts))
@@ -175,15 +175,15 @@ module _ (n : ℕ) (read : Bool → Reader Statement) (h : (flag : Bool) (ts : L
         t ∷ k.0 ∷ f.0,
         ap (λ (z : List Lexeme). t ∷ z) (q.0 ∙ ap (λ (z : List Lexeme). k.0 ∷ z) f.1),
         omega arith,
-        λ place fits follows. (refl, to, (t, k.0, f.0, refl, is, q.1, refl, refl, f.3 (last place) tt (follows_last place s.1 follows))),
+        λ setting fits follows. (refl, to, (t, k.0, f.0, refl, is, q.1, refl, refl, f.3 (last setting) tt (follows_last setting s.1 follows))),
       )))
 
   -- the end of a whole is the end of the statement that ends it
-  whole_to : (a : List Lexeme) (s : Statement) (b rest : List Lexeme) → 0 < length b → ((place : Place) → Fits false place → Follows place rest → P place b s) → end_of s ≡ to_of (a ++ b)
+  whole_to : (a : List Lexeme) (s : Statement) (b rest : List Lexeme) → 0 < length b → ((setting : Setting) → Fits false setting → Follows setting rest → P setting b s) → end_of s ≡ to_of (a ++ b)
   whole_to a s b rest some f = statement_to n Elsewhere b s (f Elsewhere tt tt) ∙ sym (to_of_append a b some)
 
   chosen_sound : (t : Lexeme) (e : Tree) (s : Statement) (a b ts : List Lexeme) → Is w.If t → IsTest Allowed a e → 0 < length b
-      → ((place : Place) → Fits false place → Follows place ts → P place b s) → IfOk (chosen read t e s ts) (Stating (suc n) false (t ∷ (a ++ (b ++ ts))))
+      → ((setting : Setting) → Fits false setting → Follows setting ts → P setting b s) → IfOk (chosen read t e s ts) (Stating (suc n) false (t ∷ (a ++ (b ++ ts))))
   unfolding chosen
   chosen_sound t e s a b ts is ha some f =
       if_cond (begins w.Else ts) _ _ _
@@ -199,13 +199,13 @@ module _ (n : ℕ) (read : Bool → Reader Statement) (h : (flag : Bool) (ts : L
         t ∷ (a ++ (b ++ c)),
         ap (λ (z : List Lexeme). t ∷ z) parts,
         omega arith,
-        λ place fits follows. (refl, to, (t, a, b, k.0, g.0, refl, is, ha, f BeforeElse tt go, k.2, g.3 (last place) tt (follows_last place o.1 follows))),
+        λ setting fits follows. (refl, to, (t, a, b, k.0, g.0, refl, is, ha, f BeforeElse tt go, k.2, g.3 (last setting) tt (follows_last setting o.1 follows))),
       )))
       (λ stay. (
         t ∷ (a ++ b),
         ap (λ (z : List Lexeme). t ∷ z) (sym (append_assoc a b ts)),
         omega arith,
-        λ place fits follows. (refl, whole_to (t ∷ a) s b ts some f, (t, a, b, refl, not_before place ts stay follows, is, ha, f Elsewhere tt tt)),
+        λ setting fits follows. (refl, whole_to (t ∷ a) s b ts some f, (t, a, b, refl, not_before setting ts stay follows, is, ha, f Elsewhere tt tt)),
       ))
 
   stating_of : (x y : List Lexeme) (r : Read Statement) → x ≡ y → IfOk r (Stating (suc n) false y) → IfOk r (Stating (suc n) false x)
@@ -227,7 +227,7 @@ module _ (n : ℕ) (read : Bool → Reader Statement) (h : (flag : Bool) (ts : L
         t ∷ (p.0 ++ f.0),
         ap (λ (z : List Lexeme). t ∷ z) (joined ts p.0 e.1 f.0 s.1 p.1 f.1),
         omega arith,
-        λ place fits follows. (refl, whole_to (t ∷ p.0) s.0 f.0 s.1 f.2 f.3, (t, p.0, f.0, refl, is, p.2, f.3 (last place) tt (follows_last place s.1 follows))),
+        λ setting fits follows. (refl, whole_to (t ∷ p.0) s.0 f.0 s.1 f.2 f.3, (t, p.0, f.0, refl, is, p.2, f.3 (last setting) tt (follows_last setting s.1 follows))),
       )))
 
   done_sound : (t : Lexeme) (ts : List Lexeme) → Is w.Do t → IfOk (done read t ts) (Stating (suc n) false (t ∷ ts))
@@ -243,7 +243,7 @@ module _ (n : ℕ) (read : Bool → Reader Statement) (h : (flag : Bool) (ts : L
         t ∷ (f.0 ++ tail),
         ap (λ (z : List Lexeme). t ∷ z) (joined ts f.0 s.1 tail c.1 f.1 behind),
         omega arith,
-        λ place fits follows. (refl, to, (t, f.0, k.0, p.0, c.0, refl, is, f.3 Elsewhere tt tt, q.1, p.2, r.1)),
+        λ setting fits follows. (refl, to, (t, f.0, k.0, p.0, c.0, refl, is, f.3 Elsewhere tt tt, q.1, p.2, r.1)),
       )))))
 
   counted_sound : (t : Lexeme) (ts : List Lexeme) → Is w.For t → IfOk (counted read t ts) (Stating (suc n) false (t ∷ ts))
@@ -263,11 +263,11 @@ module _ (n : ℕ) (read : Bool → Reader Statement) (h : (flag : Bool) (ts : L
         t ∷ o.0 ∷ (a.0 ++ inner),
         ap (λ (z : List Lexeme). t ∷ z) (q.0 ∙ ap (λ (z : List Lexeme). o.0 ∷ z) behind),
         omega arith,
-        λ place fits follows. (refl, to, (t, o.0, a.0, b.0, c.0, d.0, refl, is, q.1, a.2, b.2.1, c.2.1, d.3 (last place) tt (follows_last place s.1 follows))),
+        λ setting fits follows. (refl, to, (t, o.0, a.0, b.0, c.0, d.0, refl, is, q.1, a.2, b.2.1, c.2.1, d.3 (last setting) tt (follows_last setting s.1 follows))),
       ))))))
 
   evaluated_stating : (ts : List Lexeme) → IfOk (evaluated ts) (Stating (suc n) false ts)
-  evaluated_stating ts = IfOk-weaker (evaluated ts) _ _ (λ x f. (f.0, f.1, f.2.0, λ place fits follows. f.2.2 n place)) (evaluated_sound ts)
+  evaluated_stating ts = IfOk-weaker (evaluated ts) _ _ (λ x f. (f.0, f.1, f.2.0, λ setting fits follows. f.2.2 n setting)) (evaluated_sound ts)
 
   stated_by : (t : Lexeme) (ts : List Lexeme) (terminal : Terminal) → Is terminal t
       → IfOk (elim terminal as (λ z. Read Statement) [
@@ -286,13 +286,13 @@ module _ (n : ℕ) (read : Bool → Reader Statement) (h : (flag : Bool) (ts : L
       ])
       (Stating (suc n) false (t ∷ ts))
   stated_by t ts w.OpenBrace is = block_sound t ts is
-  stated_by t ts w.Semicolon is = (t ∷ [], refl, omega arith, λ place fits follows. (refl, refl, one w.Semicolon t is))
+  stated_by t ts w.Semicolon is = (t ∷ [], refl, omega arith, λ setting fits follows. (refl, refl, one w.Semicolon t is))
   stated_by t ts w.If is = branched_sound t ts is
   stated_by t ts w.While is = looped_sound t ts is
   stated_by t ts w.Do is = done_sound t ts is
   stated_by t ts w.For is = counted_sound t ts is
-  stated_by t ts w.Break is = short_sound n w.Break Breaks t ts is (λ place c semi. pair_terminals w.Break w.Semicolon t c is semi)
-  stated_by t ts w.Continue is = short_sound n w.Continue Continues t ts is (λ place c semi. pair_terminals w.Continue w.Semicolon t c is semi)
+  stated_by t ts w.Break is = short_sound n w.Break Breaks t ts is (λ setting c semi. pair_terminals w.Break w.Semicolon t c is semi)
+  stated_by t ts w.Continue is = short_sound n w.Continue Continues t ts is (λ setting c semi. pair_terminals w.Continue w.Semicolon t c is semi)
   stated_by t ts w.Return is = returned_sound n t ts is
   stated_by t ts w.Name is = if_cond (begins w.Colon ts) _ _ _ (λ e. labelled_sound t ts is) (λ e. evaluated_stating (t ∷ ts))
   stated_by t ts _ is = evaluated_stating (t ∷ ts)
@@ -307,10 +307,10 @@ module _ (n : ℕ) (read : Bool → Reader Statement) (h : (flag : Bool) (ts : L
   statement_sound false ts = stated_sound ts
   statement_sound true ts =
       if_cond (declares ts) _ _ _
-      (λ e. IfOk-weaker (declared ts) _ _ (λ x f. (f.0, f.1, f.2.0, λ place fits follows. in_block place f.0 x.0 fits (f.2.2 n))) (declared_sound ts))
-      (λ e. IfOk-weaker (stated read ts) _ _ (λ x f. (f.0, f.1, f.2, λ place fits follows. f.3 place tt follows)) (stated_sound ts)) where
-        in_block : (place : Place) (a : List Lexeme) (s : Statement) → place ≡ InBlock → IsStatement nesting_limit (suc n) InBlock a s → IsStatement nesting_limit (suc n) place a s
-        in_block place a s e g = rw e g
+      (λ e. IfOk-weaker (declared ts) _ _ (λ x f. (f.0, f.1, f.2.0, λ setting fits follows. in_block setting f.0 x.0 fits (f.2.2 n))) (declared_sound ts))
+      (λ e. IfOk-weaker (stated read ts) _ _ (λ x f. (f.0, f.1, f.2, λ setting fits follows. f.3 setting tt follows)) (stated_sound ts)) where
+        in_block : (setting : Setting) (a : List Lexeme) (s : Statement) → setting ≡ InBlock → IsStatement nesting_limit (suc n) InBlock a s → IsStatement nesting_limit (suc n) setting a s
+        in_block setting a s e g = rw e g
 
 pub read_sound : (n : ℕ) (flag : Bool) (ts : List Lexeme) → IfOk (read_statement n flag ts) (Stating n flag ts)
 unfolding read_statement

@@ -17,26 +17,26 @@ use cw_rights::Policy;
 use cw_source::put_place_line;
 use cw_stages::over;
 
-/// The refusal of the policy whose line is some words and the detached name with this number.
-fn named<O: Sink, N: Sink>(words: &[u8], policy: &Policy, index: u16, note: &mut N) -> Outcome<O, N>
-    ensures due { due_of result ≡ Refused Cause.Policy (words.now ++ name_in (policy_of policy.now).detached index) }
+/// The refusal of the policy whose line is a front and the detached name with this number.
+fn named<O: Sink, N: Sink>(front: &[u8], policy: &Policy, index: u16, note: &mut N) -> Outcome<O, N>
+    ensures due { due_of result ≡ Refused Cause.Policy (front.now ++ name_in (policy_of policy.now).detached index) }
     ensures refused { IsRefused result }
     ensures notes { BeginsLine N.taken N.faults N.refused note.old note.new result }
 {
     let mut line = Writer::begin(note);
-    line.put(words, note);
+    line.put(front, note);
     line.put(name_in(&policy.detached, usize::from(index)), note);
     Outcome::Refused(Cause::Policy, line)
 }
 
-/// The refusal of the source whose line is a place of it and some words.
-fn placed<O: Sink, N: Sink>(source: &[u8], at: u32, words: &str, note: &mut N) -> Outcome<O, N>
-    ensures due { due_of result ≡ Refused Cause.Source (at_place source.now at words.now) }
+/// The refusal of the source whose line is a place of it and a reason.
+fn placed<O: Sink, N: Sink>(source: &[u8], at: u32, reason: &str, note: &mut N) -> Outcome<O, N>
+    ensures due { due_of result ≡ Refused Cause.Source (at_place source.now at reason.now) }
     ensures refused { IsRefused result }
     ensures notes { BeginsLine N.taken N.faults N.refused note.old note.new result }
 {
     let mut line = Writer::begin(note);
-    put_place_line(source, at, words, &mut line, note);
+    put_place_line(source, at, reason, &mut line, note);
     Outcome::Refused(Cause::Source, line)
 }
 

@@ -30,8 +30,7 @@ follows_one (Go move row) state at next other tape rest more by by2 f g = (f.0 �
 follows_one (Into callee backs) state at next other tape rest more by by2 f g = (f.0 ∙ sym g.0, f.1 ∙ sym g.1, f.2 ∙ sym g.2, f.3 ∙ sym g.3)
 follows_one Out state at next other tape rest more by by2 f g =
     let e : f.4.0 ∷ next.waiting ≡ g.4.0 ∷ other.waiting = sym f.4.1 ∙ g.4.1 in
-    let first = cons_head f.4.0 g.4.0 next.waiting other.waiting e in
-    (
+    let first = cons_head f.4.0 g.4.0 next.waiting other.waiting e in (
       f.0 ∙ sym g.0,
       f.1 ∙ sym g.1,
       same_Some next.row other.row (sym f.4.2 ∙ ap (λ (backs : List (ℕ × ℕ)). back_of backs state) first ∙ g.4.2),

@@ -56,14 +56,14 @@ abbrev pub path_text : Path → List ℕ
 path_text path = key_part (section_of path.array) path.index path.key ++ item_text path.item
 
 abbrev pub at_path : List ℕ → Path → List ℕ
-at_path word path = word ++ path_text path
+at_path reason path = reason ++ path_text path
 
 -- an expression that is refused
 unfoldable pub rule_text : ℕ → List ℕ
 rule_text index = codes "policy: regex rule" ++ in_brackets index
 
 abbrev pub refused : ℕ → List ℕ → ℕ → List ℕ
-refused index word at = rule_text index ++ word ++ decimal at
+refused index reason at = rule_text index ++ reason ++ decimal at
 
 abbrev pub regex_text : ℕ → RegexFault → List ℕ
 regex_text index (At' at) = refused index (codes " at ") at

@@ -151,7 +151,7 @@ pub fn put_path<S: Sink>(path: Path, line: &mut Writer<S>, out: &mut S)
     put_item(path.item, line, out);
 }
 
-/// Appends the words for the expression of the rule with this number.
+/// Appends which expression is meant: that of the rule with this number.
 fn put_rule<S: Sink>(index: u32, line: &mut Writer<S>, out: &mut S)
     requires follows { Follows S.taken S.faults S.refused line.old out.old }
     ensures text { line.new.text ≡ line.old.text ++ spec.rule_text index }
@@ -163,14 +163,14 @@ fn put_rule<S: Sink>(index: u32, line: &mut Writer<S>, out: &mut S)
 }
 
 /// The same, with what is refused and its offset in the expression, in bytes.
-fn put_refused<S: Sink>(index: u32, word: &str, at: u32, line: &mut Writer<S>, out: &mut S)
+fn put_refused<S: Sink>(index: u32, reason: &str, at: u32, line: &mut Writer<S>, out: &mut S)
     requires follows { Follows S.taken S.faults S.refused line.old out.old }
-    ensures text { line.new.text ≡ line.old.text ++ spec.refused index word.now at }
+    ensures text { line.new.text ≡ line.old.text ++ spec.refused index reason.now at }
     ensures begun { line.new.begun ≡ line.old.begun }
     ensures follows { Follows S.taken S.faults S.refused line.new out.new }
 {
     put_rule(index, line, out);
-    put(word, line, out);
+    put(reason, line, out);
     line.put_number(u64::from(at), out);
 }
 
@@ -191,13 +191,13 @@ fn put_regex<S: Sink>(index: u32, fault: &RegexFault, line: &mut Writer<S>, out:
 }
 
 /// Appends what is wrong and where.
-fn put_at<S: Sink>(word: &str, path: Path, line: &mut Writer<S>, out: &mut S)
+fn put_at<S: Sink>(reason: &str, path: Path, line: &mut Writer<S>, out: &mut S)
     requires follows { Follows S.taken S.faults S.refused line.old out.old }
-    ensures text { line.new.text ≡ line.old.text ++ spec.at_path word.now path }
+    ensures text { line.new.text ≡ line.old.text ++ spec.at_path reason.now path }
     ensures begun { line.new.begun ≡ line.old.begun }
     ensures follows { Follows S.taken S.faults S.refused line.new out.new }
 {
-    put(word, line, out);
+    put(reason, line, out);
     put_path(path, line, out);
 }
 

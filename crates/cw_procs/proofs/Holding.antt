@@ -57,7 +57,8 @@ module _ (plan : Plan) (g : Game) where
   are_push links (q ∷ ps) [] p s a h = absurd a
   are_push links (q ∷ ps) (x ∷ w) p s a h = (a.0, are_push links ps w p s a.1 h)
 
-  pub landing_kept : (links more : List Link) (s : State) (calls : Option ℕ) (landing : Option Here) → AreKept links more → LandingIs plan g links s calls landing → LandingIs plan g more s calls landing
+  pub landing_kept : (links more : List Link) (s : State) (calls : Option ℕ) (landing : Option Here) → AreKept links more
+      → LandingIs plan g links s calls landing → LandingIs plan g more s calls landing
   landing_kept links more s calls (Some h) kept (waits, stack, sits, env) = (waits, kept calls waits stack, sits, env)
   landing_kept links more s calls None kept e = e
 

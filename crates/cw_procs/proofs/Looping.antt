@@ -103,7 +103,7 @@ fork_told g forks ((i ∷ is) ∷ frames) kept caps word phase p q rets item h e
 module _ (h : Held) (source : List ℕ) (file : File) (t : Table) (names : Names) (flags : List Bool) (valid : IsValid (policy_of h.states.policy))
     (lists : AreLists (uses_of (policy_of h.states.policy) h.graph.nodes.items) (lists_of h.states)) (drawn : IsGraph (names_of (policy_of h.states.policy)) source file h.graph)
     (run : IsRunnable (plan_of (names_of (policy_of h.states.policy)) source file)) (assigns : AssignsNames source file) (good : IsGoodTable (game_of h) t)
-    (marked : flags ≡ map (is_fork_item (fork_places source file)) (points (plan_of (names_of (policy_of h.states.policy)) source file))) where
+    (flags_are : flags ≡ map (is_fork_item (fork_places source file)) (points (plan_of (names_of (policy_of h.states.policy)) source file))) where
   abbrev policy : PlainPolicy
   policy = policy_of h.states.policy
 
@@ -143,14 +143,14 @@ module _ (h : Held) (source : List ℕ) (file : File) (t : Table) (names : Names
       let e = one_point h.graph policy p k.1.point point k.1.within w in
       let is : slice_get (points plan) point ≡ Some k.0 = ap (slice_get (points plan)) (sym e) ∙ k.1.is in
       let lt = slice_get_within (points plan) point k.0 is in
-      subst (λ n. point < n) (sym (length-map (points plan) (is_fork_item forks)) ∙ ap (λ (l : List Bool). length l) (sym marked)) lt
+      subst (λ n. point < n) (sym (length-map (points plan) (is_fork_item forks)) ∙ ap (λ (l : List Bool). length l) (sym flags_are)) lt
 
-  -- the flag of a place tells whether the board there is at a fork
+  -- the flag of a landing tells whether the board there is at a fork
   flagged : (s : State) (here : Here) (waits : List Wait) (b : Bool) → Sits plan g s here waits → IsFlag h flags here b → at_fork forks s.board ≡ b
   flagged s here waits b sits (point, within, is) =
       let w : IsOfPoint h.graph policy here.pos point = record { there = within.there; begun = within.begun; before = within.before } in
       let k = fronts_are_of_points policy source file h.graph g drawn run on (is_fork_item forks) s.board (config_of here waits) point b sits.goes w
-      (ap (λ (l : List Bool). slice_get l point) (sym marked) ∙ is) in
+      (ap (λ (l : List Bool). slice_get l point) (sym flags_are) ∙ is) in
       fork_told g forks s.board.stack s.board.kept s.board.caps s.board.word s.board.phase here.pos here.state (map ret_of waits) k.0 sits.stands k.1 ∙ k.2
 
   abbrev Kept : List Entry → List Process → List Link → List ℕ → List ℕ → Type 0

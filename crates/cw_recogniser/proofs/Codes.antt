@@ -14,16 +14,17 @@ onto_either : (x y : Next) (a : List Symbol) → onto (either x y) a ≡ either 
 onto_either None y a = refl
 onto_either (Some new) y a = refl
 
-pub opened_is : (kind : TerminalKind) → after s.Opened kind ≡ either (onto (qualified kind) (s.TwoStars ∷ s.Close ∷ s.Operand ∷ s.Tail false ∷ []))
+pub after_open_is : (kind : TerminalKind) → after s.AfterOpen kind ≡ either (onto (qualified kind) (s.TwoStars ∷ s.Close ∷ s.Operand ∷ s.Tail false ∷ []))
     (onto (expression kind) (s.Close ∷ s.Suffixes ∷ s.Tail true ∷ []))
-opened_is kind = ap (λ (z : Next). either z (onto (expression kind) (s.Close ∷ s.Suffixes ∷ s.Tail true ∷ [])))
+after_open_is kind = ap (λ (z : Next). either z (onto (expression kind) (s.Close ∷ s.Suffixes ∷ s.Tail true ∷ [])))
     (onto_onto (qualified kind) (s.TwoStars ∷ []) (s.Close ∷ s.Operand ∷ s.Tail false ∷ []))
 
-pub opened_operand_is : (kind : TerminalKind) → after s.OpenedOperand kind ≡ either (onto (qualified kind) (s.TwoStars ∷ s.Close ∷ s.Operand ∷ [])) (onto (expression kind) (s.Close ∷ s.Suffixes ∷ []))
-opened_operand_is kind = ap (λ (z : Next). either z (onto (expression kind) (s.Close ∷ s.Suffixes ∷ []))) (onto_onto (qualified kind) (s.TwoStars ∷ []) (s.Close ∷ s.Operand ∷ []))
+pub after_open_operand_is : (kind : TerminalKind)
+    → after s.AfterOpenOperand kind ≡ either (onto (qualified kind) (s.TwoStars ∷ s.Close ∷ s.Operand ∷ [])) (onto (expression kind) (s.Close ∷ s.Suffixes ∷ []))
+after_open_operand_is kind = ap (λ (z : Next). either z (onto (expression kind) (s.Close ∷ s.Suffixes ∷ []))) (onto_onto (qualified kind) (s.TwoStars ∷ []) (s.Close ∷ s.Operand ∷ []))
 
-pub opened_measured_is : (kind : TerminalKind) → after s.OpenedMeasured kind ≡ either (onto (qualified kind) (s.TwoStars ∷ s.Close ∷ [])) (onto (expression kind) (s.Close ∷ s.Suffixes ∷ []))
-opened_measured_is kind = ap (λ (z : Next). either z (onto (expression kind) (s.Close ∷ s.Suffixes ∷ []))) (onto_onto (qualified kind) (s.TwoStars ∷ []) (s.Close ∷ []))
+pub after_open_measured_is : (kind : TerminalKind) → after s.AfterOpenMeasured kind ≡ either (onto (qualified kind) (s.TwoStars ∷ s.Close ∷ [])) (onto (expression kind) (s.Close ∷ s.Suffixes ∷ []))
+after_open_measured_is kind = ap (λ (z : Next). either z (onto (expression kind) (s.Close ∷ s.Suffixes ∷ []))) (onto_onto (qualified kind) (s.TwoStars ∷ []) (s.Close ∷ []))
 
 pub param_is : (named : Bool) (kind : TerminalKind) → after (s.Param named) kind ≡ onto (qualified kind) (s.TwoStars ∷ s.AfterType named ∷ [])
 param_is named kind = onto_onto (qualified kind) (s.TwoStars ∷ []) (s.AfterType named ∷ [])
@@ -70,7 +71,8 @@ pub feed_pass : (stack below : List Symbol) (symbol : Symbol) (kind : TerminalKi
 feed_pass stack below symbol kind e f g = rw (e, reverse_push below symbol)
     (ap (λ (z : Next). fed z (may_be_empty symbol) (reverse below) (feed (reverse below) kind)) f ∙ ap (λ (z : Bool). fed None z (reverse below) (feed (reverse below) kind)) g)
 
-pub feed_none : (stack below : List Symbol) (symbol : Symbol) (kind : TerminalKind) → stack ≡ below ++ symbol ∷ [] → after symbol kind ≡ None → may_be_empty symbol ≡ false → feed (reverse stack) kind ≡ None
+pub feed_none : (stack below : List Symbol) (symbol : Symbol) (kind : TerminalKind) → stack ≡ below ++ symbol ∷ [] → after symbol kind ≡ None → may_be_empty symbol ≡ false
+    → feed (reverse stack) kind ≡ None
 feed_none stack below symbol kind e f g = rw (e, reverse_push below symbol)
     (ap (λ (z : Next). fed z (may_be_empty symbol) (reverse below) (feed (reverse below) kind)) f ∙ ap (λ (z : Bool). fed None z (reverse below) (feed (reverse below) kind)) g)
 

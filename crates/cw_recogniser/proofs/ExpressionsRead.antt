@@ -21,32 +21,32 @@ use Rattle.cw_recogniser.proofs.TypesRead.{reads_type_name}
 
 -- ---- symbols that begin as others do
 
-opened_type : (kind : TerminalKind) → is_some (qualified kind) ≡ true → after s.Opened kind ≡ onto (qualified kind) (s.TwoStars ∷ s.Close ∷ s.Operand ∷ s.Tail false ∷ [])
-opened_type k.Const e = refl
-opened_type k.Void e = refl
-opened_type k.Char e = refl
-opened_type k.Int e = refl
-opened_type k.Long e = refl
-opened_type k.Unsigned e = refl
-opened_type _ e = absurd cc
+after_open_type : (kind : TerminalKind) → is_some (qualified kind) ≡ true → after s.AfterOpen kind ≡ onto (qualified kind) (s.TwoStars ∷ s.Close ∷ s.Operand ∷ s.Tail false ∷ [])
+after_open_type k.Const e = refl
+after_open_type k.Void e = refl
+after_open_type k.Char e = refl
+after_open_type k.Int e = refl
+after_open_type k.Long e = refl
+after_open_type k.Unsigned e = refl
+after_open_type _ e = absurd cc
 
-opened_operand_type : (kind : TerminalKind) → is_some (qualified kind) ≡ true → after s.OpenedOperand kind ≡ onto (qualified kind) (s.TwoStars ∷ s.Close ∷ s.Operand ∷ [])
-opened_operand_type k.Const e = refl
-opened_operand_type k.Void e = refl
-opened_operand_type k.Char e = refl
-opened_operand_type k.Int e = refl
-opened_operand_type k.Long e = refl
-opened_operand_type k.Unsigned e = refl
-opened_operand_type _ e = absurd cc
+after_open_operand_type : (kind : TerminalKind) → is_some (qualified kind) ≡ true → after s.AfterOpenOperand kind ≡ onto (qualified kind) (s.TwoStars ∷ s.Close ∷ s.Operand ∷ [])
+after_open_operand_type k.Const e = refl
+after_open_operand_type k.Void e = refl
+after_open_operand_type k.Char e = refl
+after_open_operand_type k.Int e = refl
+after_open_operand_type k.Long e = refl
+after_open_operand_type k.Unsigned e = refl
+after_open_operand_type _ e = absurd cc
 
-opened_measured_type : (kind : TerminalKind) → is_some (qualified kind) ≡ true → after s.OpenedMeasured kind ≡ onto (qualified kind) (s.TwoStars ∷ s.Close ∷ [])
-opened_measured_type k.Const e = refl
-opened_measured_type k.Void e = refl
-opened_measured_type k.Char e = refl
-opened_measured_type k.Int e = refl
-opened_measured_type k.Long e = refl
-opened_measured_type k.Unsigned e = refl
-opened_measured_type _ e = absurd cc
+after_open_measured_type : (kind : TerminalKind) → is_some (qualified kind) ≡ true → after s.AfterOpenMeasured kind ≡ onto (qualified kind) (s.TwoStars ∷ s.Close ∷ [])
+after_open_measured_type k.Const e = refl
+after_open_measured_type k.Void e = refl
+after_open_measured_type k.Char e = refl
+after_open_measured_type k.Int e = refl
+after_open_measured_type k.Long e = refl
+after_open_measured_type k.Unsigned e = refl
+after_open_measured_type _ e = absurd cc
 
 -- no expression begins as a type
 no_type : (kind : TerminalKind) → is_some (expression kind) ≡ true → type_name kind ≡ None
@@ -58,14 +58,14 @@ no_type k.Long e = absurd cc
 no_type k.Unsigned e = absurd cc
 no_type _ e = refl
 
-opened_expression : (kind : TerminalKind) → is_some (expression kind) ≡ true → after s.Opened kind ≡ onto (expression kind) (s.Close ∷ s.Suffixes ∷ s.Tail true ∷ [])
-opened_expression kind e = ap (λ z. either (onto z (s.Close ∷ s.Operand ∷ s.Tail false ∷ [])) (onto (expression kind) (s.Close ∷ s.Suffixes ∷ s.Tail true ∷ []))) (no_type kind e)
+after_open_expression : (kind : TerminalKind) → is_some (expression kind) ≡ true → after s.AfterOpen kind ≡ onto (expression kind) (s.Close ∷ s.Suffixes ∷ s.Tail true ∷ [])
+after_open_expression kind e = ap (λ z. either (onto z (s.Close ∷ s.Operand ∷ s.Tail false ∷ [])) (onto (expression kind) (s.Close ∷ s.Suffixes ∷ s.Tail true ∷ []))) (no_type kind e)
 
-opened_operand_expression : (kind : TerminalKind) → is_some (expression kind) ≡ true → after s.OpenedOperand kind ≡ onto (expression kind) (s.Close ∷ s.Suffixes ∷ [])
-opened_operand_expression kind e = ap (λ z. either (onto z (s.Close ∷ s.Operand ∷ [])) (onto (expression kind) (s.Close ∷ s.Suffixes ∷ []))) (no_type kind e)
+after_open_operand_expression : (kind : TerminalKind) → is_some (expression kind) ≡ true → after s.AfterOpenOperand kind ≡ onto (expression kind) (s.Close ∷ s.Suffixes ∷ [])
+after_open_operand_expression kind e = ap (λ z. either (onto z (s.Close ∷ s.Operand ∷ [])) (onto (expression kind) (s.Close ∷ s.Suffixes ∷ []))) (no_type kind e)
 
-opened_measured_expression : (kind : TerminalKind) → is_some (expression kind) ≡ true → after s.OpenedMeasured kind ≡ onto (expression kind) (s.Close ∷ s.Suffixes ∷ [])
-opened_measured_expression kind e = ap (λ z. either (onto z (s.Close ∷ [])) (onto (expression kind) (s.Close ∷ s.Suffixes ∷ []))) (no_type kind e)
+after_open_measured_expression : (kind : TerminalKind) → is_some (expression kind) ≡ true → after s.AfterOpenMeasured kind ≡ onto (expression kind) (s.Close ∷ s.Suffixes ∷ [])
+after_open_measured_expression kind e = ap (λ z. either (onto z (s.Close ∷ [])) (onto (expression kind) (s.Close ∷ s.Suffixes ∷ []))) (no_type kind e)
 
 -- A symbol that begins as a unary does, with more behind it.
 pub record Starts (symbol : Symbol) (more : List Symbol) : Type 0 where
@@ -112,13 +112,13 @@ measured_begins _ e = absurd cc
 expression_starts : Starts s.Expression (s.Tail true ∷ [])
 expression_starts = record {
   begins = expression_begins;
-  opens = λ o ts below is h. step is refl (instead {first = s.Expression} {symbol = s.Opened} (s.Close ∷ s.Suffixes ∷ s.Tail true ∷ []) refl opened_expression h);
+  opens = λ o ts below is h. step is refl (instead {first = s.Expression} {symbol = s.AfterOpen} (s.Close ∷ s.Suffixes ∷ s.Tail true ∷ []) refl after_open_expression h);
 }
 
 operand_starts : Starts s.Operand []
 operand_starts = record {
   begins = operand_begins;
-  opens = λ o ts below is h. step is refl (instead {first = s.Expression} {symbol = s.OpenedOperand} (s.Close ∷ s.Suffixes ∷ []) refl opened_operand_expression h);
+  opens = λ o ts below is h. step is refl (instead {first = s.Expression} {symbol = s.AfterOpenOperand} (s.Close ∷ s.Suffixes ∷ []) refl after_open_operand_expression h);
 }
 
 unary_starts : Starts s.Unary []
@@ -127,7 +127,7 @@ unary_starts = record { begins = unary_begins; opens = λ o ts below is h. step 
 measured_starts : Starts s.Measured []
 measured_starts = record {
   begins = measured_begins;
-  opens = λ o ts below is h. step is refl (instead {first = s.Expression} {symbol = s.OpenedMeasured} (s.Close ∷ s.Suffixes ∷ []) refl opened_measured_expression h);
+  opens = λ o ts below is h. step is refl (instead {first = s.Expression} {symbol = s.AfterOpenMeasured} (s.Close ∷ s.Suffixes ∷ []) refl after_open_measured_expression h);
 }
 
 -- ---- what is read of what nests at most n deep
@@ -180,7 +180,8 @@ module _ (n : ℕ) (r : Reads n) where
 
   module _ (symbol : Symbol) (more : List Symbol) (starts : Starts symbol more) (rest : List Lexeme) (below : List Symbol) (f : head is_follower rest ≡ true)
       (h : Accepts (s.Suffixes ∷ (more ++ below)) rest) where
-    begun : (terminal : Terminal) (t : Lexeme) → Is terminal t → is_some (unary (kind_of_terminal terminal)) ≡ true → after symbol (kind_of_terminal t.terminal) ≡ onto (unary (kind_of_terminal terminal)) more
+    begun : (terminal : Terminal) (t : Lexeme) → Is terminal t → is_some (unary (kind_of_terminal terminal)) ≡ true
+        → after symbol (kind_of_terminal t.terminal) ≡ onto (unary (kind_of_terminal terminal)) more
     begun terminal t is e = ap (λ (v : Terminal). after symbol (kind_of_terminal v)) is ∙ starts.begins (kind_of_terminal terminal) e
 
     reads_call : (m t c : Lexeme) (inner : List Lexeme) (xs : List Tree) → Is w.Name m → Is w.Open t → Is w.Close c → AreSeparated (IsDerived n Expression) inner xs
@@ -222,7 +223,7 @@ module _ (n : ℕ) (r : Reads n) where
         rw e (step_kind (begun_as t (s.Measured ∷ []) (ap (λ (v : Terminal). unary (kind_of_terminal v)) is)) (r.unary s.Measured [] measured_starts b y rest (more ++ below) d f h))
     reads_unary a x (inr (inr (inr (inl (t, b, kind, e, is, (o, inner, c, e2, p, q, d), _))))) =
         rw (e, e2, append_assoc) (step_kind (begun_as t (s.Measured ∷ []) (ap (λ (v : Terminal). unary (kind_of_terminal v)) is))
-        (step p refl (instead {first = s.Qualified} {symbol = s.OpenedMeasured} (s.TwoStars ∷ s.Close ∷ []) refl opened_measured_type
+        (step p refl (instead {first = s.Qualified} {symbol = s.AfterOpenMeasured} (s.TwoStars ∷ s.Close ∷ []) refl after_open_measured_type
         (reads_type_name inner (c ∷ rest) kind (s.Close ∷ (more ++ below)) d (rw q refl) (rw q refl) (step q refl h)))))
     reads_unary a x (inr (inr (inr (inr d)))) = reads_postfix symbol more starts rest below (head_wider is_halt is_follower halt_follows rest f)
         (skip refl (untaken s.Suffixes is_halt no_suffix rest f) h) a x d
@@ -232,14 +233,14 @@ module _ (n : ℕ) (r : Reads n) where
   reads_operand : (a : List Lexeme) (x : Tree) (rest : List Lexeme) (below : List Symbol) → IsOperand (IsDerived n) a x → head is_halt rest ≡ true → Accepts below rest
       → Accepts (s.Operand ∷ below) (a ++ rest)
   reads_operand a x rest below (inl (b, c, kind, y, e, (o, inner, l, e2, p, q, t), d, _)) f h =
-      rw (e, e2, append_assoc, append_assoc) (step p refl (instead {first = s.Qualified} {symbol = s.OpenedOperand} (s.TwoStars ∷ s.Close ∷ s.Operand ∷ []) refl opened_operand_type
+      rw (e, e2, append_assoc, append_assoc) (step p refl (instead {first = s.Qualified} {symbol = s.AfterOpenOperand} (s.TwoStars ∷ s.Close ∷ s.Operand ∷ []) refl after_open_operand_type
       (reads_type_name inner (l ∷ (c ++ rest)) kind (s.Close ∷ s.Operand ∷ below) t (rw q refl) (rw q refl) (step q refl (r.operand c y rest below d f h)))))
   reads_operand a x rest below (inr d) f h = reads_unary s.Operand [] operand_starts rest below f h a x d
 
   first_operand : (a : List Lexeme) (x : Tree) (rest : List Lexeme) (below : List Symbol) → IsOperand (IsDerived n) a x → head is_halt rest ≡ true
       → Accepts (s.Tail true ∷ below) rest → Accepts (s.Tail false ∷ below) rest → Accepts (s.Expression ∷ below) (a ++ rest)
   first_operand a x rest below (inl (b, c, kind, y, e, (o, inner, l, e2, p, q, t), d, _)) f g h =
-      rw (e, e2, append_assoc, append_assoc) (step p refl (instead {first = s.Qualified} {symbol = s.Opened} (s.TwoStars ∷ s.Close ∷ s.Operand ∷ s.Tail false ∷ []) refl opened_type
+      rw (e, e2, append_assoc, append_assoc) (step p refl (instead {first = s.Qualified} {symbol = s.AfterOpen} (s.TwoStars ∷ s.Close ∷ s.Operand ∷ s.Tail false ∷ []) refl after_open_type
       (reads_type_name inner (l ∷ (c ++ rest)) kind (s.Close ∷ s.Operand ∷ s.Tail false ∷ below) t (rw q refl) (rw q refl) (step q refl (r.operand c y rest (s.Tail false ∷ below) d f h)))))
   first_operand a x rest below (inr d) f g h = reads_unary s.Expression (s.Tail true ∷ []) expression_starts rest below f g a x d
 

@@ -206,8 +206,8 @@ by_cast kind o t a rest is e h =
       cast : (b c : List Lexeme) → a ≡ b ++ c → SomeTypeName (t ∷ b) → (l : List Lexeme) × (d : List Lexeme) × (c ≡ l ++ d) × Punctuator w.Close l × Stands (Level 0) d → Stands (Level 0) (o ∷ t ∷ a)
       cast b c f n (l, d, g, (z, i, q), h) = along (Level 0) (ap (λ (y : List Lexeme). o ∷ t ∷ y) (rw (f, g, i) refl)) (cast_operand o z (t ∷ b) d is q n h)
 
-pub opened_sound : (kind : TerminalKind) (t : Lexeme) (a rest : List Lexeme) → kind_of_terminal t.terminal ≡ kind → Given (after s.Opened kind) a rest → Means s.Opened (t ∷ a) rest
-opened_sound kind t a rest e h = λ o is. by_form o is (split_either (onto (type_name kind) (s.Close ∷ s.Operand ∷ s.Tail false ∷ []))
+pub after_open_sound : (kind : TerminalKind) (t : Lexeme) (a rest : List Lexeme) → kind_of_terminal t.terminal ≡ kind → Given (after s.AfterOpen kind) a rest → Means s.AfterOpen (t ∷ a) rest
+after_open_sound kind t a rest e h = λ o is. by_form o is (split_either (onto (type_name kind) (s.Close ∷ s.Operand ∷ s.Tail false ∷ []))
     (onto (expression kind) (s.Close ∷ s.Suffixes ∷ s.Tail true ∷ [])) a rest h) where
       cast : (o : Lexeme) → Is w.Open o → (b c : List Lexeme) → a ≡ b ++ c → SomeTypeName (t ∷ b) → (l : List Lexeme) × (d : List Lexeme) × (c ≡ l ++ d) × Punctuator w.Close l
           × ((u : List Lexeme) × (v : List Lexeme) × (d ≡ u ++ v) × Stands (Level 0) u × Means (s.Tail false) v rest) → Stands Expression (o ∷ t ∷ a)
@@ -228,15 +228,17 @@ opened_sound kind t a rest e h = λ o is. by_form o is (split_either (onto (type
       by_form o is (inl g) = let x = split_onto (type_name kind) s.Close (s.Operand ∷ s.Tail false ∷ []) a rest g in cast o is x.0 x.1 x.2 (type_name_sound kind t x.0 (x.1 ++ rest) e x.3) x.4
       by_form o is (inr g) = let x = split_onto (expression kind) s.Close (s.Suffixes ∷ s.Tail true ∷ []) a rest g in paren o is x.0 x.1 x.2 (expression_sound kind t x.0 (x.1 ++ rest) e x.3) x.4
 
-pub opened_operand_sound : (kind : TerminalKind) (t : Lexeme) (a rest : List Lexeme) → kind_of_terminal t.terminal ≡ kind → Given (after s.OpenedOperand kind) a rest → Means s.OpenedOperand (t ∷ a) rest
-opened_operand_sound kind t a rest e h = λ o is. by_form o is (split_either (onto (type_name kind) (s.Close ∷ s.Operand ∷ [])) (onto (expression kind) (s.Close ∷ s.Suffixes ∷ [])) a rest h) where
+pub after_open_operand_sound : (kind : TerminalKind) (t : Lexeme) (a rest : List Lexeme) → kind_of_terminal t.terminal ≡ kind → Given (after s.AfterOpenOperand kind) a rest
+    → Means s.AfterOpenOperand (t ∷ a) rest
+after_open_operand_sound kind t a rest e h = λ o is. by_form o is (split_either (onto (type_name kind) (s.Close ∷ s.Operand ∷ [])) (onto (expression kind) (s.Close ∷ s.Suffixes ∷ [])) a rest h) where
   by_form : (o : Lexeme) → Is w.Open o → Given (onto (type_name kind) (s.Close ∷ s.Operand ∷ [])) a rest ⊎ Given (onto (expression kind) (s.Close ∷ s.Suffixes ∷ [])) a rest
       → Stands (Level 0) (o ∷ t ∷ a)
   by_form o is (inl g) = by_cast kind o t a rest is e g
   by_form o is (inr g) = unary_operand (o ∷ t ∷ a) (by_parens kind o t a rest is e g)
 
-pub opened_measured_sound : (kind : TerminalKind) (t : Lexeme) (a rest : List Lexeme) → kind_of_terminal t.terminal ≡ kind → Given (after s.OpenedMeasured kind) a rest → Means s.OpenedMeasured (t ∷ a) rest
-opened_measured_sound kind t a rest e h = λ z o p is. by_form z o p is (split_either (onto (type_name kind) (s.Close ∷ [])) (onto (expression kind) (s.Close ∷ s.Suffixes ∷ [])) a rest h) where
+pub after_open_measured_sound : (kind : TerminalKind) (t : Lexeme) (a rest : List Lexeme) → kind_of_terminal t.terminal ≡ kind → Given (after s.AfterOpenMeasured kind) a rest
+    → Means s.AfterOpenMeasured (t ∷ a) rest
+after_open_measured_sound kind t a rest e h = λ z o p is. by_form z o p is (split_either (onto (type_name kind) (s.Close ∷ [])) (onto (expression kind) (s.Close ∷ s.Suffixes ∷ [])) a rest h) where
   sized : (z o : Lexeme) → Is w.SizeOf z → Is w.Open o → (b c : List Lexeme) → a ≡ b ++ c → SomeTypeName (t ∷ b) → Punctuator w.Close c → Stands Unary (z ∷ o ∷ t ∷ a)
   sized z o p is b c f n (l, g, q) = along Unary (ap (λ (y : List Lexeme). z ∷ o ∷ t ∷ y) (rw (f, g) refl)) (measured_type z o l (t ∷ b) p is q n)
 

@@ -224,8 +224,8 @@ reads_part n (Holds x) ts rest d h = reads_global n x ts rest d h
 reads_part n (Defines x) ts rest (a, o, b, c, body, e, d, named, p, _, all, _, q) h =
     let closed : Accepts (s.Items ∷ s.CloseBrace ∷ s.Parts ∷ []) (c ∷ rest) = pass q refl refl (step q refl h) in
     let items : Accepts (s.Items ∷ s.CloseBrace ∷ s.Parts ∷ []) (b ++ (c ∷ rest)) = reads_items n n (reads_statements n n) body b (c ∷ rest) (s.Parts ∷ []) all closed in
-    let opened : Accepts (s.Ending true ∷ s.Parts ∷ []) (o ∷ (b ++ (c ∷ rest))) = step p refl items in
-    rw (e, append_assoc, append_assoc) (reads_header a (o ∷ (b ++ (c ∷ rest))) x.name x.result x.params [] refl d (rw (are_named x.params named) opened))
+    let behind_header : Accepts (s.Ending true ∷ s.Parts ∷ []) (o ∷ (b ++ (c ∷ rest))) = step p refl items in
+    rw (e, append_assoc, append_assoc) (reads_header a (o ∷ (b ++ (c ∷ rest))) x.name x.result x.params [] refl d (rw (are_named x.params named) behind_header))
 
 reads_parts : (n : ℕ) (xs : List Part) (ts : List Lexeme) → AreAll (IsPart n) ts xs → Accepts (s.Parts ∷ []) ts
 reads_parts n [] ts d = rw d (record { ok = refl })

@@ -33,9 +33,9 @@ completion s.Expression = plain w.Name ∷ []
 completion s.Operand = plain w.Name ∷ []
 completion s.Unary = plain w.Name ∷ []
 completion s.Measured = plain w.Name ∷ []
-completion s.Opened = plain w.Name ∷ plain w.Close ∷ []
-completion s.OpenedOperand = plain w.Name ∷ plain w.Close ∷ []
-completion s.OpenedMeasured = plain w.Name ∷ plain w.Close ∷ []
+completion s.AfterOpen = plain w.Name ∷ plain w.Close ∷ []
+completion s.AfterOpenOperand = plain w.Name ∷ plain w.Close ∷ []
+completion s.AfterOpenMeasured = plain w.Name ∷ plain w.Close ∷ []
 completion s.Qualified = plain w.Int ∷ []
 completion s.Type = plain w.Int ∷ []
 completion s.Initial = plain w.Name ∷ []
@@ -82,9 +82,9 @@ fits s.Expression rest = head is_tight rest
 fits s.Operand rest = head is_tight rest
 fits s.Unary rest = head is_tight rest
 fits s.Measured rest = head is_tight rest
-fits s.Opened rest = head is_tight rest
-fits s.OpenedOperand rest = head is_tight rest
-fits s.OpenedMeasured rest = head is_tight rest
+fits s.AfterOpen rest = head is_tight rest
+fits s.AfterOpenOperand rest = head is_tight rest
+fits s.AfterOpenMeasured rest = head is_tight rest
 fits s.Call rest = head is_tight rest
 fits s.Texts rest = head is_tight rest
 fits s.Suffixes rest = head is_tight rest
@@ -282,9 +282,9 @@ completes_one s.Initial below rest f h = step refl refl (leave refl f (leave ref
 completes_one s.Operand below rest f h = step refl refl (leave refl f (leave refl f h))
 completes_one s.Unary below rest f h = step refl refl (leave refl f (leave refl f h))
 completes_one s.Measured below rest f h = step refl refl (leave refl f (leave refl f h))
-completes_one s.Opened below rest f h = step refl refl (leave refl refl (leave refl refl (leave refl refl (step refl refl (leave refl f (leave refl f h))))))
-completes_one s.OpenedOperand below rest f h = step refl refl (leave refl refl (leave refl refl (leave refl refl (step refl refl (leave refl f h)))))
-completes_one s.OpenedMeasured below rest f h = step refl refl (leave refl refl (leave refl refl (leave refl refl (step refl refl (leave refl f h)))))
+completes_one s.AfterOpen below rest f h = step refl refl (leave refl refl (leave refl refl (leave refl refl (step refl refl (leave refl f (leave refl f h))))))
+completes_one s.AfterOpenOperand below rest f h = step refl refl (leave refl refl (leave refl refl (leave refl refl (step refl refl (leave refl f h)))))
+completes_one s.AfterOpenMeasured below rest f h = step refl refl (leave refl refl (leave refl refl (leave refl refl (step refl refl (leave refl f h)))))
 completes_one s.Qualified below rest f h = step refl refl h
 completes_one s.Type below rest f h = step refl refl h
 completes_one s.Params below rest f h = step refl refl (step refl refl h)
@@ -582,13 +582,13 @@ kept s.Expression kind rest f = fit_expression kind rest f
 kept s.Operand kind rest f = fit_operand kind rest f
 kept s.Unary kind rest f = fit_plain_unary kind rest f
 kept s.Measured kind rest f = fit_measured kind rest f
-kept s.Opened kind rest f = fit_either (onto (type_name kind) (s.Close ∷ s.Operand ∷ s.Tail false ∷ [])) (onto (expression kind) (s.Close ∷ s.Suffixes ∷ s.Tail true ∷ [])) rest
+kept s.AfterOpen kind rest f = fit_either (onto (type_name kind) (s.Close ∷ s.Operand ∷ s.Tail false ∷ [])) (onto (expression kind) (s.Close ∷ s.Suffixes ∷ s.Tail true ∷ [])) rest
     (fit_onto (type_name kind) (s.Close ∷ s.Operand ∷ s.Tail false ∷ []) rest (fit_type_name kind (plain w.Close ∷ plain w.Name ∷ rest) refl) (refl, (f, (f, tt))))
     (fit_onto (expression kind) (s.Close ∷ s.Suffixes ∷ s.Tail true ∷ []) rest (fit_expression kind (plain w.Close ∷ rest) refl) (refl, (f, (f, tt))))
-kept s.OpenedOperand kind rest f = fit_either (onto (type_name kind) (s.Close ∷ s.Operand ∷ [])) (onto (expression kind) (s.Close ∷ s.Suffixes ∷ [])) rest
+kept s.AfterOpenOperand kind rest f = fit_either (onto (type_name kind) (s.Close ∷ s.Operand ∷ [])) (onto (expression kind) (s.Close ∷ s.Suffixes ∷ [])) rest
     (fit_onto (type_name kind) (s.Close ∷ s.Operand ∷ []) rest (fit_type_name kind (plain w.Close ∷ plain w.Name ∷ rest) refl) (refl, (f, tt)))
     (fit_onto (expression kind) (s.Close ∷ s.Suffixes ∷ []) rest (fit_expression kind (plain w.Close ∷ rest) refl) (refl, (f, tt)))
-kept s.OpenedMeasured kind rest f = fit_either (onto (type_name kind) (s.Close ∷ [])) (onto (expression kind) (s.Close ∷ s.Suffixes ∷ [])) rest
+kept s.AfterOpenMeasured kind rest f = fit_either (onto (type_name kind) (s.Close ∷ [])) (onto (expression kind) (s.Close ∷ s.Suffixes ∷ [])) rest
     (fit_onto (type_name kind) (s.Close ∷ []) rest (fit_type_name kind (plain w.Close ∷ rest) refl) (refl, tt))
     (fit_onto (expression kind) (s.Close ∷ s.Suffixes ∷ []) rest (fit_expression kind (plain w.Close ∷ rest) refl) (refl, (f, tt)))
 kept s.Call kind rest f = fit_call kind rest

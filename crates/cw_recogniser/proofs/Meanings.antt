@@ -13,7 +13,7 @@ use Rattle.cw_grammar.specs.Lexemes.{Is, terminals, IsFlag, IsOptional, AreAll, 
 use Rattle.cw_grammar.specs.Types.{IsType, AreStars, IsTypeName}
 use Rattle.cw_grammar.specs.Expressions.{AreStrings, IsExpression}
 use Rattle.cw_grammar.specs.Declarations.{Specifiers, AreSpecifiers, IsArray, AreElements, IsInitialiser, IsItem, IsBrackets, IsParam, AreParams}
-use Rattle.cw_grammar.specs.Statements.{Place, InBlock, BeforeElse, Elsewhere, IsInit, IsStatement}
+use Rattle.cw_grammar.specs.Statements.{Setting, InBlock, BeforeElse, Elsewhere, IsInit, IsStatement}
 use Rattle.cw_grammar.specs.Files.{Part, IsPart}
 use Rattle.cw_recogniser.specs.declared.kinds.TerminalKind.{TerminalKind}
 use Rattle.cw_recogniser.specs.declared.symbols.Symbol.{Symbol}
@@ -70,8 +70,8 @@ SomeItems a = (specs : Specifiers) → (n : ℕ) × (x : Declared) × (xs : List
 
 -- ---- statements and files
 
--- which places a statement may have before these tokens
-abbrev pub Allows : Place → List Lexeme → Type 0
+-- in which settings a statement may stand before these tokens
+abbrev pub Allows : Setting → List Lexeme → Type 0
 Allows BeforeElse rest = takes s.MaybeElse rest ≡ true
 Allows InBlock rest = Unit {0}
 Allows Elsewhere rest = Unit {0}
@@ -79,7 +79,7 @@ Allows Elsewhere rest = Unit {0}
 pub record OneStatement (a rest : List Lexeme) : Type 0 where
   pub nesting : ℕ
   pub tree : Statement
-  pub derives : (place : Place) → Allows place rest → IsStatement nesting nesting place a tree
+  pub derives : (setting : Setting) → Allows setting rest → IsStatement nesting nesting setting a tree
 
 abbrev pub SomeStatements : List Lexeme → Type 0
 SomeStatements a = (n : ℕ) × (xs : List Statement) × AreAll (IsStatement n n InBlock) a xs
@@ -119,9 +119,9 @@ Means s.Expression a rest = Stands Expression a
 Means s.Operand a rest = Stands (Level 0) a
 Means s.Unary a rest = Stands Unary a
 Means s.Measured a rest = (t : Lexeme) → Is w.SizeOf t → Stands Unary (t ∷ a)
-Means s.Opened a rest = (o : Lexeme) → Is w.Open o → Stands Expression (o ∷ a)
-Means s.OpenedOperand a rest = (o : Lexeme) → Is w.Open o → Stands (Level 0) (o ∷ a)
-Means s.OpenedMeasured a rest = (t o : Lexeme) → Is w.SizeOf t → Is w.Open o → Stands Unary (t ∷ o ∷ a)
+Means s.AfterOpen a rest = (o : Lexeme) → Is w.Open o → Stands Expression (o ∷ a)
+Means s.AfterOpenOperand a rest = (o : Lexeme) → Is w.Open o → Stands (Level 0) (o ∷ a)
+Means s.AfterOpenMeasured a rest = (t o : Lexeme) → Is w.SizeOf t → Is w.Open o → Stands Unary (t ∷ o ∷ a)
 Means s.Call a rest = (t : Lexeme) → Is w.Name t → Stands Postfix (t ∷ a)
 Means s.Texts a rest = AreStrings a
 Means s.Suffixes a rest = (b : List Lexeme) → Stands Postfix b → Stands Postfix (b ++ a)

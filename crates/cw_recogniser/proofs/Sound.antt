@@ -18,7 +18,7 @@ use Rattle.cw_recogniser.proofs.TerminalKinds.{terminal_of}
 use Rattle.cw_recogniser.proofs.Meanings.{Punctuator, Means, Follow, Given, exact}
 use Rattle.cw_recogniser.proofs.TypesSound.{long_none, unsigned_none, long_sound, unsigned_sound, type_sound, qualified_sound, stars_none, star_none, two_stars_sound, one_star_sound}
 use Rattle.cw_recogniser.proofs.ExpressionsSound.{suffixes_none, call_none, tail_none, more_arguments_none, expression_sound, operand_sound, plain_unary_sound, measured_sound}
-use Rattle.cw_recogniser.proofs.ExpressionsSound.{opened_sound, opened_operand_sound, opened_measured_sound, call_sound, texts_sound, suffixes_sound, operator_sound}
+use Rattle.cw_recogniser.proofs.ExpressionsSound.{after_open_sound, after_open_operand_sound, after_open_measured_sound, call_sound, texts_sound, suffixes_sound, operator_sound}
 use Rattle.cw_recogniser.proofs.ExpressionsSound.{assignment_sound, more_arguments_sound, arguments_sound, maybe_sound}
 use Rattle.cw_recogniser.proofs.DeclarationsSound.{array_none, array_sound, initialiser_none, initialiser_sound, more_elements_none, more_elements_sound, elements_none}
 use Rattle.cw_recogniser.proofs.DeclarationsSound.{elements_sound, initial_sound, more_items_none, more_items_sound}
@@ -73,9 +73,9 @@ taken s.Expression kind t a rest e h = expression_sound kind t a rest e h
 taken s.Operand kind t a rest e h = operand_sound kind t a rest e h
 taken s.Unary kind t a rest e h = plain_unary_sound kind t a rest e h
 taken s.Measured kind t a rest e h = measured_sound kind t a rest e h
-taken s.Opened kind t a rest e h = opened_sound kind t a rest e h
-taken s.OpenedOperand kind t a rest e h = opened_operand_sound kind t a rest e h
-taken s.OpenedMeasured kind t a rest e h = opened_measured_sound kind t a rest e h
+taken s.AfterOpen kind t a rest e h = after_open_sound kind t a rest e h
+taken s.AfterOpenOperand kind t a rest e h = after_open_operand_sound kind t a rest e h
+taken s.AfterOpenMeasured kind t a rest e h = after_open_measured_sound kind t a rest e h
 taken s.Call kind t a rest e h = call_sound kind t a rest e h
 taken s.Texts kind t a rest e h = texts_sound kind t a rest e h
 taken s.Suffixes kind t a rest e h = suffixes_sound kind t a rest e h

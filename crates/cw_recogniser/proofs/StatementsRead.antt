@@ -8,7 +8,7 @@ use Rattle.cw_grammar.specs.declared.terminals.Terminal.TheVariants as w
 use Rattle.cw_grammar.specs.declared.terminals.Lexeme.{Lexeme}
 use Rattle.cw_grammar.specs.Lexemes.{AreAll, IsOptional, IsEnded}
 use Rattle.cw_grammar.specs.Expressions.{IsExpression}
-use Rattle.cw_grammar.specs.Statements.{Place, InBlock, BeforeElse, Elsewhere, last, IsTest, IsInit, IsForm, IsStatement}
+use Rattle.cw_grammar.specs.Statements.{Setting, InBlock, BeforeElse, Elsewhere, last, IsTest, IsInit, IsForm, IsStatement}
 use Rattle.cw_recogniser.specs.declared.kinds.TerminalKind.{TerminalKind}
 use Rattle.cw_recogniser.specs.declared.kinds.TerminalKind.TheVariants as k
 use Rattle.cw_recogniser.specs.declared.symbols.Symbol.{Symbol}
@@ -108,17 +108,17 @@ init_expression _ e = absurd cc
 
 -- ---- what may follow
 
-abbrev pub Follows : Place → List Lexeme → Type 0
+abbrev pub Follows : Setting → List Lexeme → Type 0
 Follows BeforeElse rest = Unit {0}
 Follows InBlock rest = takes s.MaybeElse rest ≡ false
 Follows Elsewhere rest = takes s.MaybeElse rest ≡ false
 
-follows_last : (place : Place) (rest : List Lexeme) → Follows place rest → Follows (last place) rest
+follows_last : (setting : Setting) (rest : List Lexeme) → Follows setting rest → Follows (last setting) rest
 follows_last InBlock rest f = f
 follows_last BeforeElse rest f = f
 follows_last Elsewhere rest f = f
 
-follows_if : (place : Place) (rest : List Lexeme) → place ≢ BeforeElse → Follows place rest → takes s.MaybeElse rest ≡ false
+follows_if : (setting : Setting) (rest : List Lexeme) → setting ≢ BeforeElse → Follows setting rest → takes s.MaybeElse rest ≡ false
 follows_if InBlock rest d f = f
 follows_if BeforeElse rest d f = absurd (d refl)
 follows_if Elsewhere rest d f = f
@@ -136,31 +136,31 @@ abbrev is_declared : Form → Bool
 is_declared (DeclaresForm d) = true
 is_declared _ = false
 
-undeclared : (E : List Lexeme → Tree → Type 0) (P : Place → List Lexeme → Statement → Type 0) (place : Place) (ts : List Lexeme) (form : Form) → place ≢ InBlock
-    → IsForm E P place ts form → is_declared form ≡ false
-undeclared E P place ts (DeclaresForm d) ne f = absurd (ne f.0)
-undeclared E P place ts (Block kids) ne f = refl
-undeclared E P place ts (Evaluates e) ne f = refl
-undeclared E P place ts Empties ne f = refl
-undeclared E P place ts (Labels name punctuator body) ne f = refl
-undeclared E P place ts (Chooses test body other) ne f = refl
-undeclared E P place ts (Whiles test body) ne f = refl
-undeclared E P place ts (Does body test) ne f = refl
-undeclared E P place ts (Fors init test each body) ne f = refl
-undeclared E P place ts Breaks ne f = refl
-undeclared E P place ts Continues ne f = refl
-undeclared E P place ts (Returns value) ne f = refl
+undeclared : (E : List Lexeme → Tree → Type 0) (P : Setting → List Lexeme → Statement → Type 0) (setting : Setting) (ts : List Lexeme) (form : Form) → setting ≢ InBlock
+    → IsForm E P setting ts form → is_declared form ≡ false
+undeclared E P setting ts (DeclaresForm d) ne f = absurd (ne f.0)
+undeclared E P setting ts (Block kids) ne f = refl
+undeclared E P setting ts (Evaluates e) ne f = refl
+undeclared E P setting ts Empties ne f = refl
+undeclared E P setting ts (Labels name punctuator body) ne f = refl
+undeclared E P setting ts (Chooses test body other) ne f = refl
+undeclared E P setting ts (Whiles test body) ne f = refl
+undeclared E P setting ts (Does body test) ne f = refl
+undeclared E P setting ts (Fors init test each body) ne f = refl
+undeclared E P setting ts Breaks ne f = refl
+undeclared E P setting ts Continues ne f = refl
+undeclared E P setting ts (Returns value) ne f = refl
 
 -- ---- statements that nest at most n deep
 
 module _ (limit : ℕ) where
   pub record ReadsStatements (n : ℕ) : Type 0 where
-    pub inner : (place : Place) (a : List Lexeme) (x : Statement) (rest : List Lexeme) (below : List Symbol) → place ≢ InBlock → IsStatement limit n place a x → Follows place rest
+    pub inner : (setting : Setting) (a : List Lexeme) (x : Statement) (rest : List Lexeme) (below : List Symbol) → setting ≢ InBlock → IsStatement limit n setting a x → Follows setting rest
         → Accepts below rest → Accepts (s.Statement ∷ below) (a ++ rest)
     pub item : (a : List Lexeme) (x : Statement) (rest : List Lexeme) (below : List Symbol) → IsStatement limit n InBlock a x → Accepts (s.Items ∷ s.CloseBrace ∷ below) rest
         → Accepts (s.Items ∷ s.CloseBrace ∷ below) (a ++ rest)
 
-  last_inner : (place : Place) → last place ≢ InBlock
+  last_inner : (setting : Setting) → last setting ≢ InBlock
   last_inner InBlock e = absurd cc
   last_inner BeforeElse e = absurd cc
   last_inner Elsewhere e = absurd cc
@@ -203,44 +203,44 @@ module _ (limit : ℕ) where
     reads_items [] ts rest below d h = rw d h
     reads_items (x ∷ xs) ts rest below (a, b, e, p, q) h = rw (e, append_assoc) (r.item a x (b ++ rest) below p (reads_items xs b rest below q h))
 
-    reads_form : (place : Place) (form : Form) (ts rest : List Lexeme) (below : List Symbol) → is_declared form ≡ false
-        → IsForm (IsExpression limit) (IsStatement limit n) place ts form → Follows place rest → Accepts below rest → Accepts (s.Statement ∷ below) (ts ++ rest)
-    reads_form place (DeclaresForm x) ts rest below u d f h = absurd cc
-    reads_form place (Block kids) ts rest below u (inner, _, (o, body, c, e, p, q, d)) f h =
+    reads_form : (setting : Setting) (form : Form) (ts rest : List Lexeme) (below : List Symbol) → is_declared form ≡ false
+        → IsForm (IsExpression limit) (IsStatement limit n) setting ts form → Follows setting rest → Accepts below rest → Accepts (s.Statement ∷ below) (ts ++ rest)
+    reads_form setting (DeclaresForm x) ts rest below u d f h = absurd cc
+    reads_form setting (Block kids) ts rest below u (inner, _, (o, body, c, e, p, q, d)) f h =
         rw (e, append_assoc) (step p refl (reads_items inner body (c ∷ rest) below d (pass q refl refl (step q refl h))))
-    reads_form place (Evaluates x) ts rest below u (inner, c, e, is, d) f h =
+    reads_form setting (Evaluates x) ts rest below u (inner, c, e, is, d) f h =
         rw (e, append_assoc) (as_statement (inner ++ (c ∷ rest)) below
         ((reads limit).expression inner x (c ∷ rest) (s.Semicolon ∷ below) d (head_is is_end w.Semicolon c rest is refl) (step is refl h)))
-    reads_form place Empties ts rest below u d f h = let x = one_terminal ts w.Semicolon d in rw x.1 (step x.2 refl h)
-    reads_form place (Labels name punctuator body) ts rest below u (m, l, b, e, p, q, _, _, d) f h =
-        rw e (step p refl (step q refl (r.inner (last place) b body rest below (last_inner place) d (follows_last place rest f) h)))
-    reads_form place (Chooses test body nothing) ts rest below u (i, a, b, e, ne, p, t, d) f h =
+    reads_form setting Empties ts rest below u d f h = let x = one_terminal ts w.Semicolon d in rw x.1 (step x.2 refl h)
+    reads_form setting (Labels name punctuator body) ts rest below u (m, l, b, e, p, q, _, _, d) f h =
+        rw e (step p refl (step q refl (r.inner (last setting) b body rest below (last_inner setting) d (follows_last setting rest f) h)))
+    reads_form setting (Chooses test body nothing) ts rest below u (i, a, b, e, ne, p, t, d) f h =
         rw (e, append_assoc) (step p refl (reads_test a test (b ++ rest) (s.Statement ∷ s.MaybeElse ∷ below) t
-        (r.inner Elsewhere b body rest (s.MaybeElse ∷ below) elsewhere_inner d (follows_if place rest ne f) (skip refl (follows_if place rest ne f) h))))
-    reads_form place (Chooses test body (just other)) ts rest below u (i, a, b, l, c, e, p, t, d, q, g) f h =
+        (r.inner Elsewhere b body rest (s.MaybeElse ∷ below) elsewhere_inner d (follows_if setting rest ne f) (skip refl (follows_if setting rest ne f) h))))
+    reads_form setting (Chooses test body (just other)) ts rest below u (i, a, b, l, c, e, p, t, d, q, g) f h =
         rw (e, append_assoc, append_assoc) (step p refl (reads_test a test (b ++ (l ∷ (c ++ rest))) (s.Statement ∷ s.MaybeElse ∷ below) t
         (r.inner BeforeElse b body (l ∷ (c ++ rest)) (s.MaybeElse ∷ below) before_inner d tt
-        (step q refl (r.inner (last place) c other rest below (last_inner place) g (follows_last place rest f) h)))))
-    reads_form place (Whiles test body) ts rest below u (i, a, b, e, p, t, d) f h =
-        rw (e, append_assoc) (step p refl (reads_test a test (b ++ rest) (s.Statement ∷ below) t (r.inner (last place) b body rest below (last_inner place) d (follows_last place rest f) h)))
-    reads_form place (Does body test) ts rest below u (i, a, l, b, z, e, p, d, q, t, is) f h =
+        (step q refl (r.inner (last setting) c other rest below (last_inner setting) g (follows_last setting rest f) h)))))
+    reads_form setting (Whiles test body) ts rest below u (i, a, b, e, p, t, d) f h =
+        rw (e, append_assoc) (step p refl (reads_test a test (b ++ rest) (s.Statement ∷ below) t (r.inner (last setting) b body rest below (last_inner setting) d (follows_last setting rest f) h)))
+    reads_form setting (Does body test) ts rest below u (i, a, l, b, z, e, p, d, q, t, is) f h =
         rw (e, append_assoc, append_assoc) (step p refl (r.inner Elsewhere a body (l ∷ (b ++ (z ∷ rest)))
         (s.While ∷ s.Open ∷ s.Expression ∷ s.Close ∷ s.Semicolon ∷ below) elsewhere_inner d (rw q refl) (step q refl (reads_test b test (z ∷ rest) (s.Semicolon ∷ below) t (step is refl h)))))
-    reads_form place (Fors init test each body) ts rest below u (i, o, a, b, c, l, e, p, q, d, t, g, v) f h =
+    reads_form setting (Fors init test each body) ts rest below u (i, o, a, b, c, l, e, p, q, d, t, g, v) f h =
         rw (e, append_assoc, append_assoc, append_assoc) (
         step p refl (step q refl (reads_init init a (b ++ (c ++ (l ++ rest))) (s.MaybeExpression ∷ s.Semicolon ∷ s.MaybeExpression ∷ s.Close ∷ s.Statement ∷ below) d (
         reads_ended test w.Semicolon s.Semicolon b (c ++ (l ++ rest)) (s.MaybeExpression ∷ s.Close ∷ s.Statement ∷ below) t refl refl (
-        reads_ended each w.Close s.Close c (l ++ rest) (s.Statement ∷ below) g refl refl (r.inner (last place) l body rest below (last_inner place) v (follows_last place rest f) h)
+        reads_ended each w.Close s.Close c (l ++ rest) (s.Statement ∷ below) g refl refl (r.inner (last setting) l body rest below (last_inner setting) v (follows_last setting rest f) h)
         )
         )))
         )
-    reads_form place Breaks ts rest below u d f h = let x = two_terminals ts w.Break w.Semicolon d in rw x.2 (step x.3 refl (step x.4 refl h))
-    reads_form place Continues ts rest below u d f h = let x = two_terminals ts w.Continue w.Semicolon d in rw x.2 (step x.3 refl (step x.4 refl h))
-    reads_form place (Returns value) ts rest below u (l, b, e, p, d) f h = rw e (step p refl (reads_ended value w.Semicolon s.Semicolon b rest below d refl refl h))
+    reads_form setting Breaks ts rest below u d f h = let x = two_terminals ts w.Break w.Semicolon d in rw x.2 (step x.3 refl (step x.4 refl h))
+    reads_form setting Continues ts rest below u d f h = let x = two_terminals ts w.Continue w.Semicolon d in rw x.2 (step x.3 refl (step x.4 refl h))
+    reads_form setting (Returns value) ts rest below u (l, b, e, p, d) f h = rw e (step p refl (reads_ended value w.Semicolon s.Semicolon b rest below d refl refl h))
 
-    reads_inner : (place : Place) (a : List Lexeme) (x : Statement) (rest : List Lexeme) (below : List Symbol) → place ≢ InBlock → IsStatement limit (suc n) place a x
-        → Follows place rest → Accepts below rest → Accepts (s.Statement ∷ below) (a ++ rest)
-    reads_inner place a (Stated form from to) rest below ne d f h = reads_form place form a rest below (undeclared (IsExpression limit) (IsStatement limit n) place a form ne d.2) d.2 f h
+    reads_inner : (setting : Setting) (a : List Lexeme) (x : Statement) (rest : List Lexeme) (below : List Symbol) → setting ≢ InBlock → IsStatement limit (suc n) setting a x
+        → Follows setting rest → Accepts below rest → Accepts (s.Statement ∷ below) (a ++ rest)
+    reads_inner setting a (Stated form from to) rest below ne d f h = reads_form setting form a rest below (undeclared (IsExpression limit) (IsStatement limit n) setting a form ne d.2) d.2 f h
 
     in_block : (form : Form) (declared : Bool) (a rest : List Lexeme) (below : List Symbol) → is_declared form ≡ declared
         → IsForm (IsExpression limit) (IsStatement limit n) InBlock a form → Accepts (s.Items ∷ s.CloseBrace ∷ below) rest → Accepts (s.Items ∷ s.CloseBrace ∷ below) (a ++ rest)
@@ -257,5 +257,5 @@ module _ (limit : ℕ) where
     deeper = record { inner = reads_inner; item = reads_item }
 
   pub reads_statements : (n : ℕ) → ReadsStatements n
-  reads_statements zero = record { inner = λ place a x rest below ne d f h. absurd d; item = λ a x rest below d h. absurd d }
+  reads_statements zero = record { inner = λ setting a x rest below ne d f h. absurd d; item = λ a x rest below d h. absurd d }
   reads_statements (suc n) = deeper n (reads_statements n)

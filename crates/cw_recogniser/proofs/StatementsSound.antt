@@ -7,7 +7,7 @@ use Rattle.cw_grammar.specs.declared.terminals.Lexeme.{Lexeme}
 use Rattle.cw_grammar.specs.declared.rules.Rule.TheVariants.{Expression, Unary, Postfix}
 use Rattle.cw_grammar.specs.Lexemes.{Is, name_of, from_of, to_of, IsOptional, statements}
 use Rattle.cw_grammar.specs.Expressions.{IsExpression}
-use Rattle.cw_grammar.specs.Statements.{Place, InBlock, BeforeElse, Elsewhere, last, IsInit, IsStatement}
+use Rattle.cw_grammar.specs.Statements.{Setting, InBlock, BeforeElse, Elsewhere, last, IsInit, IsStatement}
 use Rattle.cw_recogniser.specs.declared.kinds.TerminalKind.{TerminalKind}
 use Rattle.cw_recogniser.specs.declared.kinds.TerminalKind.TheVariants as k
 use Rattle.cw_recogniser.specs.declared.symbols.Symbol.{Symbol}
@@ -27,19 +27,19 @@ use Rattle.cw_recogniser.proofs.DeclarationsSound.{SomeDeclaration, declaration_
 abbrev made : Form → List Lexeme → Statement
 made form a = Stated form (from_of a) (to_of a)
 
-allows_last : (place : Place) (rest : List Lexeme) → Allows place rest → Allows (last place) rest
+allows_last : (setting : Setting) (rest : List Lexeme) → Allows setting rest → Allows (last setting) rest
 allows_last InBlock rest f = tt
 allows_last BeforeElse rest f = f
 allows_last Elsewhere rest f = tt
 
-not_before_else : (place : Place) (rest : List Lexeme) → takes s.MaybeElse rest ≡ false → Allows place rest → place ≢ BeforeElse
+not_before_else : (setting : Setting) (rest : List Lexeme) → takes s.MaybeElse rest ≡ false → Allows setting rest → setting ≢ BeforeElse
 not_before_else InBlock rest f h e = absurd cc
 not_before_else BeforeElse rest f h e = absurd (let g = sym f ∙ h in cc)
 not_before_else Elsewhere rest f h e = absurd cc
 
 -- an inner statement, and an expression, with more room
-inner_at : {a rest : List Lexeme} (x : OneStatement a rest) (n : ℕ) → x.nesting ≤ n → (place : Place) → Allows place rest → IsStatement (suc n) n place a x.tree
-inner_at {a} {rest} x n le place f = statement_deeper x.nesting (suc n) x.nesting n (omega arith) le place a x.tree (x.derives place f)
+inner_at : {a rest : List Lexeme} (x : OneStatement a rest) (n : ℕ) → x.nesting ≤ n → (setting : Setting) → Allows setting rest → IsStatement (suc n) n setting a x.tree
+inner_at {a} {rest} x n le setting f = statement_deeper x.nesting (suc n) x.nesting n (omega arith) le setting a x.tree (x.derives setting f)
 
 expression_at : (a : List Lexeme) (h : Stands Expression a) (n : ℕ) → h.nesting ≤ n → IsExpression (suc n) a h.tree
 expression_at a h n le = expression_deeper h.nesting (suc n) (omega arith) a h.tree h.derives
@@ -51,17 +51,17 @@ evaluates : (a : List Lexeme) (z : Lexeme) (rest : List Lexeme) → Stands Expre
 evaluates a z rest h is = record {
   nesting = suc h.nesting;
   tree = made (Evaluates h.tree) (a ++ (z ∷ []));
-  derives = λ place f. (refl, refl, (a, z, refl, is, expression_at a h h.nesting (omega arith)));
+  derives = λ setting f. (refl, refl, (a, z, refl, is, expression_at a h h.nesting (omega arith)));
 }
 
 empty : (z : Lexeme) (rest : List Lexeme) → Is w.Semicolon z → OneStatement (z ∷ []) rest
-empty z rest is = record { nesting = 1; tree = made Empties (z ∷ []); derives = λ place f. (refl, refl, rw is refl) }
+empty z rest is = record { nesting = 1; tree = made Empties (z ∷ []); derives = λ setting f. (refl, refl, rw is refl) }
 
 block : (o c : Lexeme) (a rest : List Lexeme) → Is w.OpenBrace o → Is w.CloseBrace c → SomeStatements a → OneStatement (o ∷ (a ++ (c ∷ []))) rest
 block o c a rest p q (n, xs, d) = record {
   nesting = suc n;
   tree = made (Block (statements xs)) (o ∷ (a ++ (c ∷ [])));
-  derives = λ place f. (
+  derives = λ setting f. (
     refl,
     refl,
     (
@@ -85,7 +85,7 @@ labels : (m c : Lexeme) (a rest : List Lexeme) → Is w.Name m → Is w.Colon c 
 labels m c a rest p q x = record {
   nesting = suc x.nesting;
   tree = made (Labels (name_of m) c.to x.tree) (m ∷ c ∷ a);
-  derives = λ place f. (refl, refl, (m, c, a, refl, p, q, refl, refl, inner_at x x.nesting (omega arith) (last place) (allows_last place rest f)));
+  derives = λ setting f. (refl, refl, (m, c, a, refl, p, q, refl, refl, inner_at x x.nesting (omega arith) (last setting) (allows_last setting rest f)));
 }
 
 -- a test in parentheses
@@ -102,7 +102,7 @@ chooses : (i : Lexeme) (a b rest others : List Lexeme) → Is w.If i → SomeTes
 chooses i a b rest others p t x no_else = let n = max t.inside.nesting x.nesting in record {
   nesting = suc n;
   tree = made (Chooses t.inside.tree x.tree nothing) (i ∷ (a ++ b));
-  derives = λ place f. (
+  derives = λ setting f. (
     refl,
     refl,
     (
@@ -110,7 +110,7 @@ chooses i a b rest others p t x no_else = let n = max t.inside.nesting x.nesting
       a,
       b,
       refl,
-      not_before_else place rest no_else f,
+      not_before_else setting rest no_else f,
       p,
       (t.o, t.b, t.c, t.is_whole, t.is_open, t.is_close, expression_at t.b t.inside n (omega arith)),
       inner_at x n (omega arith) Elsewhere tt,
@@ -123,7 +123,7 @@ chooses_else : (i e : Lexeme) (a b c rest others : List Lexeme) → Is w.If i �
 chooses_else i e a b c rest others p t x comes q y = let n = max t.inside.nesting (max x.nesting y.nesting) in record {
   nesting = suc n;
   tree = made (Chooses t.inside.tree x.tree (just y.tree)) (i ∷ (a ++ (b ++ (e ∷ c))));
-  derives = λ place f. (
+  derives = λ setting f. (
     refl,
     refl,
     (
@@ -138,7 +138,7 @@ chooses_else i e a b c rest others p t x comes q y = let n = max t.inside.nestin
       inner_at x n
           (omega arith) BeforeElse comes,
       q,
-      inner_at y n (omega arith) (last place) (allows_last place rest f),
+      inner_at y n (omega arith) (last setting) (allows_last setting rest f),
     ),
   );
 }
@@ -147,7 +147,7 @@ whiles : (i : Lexeme) (a b rest : List Lexeme) → Is w.While i → SomeTest a �
 whiles i a b rest p t x = let n = max t.inside.nesting x.nesting in record {
   nesting = suc n;
   tree = made (Whiles t.inside.tree x.tree) (i ∷ (a ++ b));
-  derives = λ place f. (
+  derives = λ setting f. (
     refl,
     refl,
     (
@@ -158,7 +158,7 @@ whiles i a b rest p t x = let n = max t.inside.nesting x.nesting in record {
       p,
       (t.o, t.b, t.c, t.is_whole, t.is_open, t.is_close, expression_at t.b t.inside n (omega arith)),
       inner_at x n (omega arith)
-          (last place) (allows_last place rest f),
+          (last setting) (allows_last setting rest f),
     ),
   );
 }
@@ -167,7 +167,7 @@ does : (i h z : Lexeme) (a b rest others : List Lexeme) → Is w.Do i → OneSta
 does i h z a b rest others p x q t is = let n = max t.inside.nesting x.nesting in record {
   nesting = suc n;
   tree = made (Does x.tree t.inside.tree) (i ∷ (a ++ (h ∷ (b ++ (z ∷ [])))));
-  derives = λ place f. (
+  derives = λ setting f. (
     refl,
     refl,
     (
@@ -197,7 +197,7 @@ fors : (i o y z : Lexeme) (a b c d rest : List Lexeme) → Is w.For i → Is w.O
 fors i o y z a b c d rest p q (l, init, h) (m, test, t) is (k, each, g) ends x = let n = max (max l m) (max k x.nesting) in record {
   nesting = suc n;
   tree = made (Fors init test each x.tree) (i ∷ o ∷ (a ++ ((b ++ (y ∷ [])) ++ ((c ++ (z ∷ [])) ++ d))));
-  derives = λ place f. (
+  derives = λ setting f. (
     refl,
     refl,
     (
@@ -213,20 +213,20 @@ fors i o y z a b c d rest p q (l, init, h) (m, test, t) is (k, each, g) ends x =
       init_weaker (IsExpression l) (IsExpression (suc n)) (expression_deeper l (suc n) (omega arith)) init a h,
       (b, y, refl, is, optional_weaker (IsExpression m) (IsExpression (suc n)) (expression_deeper m (suc n) (omega arith)) test b t),
       (c, z, refl, ends, optional_weaker (IsExpression k) (IsExpression (suc n)) (expression_deeper k (suc n) (omega arith)) each c g),
-      inner_at x n (omega arith) (last place) (allows_last place rest f),
+      inner_at x n (omega arith) (last setting) (allows_last setting rest f),
     ),
   );
 }
 
 jumps : (t z : Lexeme) (rest : List Lexeme) → (t.terminal ≡ w.Break) ⊎ (t.terminal ≡ w.Continue) → Is w.Semicolon z → OneStatement (t ∷ z ∷ []) rest
-jumps t z rest (inl p) q = record { nesting = 1; tree = made Breaks (t ∷ z ∷ []); derives = λ place f. (refl, refl, rw (p, q) refl) }
-jumps t z rest (inr p) q = record { nesting = 1; tree = made Continues (t ∷ z ∷ []); derives = λ place f. (refl, refl, rw (p, q) refl) }
+jumps t z rest (inl p) q = record { nesting = 1; tree = made Breaks (t ∷ z ∷ []); derives = λ setting f. (refl, refl, rw (p, q) refl) }
+jumps t z rest (inr p) q = record { nesting = 1; tree = made Continues (t ∷ z ∷ []); derives = λ setting f. (refl, refl, rw (p, q) refl) }
 
 returns : (t z : Lexeme) (a rest : List Lexeme) → Is w.Return t → SomeOptional a → Is w.Semicolon z → OneStatement (t ∷ (a ++ (z ∷ []))) rest
 returns t z a rest p (n, x, d) q = record {
   nesting = suc n;
   tree = made (Returns x) (t ∷ (a ++ (z ∷ [])));
-  derives = λ place f. (refl, refl, (t, a ++ (z ∷ []), refl, p, (a, z, refl, q, optional_weaker (IsExpression n) (IsExpression (suc n)) (expression_deeper n (suc n) (omega arith)) x a d)));
+  derives = λ setting f. (refl, refl, (t, a ++ (z ∷ []), refl, p, (a, z, refl, q, optional_weaker (IsExpression n) (IsExpression (suc n)) (expression_deeper n (suc n) (omega arith)) x a d)));
 }
 
 -- ---- the symbols of statements
@@ -292,7 +292,8 @@ suffixed m a rest h (b, c, f, suffixes, others) = moved (rw f (sym (append_assoc
 named_unary : (m : Lexeme) → Is w.Name m → Stands Unary (m ∷ [])
 named_unary m is = postfix_unary (m ∷ []) (name_postfix m is)
 
-by_assignment : (kind : TerminalKind) (t : Lexeme) (a rest : List Lexeme) → kind_of_terminal t.terminal ≡ kind → Given (onto (assignment kind) (s.Semicolon ∷ [])) a rest → Means s.AfterName (t ∷ a) rest
+by_assignment : (kind : TerminalKind) (t : Lexeme) (a rest : List Lexeme) → kind_of_terminal t.terminal ≡ kind → Given (onto (assignment kind) (s.Semicolon ∷ [])) a rest
+    → Means s.AfterName (t ∷ a) rest
 by_assignment kind t a rest e h m is =
     let x = split_onto (assignment kind) s.Semicolon [] a rest h in
     moved (ap (λ (z : List Lexeme). m ∷ t ∷ z) (x.2 ∙ ap (λ (z : List Lexeme). x.0 ++ z) x.4.1))

@@ -64,11 +64,11 @@ unary k.Step = Some (s.Unary ∷ [])
 unary _ = None
 
 abbrev pub expression : TerminalKind → Next
-expression k.Open = Some (s.Opened ∷ [])
+expression k.Open = Some (s.AfterOpen ∷ [])
 expression kind = onto (unary kind) (s.Tail true ∷ [])
 
 abbrev pub operand : TerminalKind → Next
-operand k.Open = Some (s.OpenedOperand ∷ [])
+operand k.Open = Some (s.AfterOpenOperand ∷ [])
 operand kind = unary kind
 
 abbrev pub plain_unary : TerminalKind → Next
@@ -76,7 +76,7 @@ plain_unary k.Open = Some (s.Expression ∷ s.Close ∷ s.Suffixes ∷ [])
 plain_unary kind = unary kind
 
 abbrev pub measured : TerminalKind → Next
-measured k.Open = Some (s.OpenedMeasured ∷ [])
+measured k.Open = Some (s.AfterOpenMeasured ∷ [])
 measured kind = unary kind
 
 abbrev pub call : TerminalKind → Next
@@ -267,9 +267,9 @@ after s.Expression kind = expression kind
 after s.Operand kind = operand kind
 after s.Unary kind = plain_unary kind
 after s.Measured kind = measured kind
-after s.Opened kind = either (onto (type_name kind) (s.Close ∷ s.Operand ∷ s.Tail false ∷ [])) (onto (expression kind) (s.Close ∷ s.Suffixes ∷ s.Tail true ∷ []))
-after s.OpenedOperand kind = either (onto (type_name kind) (s.Close ∷ s.Operand ∷ [])) (onto (expression kind) (s.Close ∷ s.Suffixes ∷ []))
-after s.OpenedMeasured kind = either (onto (type_name kind) (s.Close ∷ [])) (onto (expression kind) (s.Close ∷ s.Suffixes ∷ []))
+after s.AfterOpen kind = either (onto (type_name kind) (s.Close ∷ s.Operand ∷ s.Tail false ∷ [])) (onto (expression kind) (s.Close ∷ s.Suffixes ∷ s.Tail true ∷ []))
+after s.AfterOpenOperand kind = either (onto (type_name kind) (s.Close ∷ s.Operand ∷ [])) (onto (expression kind) (s.Close ∷ s.Suffixes ∷ []))
+after s.AfterOpenMeasured kind = either (onto (type_name kind) (s.Close ∷ [])) (onto (expression kind) (s.Close ∷ s.Suffixes ∷ []))
 after s.Call kind = call kind
 after s.Texts kind = texts kind
 after s.Suffixes kind = suffixes kind

@@ -169,7 +169,7 @@ fn statement_of(kind: TerminalKind) -> Option<Coming>
 }
 
 /// What is to come in a symbol's place behind its first token, if one of this kind may be first there. It isn't inlined: what each symbol asks of the token would be worked out before it is known which symbol is next.
-#[tactic(auto, using(crate::proofs::Codes::whole_first, crate::proofs::Codes::opened_is, crate::proofs::Codes::opened_operand_is, crate::proofs::Codes::opened_measured_is, crate::proofs::Codes::param_is))]
+#[tactic(auto, using(crate::proofs::Codes::whole_first, crate::proofs::Codes::after_open_is, crate::proofs::Codes::after_open_operand_is, crate::proofs::Codes::after_open_measured_is, crate::proofs::Codes::param_is))]
 #[inline(never)]
 fn after_of(symbol: Symbol, kind: TerminalKind) -> Option<Coming>
     ensures { MatchOption result (after symbol kind ≡ None) (λ new. after symbol kind ≡ Some (new.first.now ++ new.second.now)) }
@@ -186,7 +186,7 @@ fn after_of(symbol: Symbol, kind: TerminalKind) -> Option<Coming>
         Symbol::Operand => alone(operand_of(kind)),
         Symbol::Unary => alone(unary_of(kind)),
         Symbol::Measured => alone(measured_of(kind)),
-        Symbol::Opened => type_or_expression(
+        Symbol::AfterOpen => type_or_expression(
             kind,
             &[
                 Symbol::TwoStars,
@@ -196,12 +196,12 @@ fn after_of(symbol: Symbol, kind: TerminalKind) -> Option<Coming>
             ],
             &[Symbol::Close, Symbol::Suffixes, Symbol::Tail(true)],
         ),
-        Symbol::OpenedOperand => type_or_expression(
+        Symbol::AfterOpenOperand => type_or_expression(
             kind,
             &[Symbol::TwoStars, Symbol::Close, Symbol::Operand],
             &[Symbol::Close, Symbol::Suffixes],
         ),
-        Symbol::OpenedMeasured => type_or_expression(
+        Symbol::AfterOpenMeasured => type_or_expression(
             kind,
             &[Symbol::TwoStars, Symbol::Close],
             &[Symbol::Close, Symbol::Suffixes],

@@ -166,7 +166,7 @@ pub fn initial_of(kind: TerminalKind) -> Option<&'static [Symbol]>
             Symbol::MoreElements,
             Symbol::CloseBrace,
         ]),
-        TerminalKind::Open => Some(&[Symbol::Opened]),
+        TerminalKind::Open => Some(&[Symbol::AfterOpen]),
         TerminalKind::Name => Some(&[Symbol::Call, Symbol::Suffixes, Symbol::Tail(true)]),
         TerminalKind::Constant => Some(&[Symbol::Suffixes, Symbol::Tail(true)]),
         TerminalKind::Text => Some(&[Symbol::Texts, Symbol::Suffixes, Symbol::Tail(true)]),

@@ -18,11 +18,11 @@ pub enum Symbol {
     /// behind `sizeof`
     Measured,
     /// behind a `(` at the front of an expression: the rest of a cast or of parentheses, and of the expression
-    Opened,
+    AfterOpen,
     /// behind a `(` at the front of an operand
-    OpenedOperand,
+    AfterOpenOperand,
     /// behind `sizeof (`
-    OpenedMeasured,
+    AfterOpenMeasured,
     /// may be empty: the arguments behind a name, with their parentheses
     Call,
     /// may be empty: strings behind a string

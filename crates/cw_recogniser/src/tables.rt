@@ -12,7 +12,7 @@ pub fn expression_of(kind: TerminalKind) -> Option<&'static [Symbol]>
     ensures { MatchOption result (expression kind ≡ None) (λ new. expression kind ≡ Some new.now) }
 {
     match kind {
-        TerminalKind::Open => Some(&[Symbol::Opened]),
+        TerminalKind::Open => Some(&[Symbol::AfterOpen]),
         TerminalKind::Name => Some(&[Symbol::Call, Symbol::Suffixes, Symbol::Tail(true)]),
         TerminalKind::Constant => Some(&[Symbol::Suffixes, Symbol::Tail(true)]),
         TerminalKind::Text => Some(&[Symbol::Texts, Symbol::Suffixes, Symbol::Tail(true)]),
@@ -31,7 +31,7 @@ pub fn operand_of(kind: TerminalKind) -> Option<&'static [Symbol]>
     ensures { MatchOption result (operand kind ≡ None) (λ new. operand kind ≡ Some new.now) }
 {
     match kind {
-        TerminalKind::Open => Some(&[Symbol::OpenedOperand]),
+        TerminalKind::Open => Some(&[Symbol::AfterOpenOperand]),
         TerminalKind::Name => Some(&[Symbol::Call, Symbol::Suffixes]),
         TerminalKind::Constant => Some(&[Symbol::Suffixes]),
         TerminalKind::Text => Some(&[Symbol::Texts, Symbol::Suffixes]),
@@ -63,7 +63,7 @@ pub fn measured_of(kind: TerminalKind) -> Option<&'static [Symbol]>
     ensures { MatchOption result (measured kind ≡ None) (λ new. measured kind ≡ Some new.now) }
 {
     match kind {
-        TerminalKind::Open => Some(&[Symbol::OpenedMeasured]),
+        TerminalKind::Open => Some(&[Symbol::AfterOpenMeasured]),
         TerminalKind::Name => Some(&[Symbol::Call, Symbol::Suffixes]),
         TerminalKind::Constant => Some(&[Symbol::Suffixes]),
         TerminalKind::Text => Some(&[Symbol::Texts, Symbol::Suffixes]),

@@ -28,11 +28,11 @@ fn all_name_bytes(bytes: &[u8]) -> bool
     bytes.iter().all(|b| is_name_byte(*b))
 }
 
-/// Whether a word has the form of a C name: a letter or `_`, and then letters, digits and `_`.
-pub fn is_name(word: &[u8]) -> bool
-    ensures { result ≡ is_name word.now }
+/// Whether a text has the form of a C name: a letter or `_`, and then letters, digits and `_`.
+pub fn is_name(name: &[u8]) -> bool
+    ensures { result ≡ is_name name.now }
 {
-    match word {
+    match name {
         [] => false,
         [first, rest @ ..] => is_name_start(*first) && all_name_bytes(rest),
     }

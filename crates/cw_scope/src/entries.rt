@@ -69,7 +69,7 @@ fn is_start(braces: bool, init: &[Expr]) -> bool
     }
 }
 
-/// Whether a type's word is `int`.
+/// Whether a type's keyword is `int`.
 fn is_int(base: Base) -> bool
     ensures { result ≡ is_int base }
 {

@@ -7,7 +7,7 @@ use Rattle.cw_grammar.specs.Lexemes.{from_of, AreAll, statements}
 use Rattle.cw_grammar.specs.Expressions.{IsExpression, nesting_limit}
 use Rattle.cw_grammar.specs.Declarations.{Expressions}
 use Rattle.cw_grammar.specs.Spelling.{lexemes_of}
-use Rattle.cw_grammar.specs.Statements.{Place, InBlock, BeforeElse, Elsewhere, last, IsInit, IsForm, IsStatement}
+use Rattle.cw_grammar.specs.Statements.{Setting, InBlock, BeforeElse, Elsewhere, last, IsInit, IsForm, IsStatement}
 use Rattle.cw_grammar.specs.Files.{Part, Declares as DeclaresPart, Holds, Defines, IsPart, IsFunction, IsProgram, file_of}
 use Rattle.cw_syntax.specs.Names.{Names}
 use Rattle.cw_syntax.specs.Trees.{Statement, Stated, Form, Block, Declares, Evaluates, Empties, Labels, Chooses, Whiles, Does, Fors, Breaks, Continues, Returns, Perhaps, nothing}
@@ -87,8 +87,8 @@ test_or_step : AtTest ≢ AtStep
 test_or_step e = absurd (cc)
 
 -- a rule, where the claim holds of the statements in it
-module _ (s : Scene) (E : Expressions) (P : Place → List Lexeme → Statement → Type 0)
-    (h : (place : Place) (ts : List Lexeme) (st : Statement) (j from to : ℕ) → P place ts st → Lie from to ts → Lies from to (Has (numbered (steps_of s st) j))) where
+module _ (s : Scene) (E : Expressions) (P : Setting → List Lexeme → Statement → Type 0)
+    (h : (setting : Setting) (ts : List Lexeme) (st : Statement) (j from to : ℕ) → P setting ts st → Lie from to ts → Lies from to (Has (numbered (steps_of s st) j))) where
   all_named : (ts : List Lexeme) (ss : List Statement) (j from to : ℕ) → AreAll (P InBlock) ts ss → Lie from to ts → Lies from to (HasAll (numbered_all (steps_of_all s (statements ss)) j))
   all_named ts [] j from to none lie = lies_none from to
   all_named ts (st ∷ ss) j from to (x, y, whole, one, rest) lie =
@@ -111,24 +111,24 @@ module _ (s : Scene) (E : Expressions) (P : Place → List Lexeme → Statement 
       let p = first_within from to ts some lie in
       lies_one from to i (inner, (let a = p.0 in omega (arith, a, at)), (let b = p.1 in omega (arith, b, at)))
 
-  form_named : (place : Place) (ts : List Lexeme) (form : Form) (j from to : ℕ) → IsForm E P place ts form → Lie from to ts → Lies from to (Has (numbered (steps_of_form s (from_of ts) form) j))
-  form_named place ts (Block kids) j from to (inner, kids_are, (o, x, c, whole, opens, closes, all)) lie =
+  form_named : (setting : Setting) (ts : List Lexeme) (form : Form) (j from to : ℕ) → IsForm E P setting ts form → Lie from to ts → Lies from to (Has (numbered (steps_of_form s (from_of ts) form) j))
+  form_named setting ts (Block kids) j from to (inner, kids_are, (o, x, c, whole, opens, closes, all)) lie =
       let p = lie_at from to ts (o ∷ x ++ c ∷ []) whole lie in
       let q = split o.to to x (c ∷ []) p.2 in
       let before : from ≤ o.to = (let a = p.0 in let b = p.1 in omega arith) in
       rw kids_are (lies_wider o.to q.0 from to _ before (lie_le q.0 to (c ∷ []) q.2) (all_named x inner j o.to q.0 all q.1))
-  form_named place ts (Declares d) j from to is lie = plain_named ts (Todo (Plain (from_of ts))) from to tt refl (some_declaration E ts d is.1) lie
-  form_named place ts (Evaluates e) j from to (inner, c, whole, closes, is) lie =
+  form_named setting ts (Declares d) j from to is lie = plain_named ts (Todo (Plain (from_of ts))) from to tt refl (some_declaration E ts d is.1) lie
+  form_named setting ts (Evaluates e) j from to (inner, c, whole, closes, is) lie =
       let some : 0 < length ts = omega (arith, ap length whole, length-append inner (c ∷ [])) in
       acting_named (action_of s e) (from_of ts) j from to (first_within from to ts some lie)
-  form_named place ts Empties j from to is lie = plain_named ts (Todo (Plain (from_of ts))) from to tt refl (some_terminals ts _ _ is) lie
-  form_named place ts (Labels name mark body) j from to (n, k, x, whole, n_is, k_is, name_is, mark_is, is) lie =
+  form_named setting ts Empties j from to is lie = plain_named ts (Todo (Plain (from_of ts))) from to tt refl (some_terminals ts _ _ is) lie
+  form_named setting ts (Labels name mark body) j from to (n, k, x, whole, n_is, k_is, name_is, mark_is, is) lie =
       let p = lie_at from to ts (n ∷ k ∷ x) whole lie in
       let at : from_of ts ≡ n.from = ap from_of whole in
       let up : from ≤ from_of ts = (let a = p.0 in omega (arith, at, a)) in
       let lt : from_of ts < k.to = (let a = p.1 in let b = p.2.0 in let c = p.2.1 in omega (arith, at, a, b, c)) in
-      lies_led from (from_of ts) k.to to _ _ tt refl up lt (lie_le k.to to x p.2.2) (h (last place) x body (j + 1) k.to to is p.2.2)
-  form_named place ts (Chooses test arm nothing) j from to (i, x, y, whole, place_is, i_is, test_is, is) lie =
+      lies_led from (from_of ts) k.to to _ _ tt refl up lt (lie_le k.to to x p.2.2) (h (last setting) x body (j + 1) k.to to is p.2.2)
+  form_named setting ts (Chooses test arm nothing) j from to (i, x, y, whole, setting_is, i_is, test_is, is) lie =
       let p = lie_at from to ts (i ∷ x ++ y) whole lie in
       let q = split i.to to x y p.2 in
       let at : from_of ts ≡ i.from = ap from_of whole in
@@ -136,7 +136,7 @@ module _ (s : Scene) (E : Expressions) (P : Place → List Lexeme → Statement 
       let lt : from_of ts < q.0 = (let a = p.1 in let b = lie_le i.to q.0 x q.1 in omega (arith, at, a, b)) in
       let further : q.0 ≤ to = lie_le q.0 to y q.2 in
       lies_led from (from_of ts) q.0 to _ _ tt refl up lt further (lies_both q.0 to to _ _ further (omega arith) (h Elsewhere y arm j q.0 to is q.2) (lies_none to to))
-  form_named place ts (Chooses test arm (just other)) j from to (i, x, y, e, z, whole, i_is, test_is, is, e_is, other_is) lie =
+  form_named setting ts (Chooses test arm (just other)) j from to (i, x, y, e, z, whole, i_is, test_is, is, e_is, other_is) lie =
       let p = lie_at from to ts (i ∷ x ++ (y ++ e ∷ z)) whole lie in
       let q = split i.to to x (y ++ e ∷ z) p.2 in
       let r = split q.0 to y (e ∷ z) q.2 in
@@ -145,18 +145,18 @@ module _ (s : Scene) (E : Expressions) (P : Place → List Lexeme → Statement 
       let lt : from_of ts < q.0 = (let a = p.1 in let b = lie_le i.to q.0 x q.1 in omega (arith, at, a, b)) in
       let between : r.0 ≤ e.to = (let a = r.2.0 in let b = r.2.1 in omega arith) in
       let first_arm = h BeforeElse y arm j q.0 r.0 is r.1 in
-      let second_arm = h (last place) z other (j + seams (steps_of s arm)) e.to to other_is r.2.2 in
+      let second_arm = h (last setting) z other (j + seams (steps_of s arm)) e.to to other_is r.2.2 in
       let after = lie_le e.to to z r.2.2 in
       let arms = lies_both q.0 r.0 to _ _ (lie_le q.0 r.0 y r.1) (omega (arith, between, after)) first_arm (lies_wider e.to to r.0 to _ between (omega arith) second_arm) in
       lies_led from (from_of ts) q.0 to _ _ tt refl up lt (lie_le q.0 to (y ++ e ∷ z) q.2) arms
-  form_named place ts (Whiles test body) j from to (w, x, y, whole, w_is, test_is, is) lie =
+  form_named setting ts (Whiles test body) j from to (w, x, y, whole, w_is, test_is, is) lie =
       let p = lie_at from to ts (w ∷ x ++ y) whole lie in
       let q = split w.to to x y p.2 in
       let at : from_of ts ≡ w.from = ap from_of whole in
       let up : from ≤ from_of ts = (let a = p.0 in omega (arith, at, a)) in
       let lt : from_of ts < q.0 = (let a = p.1 in let b = lie_le w.to q.0 x q.1 in omega (arith, at, a, b)) in
-      lies_led from (from_of ts) q.0 to _ _ tt refl up lt (lie_le q.0 to y q.2) (h (last place) y body j q.0 to is q.2)
-  form_named place ts (Does body test) j from to (d, x, w, y, c, whole, d_is, is, w_is, test_is, c_is) lie =
+      lies_led from (from_of ts) q.0 to _ _ tt refl up lt (lie_le q.0 to y q.2) (h (last setting) y body j q.0 to is q.2)
+  form_named setting ts (Does body test) j from to (d, x, w, y, c, whole, d_is, is, w_is, test_is, c_is) lie =
       let p = lie_at from to ts (d ∷ x ++ (w ∷ y ++ c ∷ [])) whole lie in
       let q = split d.to to x (w ∷ y ++ c ∷ []) p.2 in
       let at : from_of ts ≡ d.from = ap from_of whole in
@@ -164,7 +164,7 @@ module _ (s : Scene) (E : Expressions) (P : Place → List Lexeme → Statement 
       let lt : from_of ts < d.to = (let a = p.1 in omega (arith, at, a)) in
       let inner = lies_wider d.to q.0 d.to to _ (omega arith) (lie_le q.0 to (w ∷ y ++ c ∷ []) q.2) (h Elsewhere x body j d.to q.0 is q.1) in
       lies_led from (from_of ts) d.to to _ _ tt refl up lt (lie_le d.to to (x ++ (w ∷ y ++ c ∷ [])) p.2) inner
-  form_named place ts (Fors init test step body) j from to (f, o, x, y, z, v, whole, f_is, o_is, init_is, test_is, step_is, is) lie =
+  form_named setting ts (Fors init test step body) j from to (f, o, x, y, z, v, whole, f_is, o_is, init_is, test_is, step_is, is) lie =
       let p = lie_at from to ts (f ∷ o ∷ x ++ (y ++ (z ++ v))) whole lie in
       let q = split o.to to x (y ++ (z ++ v)) p.2.2 in
       let r = split q.0 to y (z ++ v) q.2 in
@@ -173,13 +173,13 @@ module _ (s : Scene) (E : Expressions) (P : Place → List Lexeme → Statement 
       let up : from ≤ from_of ts = (let a = p.0 in omega (arith, at, a)) in
       let lt : from_of ts < o.to = (let a = p.1 in let b = p.2.0 in let c = p.2.1 in omega (arith, at, a, b, c)) in
       let head : q.0 ≤ u.0 = (let b = lie_le q.0 r.0 y r.1 in let c = lie_le r.0 u.0 z u.1 in omega arith) in
-      let inner = lies_wider u.0 to q.0 to _ head (omega arith) (h (last place) v body j u.0 to is u.2) in
+      let inner = lies_wider u.0 to q.0 to _ head (omega arith) (h (last setting) v body j u.0 to is u.2) in
       let parts = lies_both o.to q.0 to _ _ (lie_le o.to q.0 x q.1) (lie_le q.0 to (y ++ (z ++ v)) q.2) (init_named x init o.to q.0 init_is q.1) inner in
       let turns = lies_two from o.to (Test (from_of ts) (is_some test) (is_some step) (numbered (steps_of s body) j)) (After (from_of ts)) (tt, up, lt) (tt, up, lt) test_or_step in
       lies_both from o.to to _ _ (omega (arith, up, lt)) (lie_le o.to to (x ++ (y ++ (z ++ v))) p.2.2) turns parts
-  form_named place ts Breaks j from to is lie = plain_named ts (Todo (Break (from_of ts))) from to tt refl (some_terminals ts _ _ is) lie
-  form_named place ts Continues j from to is lie = plain_named ts (Todo (Continue (from_of ts))) from to tt refl (some_terminals ts _ _ is) lie
-  form_named place ts (Returns value) j from to (r, b, whole, r_is, is) lie =
+  form_named setting ts Breaks j from to is lie = plain_named ts (Todo (Break (from_of ts))) from to tt refl (some_terminals ts _ _ is) lie
+  form_named setting ts Continues j from to is lie = plain_named ts (Todo (Continue (from_of ts))) from to tt refl (some_terminals ts _ _ is) lie
+  form_named setting ts (Returns value) j from to (r, b, whole, r_is, is) lie =
       let some : 0 < length ts = omega (arith, ap length whole) in
       plain_named ts (Todo (Return (from_of ts))) from to tt refl some lie
 
@@ -189,10 +189,11 @@ HasBodies [] x = ⊥
 HasBodies (r ∷ rs) x = HasAll r.body x ⊎ HasBodies rs x
 
 module _ (s : Scene) (limit : ℕ) where
-  statement_named : (n : ℕ) (place : Place) (ts : List Lexeme) (st : Statement) (j from to : ℕ) → IsStatement limit n place ts st → Lie from to ts → Lies from to (Has (numbered (steps_of s st) j))
-  statement_named zero place ts st j from to is lie = absurd is
-  statement_named (suc n) place ts (Stated form begin finish) j from to (begin_is, finish_is, is) lie =
-      rw begin_is (form_named s (IsExpression limit) (IsStatement limit n) (statement_named n) place ts form j from to is lie)
+  statement_named : (n : ℕ) (setting : Setting) (ts : List Lexeme) (st : Statement) (j from to : ℕ) → IsStatement limit n setting ts st → Lie from to ts
+      → Lies from to (Has (numbered (steps_of s st) j))
+  statement_named zero setting ts st j from to is lie = absurd is
+  statement_named (suc n) setting ts (Stated form begin finish) j from to (begin_is, finish_is, is) lie =
+      rw begin_is (form_named s (IsExpression limit) (IsStatement limit n) (statement_named n) setting ts form j from to is lie)
 
   function_named : (ts : List Lexeme) (f : Definition) (j from to : ℕ) → IsFunction limit ts f → Lie from to ts → Lies from to (HasAll (numbered_all (steps_of_all s f.body) j))
   function_named ts f j from to (x, o, y, c, body, whole, header, named, opens, brace, all, body_is, closes) lie =

@@ -22,7 +22,7 @@ use Rattle.cw_commands.specs.declared.outcome.Cause.TheVariants.{Source, Policy,
 use Rattle.cw_commands.specs.declared.outcome.Reply.TheVariants.{No}
 use Rattle.cw_commands.specs.Outcomes.{Due, Refused, Told}
 use Rattle.cw_answer_texts.proofs.Tabled.{length_memories as memories_many}
-use Rattle.cw_stages.specs.Held.{list_name, told_row, woven_cause, woven_words}
+use Rattle.cw_stages.specs.Held.{list_name, told_row, woven_cause, woven_front}
 use Rattle.cw_stages.specs.Tables.{of_woven, part_name, told}
 
 name_is : (part : Part) → list_name (table_of part) ≡ part_name part
@@ -96,7 +96,7 @@ unopened policy text (fault.Source why) h = absurd h
 unopened policy text (fault.Misplaced n) h = absurd h
 
 -- the refusal of a woven text by that of its source
-pub woven_is : (cause : Cause) (line : List ℕ) → Refused (woven_cause cause) (woven_words cause ++ line) ≡ of_woven (Refused cause line)
+pub woven_is : (cause : Cause) (line : List ℕ) → Refused (woven_cause cause) (woven_front cause ++ line) ≡ of_woven (Refused cause line)
 woven_is Source line = refl
 woven_is Policy line = refl
 woven_is Limit line = refl

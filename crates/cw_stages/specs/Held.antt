@@ -25,6 +25,6 @@ abbrev pub woven_cause : Cause → Cause
 woven_cause Source = Grammar
 woven_cause cause = cause
 
-abbrev pub woven_words : Cause → List ℕ
-woven_words Source = codes "woven: "
-woven_words cause = []
+abbrev pub woven_front : Cause → List ℕ
+woven_front Source = codes "woven: "
+woven_front cause = []

@@ -8,7 +8,7 @@ ghost use Rattle.cw_stages.specs.Stops.{IsEnded, Refuses};
 
 use crate::fitting::unfitting;
 use crate::lines::{strategy_refusal, woven_refusal};
-use crate::refusals::{descriptor_refusal, numbered, over, source_refusal, worded};
+use crate::refusals::{descriptor_refusal, fronted, numbered, over, source_refusal};
 use crate::stop::Stop;
 use crate::told::Text;
 use cw_commands::{Cause, Outcome};
@@ -31,7 +31,7 @@ pub fn refused<O: Sink, N: Sink>(
         Stop::Source(fault) => source_refusal(source, fault, note),
         Stop::Descriptors(fault) => descriptor_refusal(source, policy, fault, note),
         Stop::Fit(fault) => Ok(unfitting(policy, source, *fault, note)),
-        Stop::Detached => Ok(worded(Cause::Policy, b"policy: detached", b"", note)),
+        Stop::Detached => Ok(fronted(Cause::Policy, b"policy: detached", b"", note)),
         Stop::Strategy(fault) => strategy_refusal(fault, note),
         Stop::Woven(fault) => woven_refusal(policy, source, fault, note),
         Stop::Tape(line) => Ok(numbered(Cause::Grammar, b"tape: line ", *line, note)),

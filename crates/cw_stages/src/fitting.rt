@@ -7,7 +7,7 @@ ghost use Rattle.cw_commands.specs.Starts.{BeginsLine, IsRefused};
 ghost use Rattle.cw_resolve.specs.Held.{name_in};
 ghost use Rattle.cw_stages.specs.Fitting.{fit_line, splitting_line};
 
-use crate::refusals::worded;
+use crate::refusals::fronted;
 use cw_callgraph::FitFault;
 use cw_commands::{Cause, Outcome};
 use cw_io::{Sink, Writer};
@@ -48,13 +48,13 @@ pub(crate) fn unfitting<O: Sink, N: Sink>(
     ensures notes { BeginsLine N.taken N.faults N.refused note.old note.new result }
 {
     match fault {
-        FitFault::NoLabel(index) => worded(
+        FitFault::NoLabel(index) => fronted(
             Cause::Policy,
             b"policy: no label ",
             name_in(&policy.labels, usize::from(index)),
             note,
         ),
-        FitFault::NoFunction(index) => worded(
+        FitFault::NoFunction(index) => fronted(
             Cause::Policy,
             b"policy: no function ",
             name_in(&policy.split, usize::from(index)),

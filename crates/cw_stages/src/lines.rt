@@ -4,7 +4,7 @@ ghost use Rattle.std.specs.Prelude.{◌≡◌, ◌≢◌, IfOk};
 ghost use Rattle.cw_rights.specs.Policies.{policy_of};
 ghost use Rattle.cw_commands.specs.Outcomes.{due_of};
 ghost use Rattle.cw_commands.specs.Starts.{IsRefused, StartsLine};
-ghost use Rattle.cw_stages.specs.Held.{woven_cause, woven_words};
+ghost use Rattle.cw_stages.specs.Held.{woven_cause, woven_front};
 ghost use Rattle.cw_stages.specs.Refusals.{source_refusal};
 ghost use Rattle.cw_stages.specs.Strategies.{strategy_refusal};
 ghost use Rattle.cw_stages.specs.Tables.{cut_refusal, of_woven, table_refusal, woven_refusal};
@@ -69,8 +69,8 @@ fn woven_cause(cause: Cause) -> Cause
 }
 
 /// What stands there before the line of a source's refusal.
-fn woven_words(cause: Cause) -> &'static [u8]
-    ensures { result.now ≡ woven_words cause }
+fn woven_front(cause: Cause) -> &'static [u8]
+    ensures { result.now ≡ woven_front cause }
 {
     match cause {
         Cause::Source => b"woven: ",
@@ -89,7 +89,7 @@ fn read_refusal<O: Sink, N: Sink>(
     ensures notes { StartsLine N.taken N.faults N.refused note.old note.new result }
 {
     let cause = source_cause(fault)?;
-    Ok(source_refusal_behind(woven_cause(cause), woven_words(cause), source, fault, note))
+    Ok(source_refusal_behind(woven_cause(cause), woven_front(cause), source, fault, note))
 }
 
 /// The refusal by the first fault of the source of a woven text.

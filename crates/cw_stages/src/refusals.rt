@@ -20,36 +20,36 @@ use cw_scope::{DescriptorFault, ScopeFault};
 use cw_source::{SourceFault, put_fault_line, put_place_line};
 use cw_text::descriptor_name;
 
-/// The refusal whose line is some words, and others behind them.
-pub(crate) fn worded<O: Sink, N: Sink>(
+/// The refusal whose line is a front, and the rest behind it.
+pub(crate) fn fronted<O: Sink, N: Sink>(
     cause: Cause,
-    words: &[u8],
+    front: &[u8],
     rest: &[u8],
     note: &mut N,
 ) -> Outcome<O, N>
-    ensures due { due_of result ≡ Refused cause (words.now ++ rest.now) }
+    ensures due { due_of result ≡ Refused cause (front.now ++ rest.now) }
     ensures refused { IsRefused result }
     ensures notes { BeginsLine N.taken N.faults N.refused note.old note.new result }
 {
     let mut line = Writer::begin(note);
-    line.put(words, note);
+    line.put(front, note);
     line.put(rest, note);
     Outcome::Refused(cause, line)
 }
 
-/// The refusal whose line is some words and a number.
+/// The refusal whose line is a front and a number.
 pub(crate) fn numbered<O: Sink, N: Sink>(
     cause: Cause,
-    words: &[u8],
+    front: &[u8],
     number: u32,
     note: &mut N,
 ) -> Outcome<O, N>
-    ensures due { due_of result ≡ Refused cause (words.now ++ decimal number) }
+    ensures due { due_of result ≡ Refused cause (front.now ++ decimal number) }
     ensures refused { IsRefused result }
     ensures notes { BeginsLine N.taken N.faults N.refused note.old note.new result }
 {
     let mut line = Writer::begin(note);
-    line.put(words, note);
+    line.put(front, note);
     line.put_number(u64::from(number), note);
     Outcome::Refused(cause, line)
 }
@@ -60,7 +60,7 @@ pub fn over<O: Sink, N: Sink>(quantity: Quantity, note: &mut N) -> Outcome<O, N>
     ensures refused { IsRefused result }
     ensures notes { BeginsLine N.taken N.faults N.refused note.old note.new result }
 {
-    worded(Cause::Limit, b"limit: ", quantity.name().as_bytes(), note)
+    fronted(Cause::Limit, b"limit: ", quantity.name().as_bytes(), note)
 }
 
 /// Which cause a policy's fault is, or want of memory.
@@ -107,20 +107,20 @@ pub(crate) fn source_cause(fault: &SourceFault) -> Result<Cause, NoMemory>
     }
 }
 
-/// The refusal by a source's fault, with its line behind some words.
+/// The refusal by a source's fault, with its line behind a front.
 pub(crate) fn source_refusal_behind<O: Sink, N: Sink>(
     cause: Cause,
-    words: &[u8],
+    front: &[u8],
     source: &[u8],
     fault: &SourceFault,
     note: &mut N,
 ) -> Outcome<O, N>
-    ensures due { due_of result ≡ Refused cause (words.now ++ source_line source.now fault.now) }
+    ensures due { due_of result ≡ Refused cause (front.now ++ source_line source.now fault.now) }
     ensures refused { IsRefused result }
     ensures notes { BeginsLine N.taken N.faults N.refused note.old note.new result }
 {
     let mut line = Writer::begin(note);
-    line.put(words, note);
+    line.put(front, note);
     put_fault_line(source, fault, &mut line, note);
     Outcome::Refused(cause, line)
 }
@@ -178,23 +178,23 @@ fn put_descriptor_fault<N: Sink>(
     }
 }
 
-/// The refusal by the first rule that a policy's descriptors break in a source, with its line behind some words.
+/// The refusal by the first rule that a policy's descriptors break in a source, with its line behind a front.
 pub(crate) fn descriptor_refusal_behind<O: Sink, N: Sink>(
     cause: Cause,
-    words: &[u8],
+    front: &[u8],
     source: &[u8],
     policy: &Policy,
     fault: &DescriptorFault,
     note: &mut N,
 ) -> Result<Outcome<O, N>, NoMemory>
     ensures due { IfOk result (λ outcome. (fault.now ≢ DescriptorFault.NoMemory)
-        × (due_of outcome ≡ Refused cause (words.now ++ descriptor_line source.now (policy_of policy.now) fault.now))) }
+        × (due_of outcome ≡ Refused cause (front.now ++ descriptor_line source.now (policy_of policy.now) fault.now))) }
     ensures refused { IfOk result IsRefused }
     ensures notes { StartsLine N.taken N.faults N.refused note.old note.new result }
 {
     descriptor_known(fault)?;
     let mut line = Writer::begin(note);
-    line.put(words, note);
+    line.put(front, note);
     put_descriptor_fault(source, policy, fault, &mut line, note);
     Ok(Outcome::Refused(cause, line))
 }

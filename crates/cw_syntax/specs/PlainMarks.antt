@@ -1,12 +1,12 @@
--- Marks that spell no slash, and words that stand nowhere in a text.
+-- Marks that spell no slash, and needles that stand nowhere in a text.
 use Rattle.std.specs.Prelude.{◌≡◌, ℕ, nat_eq, false, List, drop, Some, codes}
 use Rattle.std.specs.List.{All, starts_with}
 use Rattle.cw_syntax.specs.Names.{text}
 use Rattle.cw_syntax.specs.Marks.{MarkKind, CallMark, SeamMark}
 
--- the word begins at no place of the text
+-- the needle begins at no place of the text
 abbrev pub HasNone : List ℕ → List ℕ → Type 0
-HasNone word text = (at : ℕ) → starts_with nat_eq (drop at text) word ≡ false
+HasNone needle text = (at : ℕ) → starts_with nat_eq (drop at text) needle ≡ false
 
 -- no name that a mark spells has a slash: a name has letters, digits and `_`
 abbrev pub IsPlainKind : List ℕ → MarkKind → Type 0

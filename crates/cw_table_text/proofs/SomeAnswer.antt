@@ -98,88 +98,88 @@ seek_answer {B} Fit seek f text = by_both (seek (λ b. f (None, b)) text) (seek_
 -- ---- the row of a line
 
 -- a row of one kind with this line, or none
-abbrev Kind : (format : ℕ) {A : Type 0} → (A → Row) → List ℕ → Type 0
-Kind format {A} row l = ((a : A) × Fits format (row a) × (row_text format (row a) ≡ l)) ⊎ ((a : A) → Fits format (row a) → row_text format (row a) ≢ l)
+abbrev RowKind : (format : ℕ) {A : Type 0} → (A → Row) → List ℕ → Type 0
+RowKind format {A} row l = ((a : A) × Fits format (row a) × (row_text format (row a) ≡ l)) ⊎ ((a : A) → Fits format (row a) → row_text format (row a) ≢ l)
 
-live_kind : (format : ℕ) (l : List ℕ) → Kind format Live l
+live_kind : (format : ℕ) (l : List ℕ) → RowKind format Live l
 live_kind format l = by_seek ((seek_number (2 ^ 32) (Below (2 ^ 32) FitsLast) (seek_number (2 ^ 32) FitsLast seek_last)) (λ p. row_text format (Live (pos_of p.0, mem_of p.1.0))) l)
   where
-    by_seek : Sought (Below (2 ^ 32) (Below (2 ^ 32) FitsLast)) (λ p. row_text format (Live (pos_of p.0, mem_of p.1.0))) l → Kind format Live l
+    by_seek : Sought (Below (2 ^ 32) (Below (2 ^ 32) FitsLast)) (λ p. row_text format (Live (pos_of p.0, mem_of p.1.0))) l → RowKind format Live l
     by_seek (inl q) = let p = q.0 in let fits = q.1 in inl ((pos_of p.0, mem_of p.1.0), (fits.0, fits.1.0), q.2)
     by_seek (inr none) = inr (λ r fit e. none (r.0.0, (r.1.0, tt)) (fit.0, (fit.1, tt)) e)
 
-try_kind : (format : ℕ) (l : List ℕ) → Kind format Try l
+try_kind : (format : ℕ) (l : List ℕ) → RowKind format Try l
 try_kind format l = by_seek ((seek_number (2 ^ 32) (Below (2 ^ 8) (Below (2 ^ 32) (Answered (Answered FitsLast))))
     (seek_number (2 ^ 8) (Below (2 ^ 32) (Answered (Answered FitsLast)))
     (seek_number (2 ^ 32) (Answered (Answered FitsLast)) (seek_answer (Answered FitsLast) (seek_answer FitsLast seek_last)))))
     (λ p. row_text format (Try (try_row p.0 p.1.0 p.1.1.0 p.1.1.1.0 p.1.1.1.1.0))) l)
   where
     by_seek : Sought (Below (2 ^ 32) (Below (2 ^ 8) (Below (2 ^ 32) (Answered (Answered FitsLast))))) (λ p. row_text format (Try (try_row p.0 p.1.0 p.1.1.0 p.1.1.1.0 p.1.1.1.1.0))) l
-        → Kind format Try l
+        → RowKind format Try l
     by_seek (inl q) = let p = q.0 in let fits = q.1 in inl ((try_row p.0 p.1.0 p.1.1.0 p.1.1.1.0 p.1.1.1.1.0), (fits.0, fits.1.0, fits.1.1.0, fits.1.1.1.0, fits.1.1.1.1.0), q.2)
     by_seek (inr none) = inr (λ r fit e. none (r.seam.0, (r.stage, (r.mem.0, (r.granted, (r.refused, tt))))) (fit.0, (fit.1, (fit.2, (fit.3, (fit.4, tt))))) e)
 
-at_kind : (format : ℕ) (l : List ℕ) → Kind format At l
+at_kind : (format : ℕ) (l : List ℕ) → RowKind format At l
 at_kind format l = by_seek ((seek_number (2 ^ 32) (Below (2 ^ 32) (Below (2 ^ 32) FitsLast)) (seek_number (2 ^ 32) (Below (2 ^ 32) FitsLast) (seek_number (2 ^ 32) FitsLast seek_last)))
     (λ p. row_text format (At (at_row p.0 p.1.0 p.1.1.0))) l)
   where
-    by_seek : Sought (Below (2 ^ 32) (Below (2 ^ 32) (Below (2 ^ 32) FitsLast))) (λ p. row_text format (At (at_row p.0 p.1.0 p.1.1.0))) l → Kind format At l
+    by_seek : Sought (Below (2 ^ 32) (Below (2 ^ 32) (Below (2 ^ 32) FitsLast))) (λ p. row_text format (At (at_row p.0 p.1.0 p.1.1.0))) l → RowKind format At l
     by_seek (inl q) = let p = q.0 in let fits = q.1 in inl ((at_row p.0 p.1.0 p.1.1.0), (fits.0, fits.1.0, fits.1.1.0), q.2)
     by_seek (inr none) = inr (λ r fit e. none (r.seam.0, (r.mem.0, (r.after.0, tt))) (fit.0, (fit.1, (fit.2, tt))) e)
 
-opened_kind : (format : ℕ) (l : List ℕ) → Kind format Opened l
+opened_kind : (format : ℕ) (l : List ℕ) → RowKind format Opened l
 opened_kind format l = by_seek ((seek_number (2 ^ 32) (Below (2 ^ 32) (Below (2 ^ 32) (Below (2 ^ 32) FitsLast)))
     (seek_number (2 ^ 32) (Below (2 ^ 32) (Below (2 ^ 32) FitsLast)) (seek_number (2 ^ 32) (Below (2 ^ 32) FitsLast) (seek_number (2 ^ 32) FitsLast seek_last))))
     (λ p. row_text format (Opened (open_row p.0 p.1.0 p.1.1.0 p.1.1.1.0))) l)
   where
-    by_seek : Sought (Below (2 ^ 32) (Below (2 ^ 32) (Below (2 ^ 32) (Below (2 ^ 32) FitsLast)))) (λ p. row_text format (Opened (open_row p.0 p.1.0 p.1.1.0 p.1.1.1.0))) l → Kind format Opened l
+    by_seek : Sought (Below (2 ^ 32) (Below (2 ^ 32) (Below (2 ^ 32) (Below (2 ^ 32) FitsLast)))) (λ p. row_text format (Opened (open_row p.0 p.1.0 p.1.1.0 p.1.1.1.0))) l → RowKind format Opened l
     by_seek (inl q) = let p = q.0 in let fits = q.1 in inl ((open_row p.0 p.1.0 p.1.1.0 p.1.1.1.0), (fits.0, fits.1.0, fits.1.1.0, fits.1.1.1.0), q.2)
     by_seek (inr none) = inr (λ r fit e. none (r.seam.0, (r.mem.0, (r.opened.0, (r.failed.0, tt)))) (fit.0, (fit.1, (fit.2, (fit.3, tt)))) e)
 
-closed_kind : (format : ℕ) (l : List ℕ) → Kind format Closed l
+closed_kind : (format : ℕ) (l : List ℕ) → RowKind format Closed l
 closed_kind format l = by_seek ((seek_number (2 ^ 32) (Below (2 ^ 32) (Below (2 ^ 32) FitsLast))
     (seek_number (2 ^ 32) (Below (2 ^ 32) FitsLast) (seek_number (2 ^ 32) FitsLast seek_last))) (λ p. row_text format (Closed (at_row p.0 p.1.0 p.1.1.0))) l)
   where
-    by_seek : Sought (Below (2 ^ 32) (Below (2 ^ 32) (Below (2 ^ 32) FitsLast))) (λ p. row_text format (Closed (at_row p.0 p.1.0 p.1.1.0))) l → Kind format Closed l
+    by_seek : Sought (Below (2 ^ 32) (Below (2 ^ 32) (Below (2 ^ 32) FitsLast))) (λ p. row_text format (Closed (at_row p.0 p.1.0 p.1.1.0))) l → RowKind format Closed l
     by_seek (inl q) = let p = q.0 in let fits = q.1 in inl ((at_row p.0 p.1.0 p.1.1.0), (fits.0, fits.1.0, fits.1.1.0), q.2)
     by_seek (inr none) = inr (λ r fit e. none (r.seam.0, (r.mem.0, (r.after.0, tt))) (fit.0, (fit.1, (fit.2, tt))) e)
 
-into_kind : (format : ℕ) (l : List ℕ) → Kind format Into l
+into_kind : (format : ℕ) (l : List ℕ) → RowKind format Into l
 into_kind format l = by_seek ((seek_number (2 ^ 32) (Either (Below (2 ^ 32) (Below (2 ^ 32) FitsLast)))
     (seek_mode (Below (2 ^ 32) (Below (2 ^ 32) FitsLast)) (seek_number (2 ^ 32) (Below (2 ^ 32) FitsLast) (seek_number (2 ^ 32) FitsLast seek_last))))
     (λ p. row_text format (Into (into_row p.0 p.1.0 p.1.1.0 p.1.1.1.0))) l)
   where
-    by_seek : Sought (Below (2 ^ 32) (Either (Below (2 ^ 32) (Below (2 ^ 32) FitsLast)))) (λ p. row_text format (Into (into_row p.0 p.1.0 p.1.1.0 p.1.1.1.0))) l → Kind format Into l
+    by_seek : Sought (Below (2 ^ 32) (Either (Below (2 ^ 32) (Below (2 ^ 32) FitsLast)))) (λ p. row_text format (Into (into_row p.0 p.1.0 p.1.1.0 p.1.1.1.0))) l → RowKind format Into l
     by_seek (inl q) = let p = q.0 in let fits = q.1 in inl ((into_row p.0 p.1.0 p.1.1.0 p.1.1.1.0), (fits.0, fits.1.0, fits.1.1.0), q.2)
     by_seek (inr none) = inr (λ r fit e. none (r.seam.0, (r.split, (r.mem.0, (r.callee.0, tt)))) (fit.0, (fit.1, (fit.2, tt))) e)
 
-back_kind : (format : ℕ) (l : List ℕ) → Kind format Back l
+back_kind : (format : ℕ) (l : List ℕ) → RowKind format Back l
 back_kind format l = by_seek ((seek_number (2 ^ 32) (Either (Below (2 ^ 32) (Below (2 ^ 16) (Below (2 ^ 32) FitsLast))))
     (seek_mode (Below (2 ^ 32) (Below (2 ^ 16) (Below (2 ^ 32) FitsLast)))
     (seek_number (2 ^ 32) (Below (2 ^ 16) (Below (2 ^ 32) FitsLast)) (seek_number (2 ^ 16) (Below (2 ^ 32) FitsLast) (seek_number (2 ^ 32) FitsLast seek_last)))))
     (λ p. row_text format (Back (back_row p.0 p.1.0 p.1.1.0 p.1.1.1.0 p.1.1.1.1.0))) l)
   where
     by_seek : Sought (Below (2 ^ 32) (Either (Below (2 ^ 32) (Below (2 ^ 16) (Below (2 ^ 32) FitsLast)))))
-        (λ p. row_text format (Back (back_row p.0 p.1.0 p.1.1.0 p.1.1.1.0 p.1.1.1.1.0))) l → Kind format Back l
+        (λ p. row_text format (Back (back_row p.0 p.1.0 p.1.1.0 p.1.1.1.0 p.1.1.1.1.0))) l → RowKind format Back l
     by_seek (inl q) = let p = q.0 in let fits = q.1 in inl ((back_row p.0 p.1.0 p.1.1.0 p.1.1.1.0 p.1.1.1.1.0), (fits.0, fits.1.0, fits.1.1.0, fits.1.1.1.0), q.2)
     by_seek (inr none) = inr (λ r fit e. none (r.seam.0, (r.split, (r.mem.0, (r.exit.0, (r.after.0, tt))))) (fit.0, (fit.1, (fit.2, (fit.3, tt)))) e)
 
 abbrev memory_row : ℕ × (StateId × ℕ) → Row
 memory_row p = Memory p.0 p.1
 
-memory_of : (format size : ℕ) (l : List ℕ) → ((set : ℕ) → IsBelow size set → IsSetIn format set) → ((set : ℕ) → IsSetIn format set → IsBelow size set) → Kind format memory_row l
+memory_of : (format size : ℕ) (l : List ℕ) → ((set : ℕ) → IsBelow size set → IsSetIn format set) → ((set : ℕ) → IsSetIn format set → IsBelow size set) → RowKind format memory_row l
 memory_of format size l here there =
     by_seek (seek_number (2 ^ 32) (Below (2 ^ 16) (Below (2 ^ size) FitsLast)) (seek_number (2 ^ 16) (Below (2 ^ size) FitsLast) (seek_number (2 ^ size) FitsLast seek_last))
     (λ p. row_text format (Memory p.0 (state_of p.1.0, p.1.1.0))) l)
   where
-    by_seek : Sought (Below (2 ^ 32) (Below (2 ^ 16) (Below (2 ^ size) FitsLast))) (λ p. row_text format (Memory p.0 (state_of p.1.0, p.1.1.0))) l → Kind format memory_row l
+    by_seek : Sought (Below (2 ^ 32) (Below (2 ^ 16) (Below (2 ^ size) FitsLast))) (λ p. row_text format (Memory p.0 (state_of p.1.0, p.1.1.0))) l → RowKind format memory_row l
     by_seek (inl q) = let p = q.0 in let fits = q.1 in inl ((p.0, (state_of p.1.0, p.1.1.0)), (fits.0, fits.1.0, here p.1.1.0 (IsBelow_from_lt size p.1.1.0 fits.1.1.0)), q.2)
     by_seek (inr none) = inr (λ r fit e. none (r.0, (r.1.0.0, (r.1.1, tt))) (fit.0, (fit.1, (IsBelow-lt size r.1.1 (there r.1.1 fit.2), tt))) e)
 
-memory_kind : (format : ℕ) (l : List ℕ) → Kind format memory_row l
+memory_kind : (format : ℕ) (l : List ℕ) → RowKind format memory_row l
 memory_kind format l = by_format (eqb format 2) refl
   where
-    by_format : (t : Bool) → eqb format 2 ≡ t → Kind format memory_row l
+    by_format : (t : Bool) → eqb format 2 ≡ t → RowKind format memory_row l
     by_format true is = memory_of format 1024 l (λ set h. rw is h) (λ set h. rw is at h)
     by_format false is = memory_of format 512 l (λ set h. rw is h) (λ set h. rw is at h)
 
@@ -190,8 +190,8 @@ row_sought : (format : ℕ) (l : List ℕ) → HasRow format l ⊎ ((row : Row) 
 row_sought format l = by_memory (memory_kind format l) (live_kind format l) (try_kind format l) (at_kind format l) (opened_kind format l) (closed_kind format l) (into_kind format l)
     (back_kind format l)
   where
-    by_memory : Kind format memory_row l → Kind format Live l → Kind format Try l → Kind format At l → Kind format Opened l → Kind format Closed l → Kind format Into l
-        → Kind format Back l → HasRow format l ⊎ ((row : Row) → Fits format row → row_text format row ≢ l)
+    by_memory : RowKind format memory_row l → RowKind format Live l → RowKind format Try l → RowKind format At l → RowKind format Opened l → RowKind format Closed l → RowKind format Into l
+        → RowKind format Back l → HasRow format l ⊎ ((row : Row) → Fits format row → row_text format row ≢ l)
     by_memory (inl p) a b c d e f g = inl (Memory p.0.0 p.0.1, p.1, p.2)
     by_memory (inr m) (inl p) b c d e f g = inl (Live p.0, p.1, p.2)
     by_memory (inr m) (inr a) (inl p) c d e f g = inl (Try p.0, p.1, p.2)

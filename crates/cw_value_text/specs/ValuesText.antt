@@ -32,9 +32,9 @@ tries_line n = line (codes "tries " ++ decimal n)
 unfoldable pub place_text : (source : List ℕ) → (at : ℕ) → List ℕ
 place_text source at = decimal (line_of source at) ++ (codes ":" ++ decimal (column_of source at))
 
--- `stop WORD LINE:COLUMN`
-unfoldable pub stopped : (source word : List ℕ) → (at : ℕ) → List ℕ
-stopped source word at = line (codes "stop " ++ (word ++ (codes " " ++ place_text source at)))
+-- `stop REASON LINE:COLUMN`
+unfoldable pub stopped : (source reason : List ℕ) → (at : ℕ) → List ℕ
+stopped source reason at = line (codes "stop " ++ (reason ++ (codes " " ++ place_text source at)))
 
 -- `ended`, or why and where it stopped; `stop steps`; `stop refused SEAM`
 unfoldable pub stop_line : (source : List ℕ) → Stop → List ℕ

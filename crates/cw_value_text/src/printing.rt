@@ -147,16 +147,16 @@ fn put_stop<S: Sink>(source: &[u8], stop: Stop, writer: &mut Writer<S>, out: &mu
     }
 }
 
-/// Appends that an expression stopped the run: the word for why, and its place.
+/// Appends that an expression stopped the run: the reason, and its place.
 #[tactic(auto, unfolding(crate::specs::ValuesText::stopped))]
-fn put_stopped<S: Sink>(source: &[u8], word: &[u8], at: u32, writer: &mut Writer<S>, out: &mut S)
+fn put_stopped<S: Sink>(source: &[u8], reason: &[u8], at: u32, writer: &mut Writer<S>, out: &mut S)
     requires follows { Follows S.taken S.faults S.refused writer.old out.old }
-    ensures text { writer.new.text ≡ writer.old.text ++ stopped source.now word.now at }
+    ensures text { writer.new.text ≡ writer.old.text ++ stopped source.now reason.now at }
     ensures begun { writer.new.begun ≡ writer.old.begun }
     ensures follows { Follows S.taken S.faults S.refused writer.new out.new }
 {
     writer.put(b"stop ", out);
-    writer.put(word, out);
+    writer.put(reason, out);
     writer.put(b" ", out);
     put_place(source, at, writer, out);
     writer.put(b"\n", out);

@@ -7,7 +7,7 @@ use Rattle.cw_audit_visits.proofs.ends.put_end.Goals as goal
 pub exit-requires : goal.exit-requires
 exit-requires c =
     let at = c.in-Some.row_key in
-    (c.requires.kept.sound.placed at.entrance.function at.entrance.state.0 at.pos.0 at.state.0 c.in-Some._row.inside (ap (option_map (λ (r : Row). r.inside)) c.in-Some.ensures.row)).below
+    (c.requires.kept.sound.keyed at.entrance.function at.entrance.state.0 at.pos.0 at.state.0 c.in-Some._row.inside (ap (option_map (λ (r : Row). r.inside)) c.in-Some.ensures.row)).below
 
 pub returns-in_default : goal.returns-in_default
 returns-in_default c =

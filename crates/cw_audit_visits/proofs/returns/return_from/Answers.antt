@@ -15,7 +15,7 @@ propose-requires-clause-reach c = c.requires.there.reach
 pub propose-requires-clause-state : goal.propose-requires-clause-state
 propose-requires-clause-state c =
     let end = c.in-Some.end in
-    (c.requires.kept.sound.placed end.entrance.function end.entrance.state.0 end.pos.0 end.state.0 c.in-Some.ended.inside (ap (option_map (λ (r : Row). r.inside)) c.in-Some.ensures.row)).state
+    (c.requires.kept.sound.keyed end.entrance.function end.entrance.state.0 end.pos.0 end.state.0 c.in-Some.ended.inside (ap (option_map (λ (r : Row). r.inside)) c.in-Some.ensures.row)).state
 
 pub propose-requires-clause-due : goal.propose-requires-clause-due
 propose-requires-clause-due c =

@@ -1,15 +1,15 @@
 use Rattle.std.proofs.Common.{◌∙◌, refl, sym}
 use Rattle.cw_audit_visits.proofs.Oks.{when_ok, at_ok}
 use Rattle.std.proofs.lemmas.Bool.{or_parts}
-use Rattle.cw_audit_visits.proofs.Gone.{gone_trans, there_placed}
+use Rattle.cw_audit_visits.proofs.Gone.{gone_trans, there_may_stand}
 use Rattle.cw_audit_visits.proofs.Visited.{leads_unknown, leads_within, leads_end, leads_call}
 use Rattle.cw_audit_visits.proofs.rows.visit.Goals as goal
 
-pub is_within-requires-clause-placed : goal.is_within-requires-clause-placed
-is_within-requires-clause-placed c = there_placed c.args.game.now c.args.search.now c.in-Some.met c.requires.kept c.in-Some.ensures.there
+pub is_within-requires-clause-may_stand : goal.is_within-requires-clause-may_stand
+is_within-requires-clause-may_stand c = there_may_stand c.args.game.now c.args.search.now c.in-Some.met c.requires.kept c.in-Some.ensures.there
 
-pub call_at-requires-clause-placed : goal.call_at-requires-clause-placed
-call_at-requires-clause-placed c = there_placed c.args.game.now c.args.search.now c.in-Some.met c.requires.kept c.in-Some.ensures.there
+pub call_at-requires-clause-may_stand : goal.call_at-requires-clause-may_stand
+call_at-requires-clause-may_stand c = there_may_stand c.args.game.now c.args.search.now c.in-Some.met c.requires.kept c.in-Some.ensures.there
 
 pub returns-in_default-clause-noted : goal.returns-in_default-clause-noted
 returns-in_default-clause-noted c = λ b. leads_unknown c.args.game.now c.args.search.now c.args.key c.args.number c.in_default.ensures.none

@@ -5,7 +5,7 @@ use Rattle.cw_audit_table.specs.Runs.{is_step}
 use Rattle.cw_audit_visits.specs.Searching.{spot_at, IsStepNoted}
 use Rattle.cw_audit_visits.proofs.Turns.{first_step, second_step}
 use Rattle.cw_product.specs.Product.{game_of}
-use Rattle.cw_audit_visits.proofs.Gone.{gone_trans, placed_position, there_placed}
+use Rattle.cw_audit_visits.proofs.Gone.{gone_trans, standing_position, there_may_stand}
 use Rattle.cw_audit_visits.proofs.Proposed.{reach_same}
 use Rattle.cw_audit_visits.proofs.Stepping.{step_later, steps_due, row_good, row_low, moves_noted, noted_same}
 use Rattle.cw_audit_visits.proofs.steps.steps.Goals as goal
@@ -15,10 +15,10 @@ step-requires-clause-reach c = c.requires.there.reach
 
 pub step-requires-clause-position : goal.step-requires-clause-position
 step-requires-clause-position c =
-    placed_position c.args.game.now c.args.met.row_key c.requires.fair (there_placed c.args.game.now c.args.search.now c.args.met c.requires.kept c.requires.there)
+    standing_position c.args.game.now c.args.met.row_key c.requires.fair (there_may_stand c.args.game.now c.args.search.now c.args.met c.requires.kept c.requires.there)
 
 pub step-requires-clause-state : goal.step-requires-clause-state
-step-requires-clause-state c = (there_placed c.args.game.now c.args.search.now c.args.met c.requires.kept c.requires.there).state
+step-requires-clause-state c = (there_may_stand c.args.game.now c.args.search.now c.args.met c.requires.kept c.requires.there).state
 
 pub step-requires-clause-inside : goal.step-requires-clause-inside
 step-requires-clause-inside c = row_low c.args.game.now c.args.search.now c.args.met.row_key c.args.met.row c.requires.kept c.requires.there.row
@@ -37,10 +37,10 @@ step-requires-in-Some-clause-reach c =
 
 pub step-requires-in-Some-clause-position : goal.step-requires-in-Some-clause-position
 step-requires-in-Some-clause-position c =
-    placed_position c.args.game.now c.args.met.row_key c.requires.fair (there_placed c.args.game.now c.args.search.now c.args.met c.requires.kept c.requires.there)
+    standing_position c.args.game.now c.args.met.row_key c.requires.fair (there_may_stand c.args.game.now c.args.search.now c.args.met c.requires.kept c.requires.there)
 
 pub step-requires-in-Some-clause-state : goal.step-requires-in-Some-clause-state
-step-requires-in-Some-clause-state c = (there_placed c.args.game.now c.args.search.now c.args.met c.requires.kept c.requires.there).state
+step-requires-in-Some-clause-state c = (there_may_stand c.args.game.now c.args.search.now c.args.met c.requires.kept c.requires.there).state
 
 pub step-requires-in-Some-clause-inside : goal.step-requires-in-Some-clause-inside
 step-requires-in-Some-clause-inside c = row_low c.args.game.now c.args.search.now c.args.met.row_key c.args.met.row c.requires.kept c.requires.there.row

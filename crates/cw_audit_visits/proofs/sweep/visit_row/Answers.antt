@@ -1,14 +1,14 @@
 use Rattle.std.proofs.Common.{◌∙◌, sym}
-use Rattle.cw_audit_visits.proofs.Gone.{there_placed}
+use Rattle.cw_audit_visits.proofs.Gone.{there_may_stand}
 use Rattle.cw_audit_visits.proofs.Stepping.{visited_inner, visited_neither}
 use Rattle.cw_audit_visits.proofs.Oks.{when_ok, at_ok}
 use Rattle.cw_audit_visits.proofs.sweep.visit_row.Goals as goal
 
-pub is_within-requires-clause-placed : goal.is_within-requires-clause-placed
-is_within-requires-clause-placed c = there_placed c.args.game.now c.args.search.now c.args.met c.requires.kept c.requires.there
+pub is_within-requires-clause-may_stand : goal.is_within-requires-clause-may_stand
+is_within-requires-clause-may_stand c = there_may_stand c.args.game.now c.args.search.now c.args.met c.requires.kept c.requires.there
 
-pub call_at-requires-clause-placed : goal.call_at-requires-clause-placed
-call_at-requires-clause-placed c = there_placed c.args.game.now c.args.search.now c.args.met c.requires.kept c.requires.there
+pub call_at-requires-clause-may_stand : goal.call_at-requires-clause-may_stand
+call_at-requires-clause-may_stand c = there_may_stand c.args.game.now c.args.search.now c.args.met c.requires.kept c.requires.there
 
 pub returns-then-is_within-clause-visited : goal.returns-then-is_within-clause-visited
 returns-then-is_within-clause-visited c =

@@ -7,10 +7,10 @@ use Rattle.cw_policy.proofs.lines.put_refused.Goals as goal
 pub returns-clause-text : goal.returns-clause-text
 returns-clause-text g c =
     let old = c.args.line.now.text in
-    let word = c.args.word.now in
+    let reason = c.args.reason.now in
     let at = decimal c.args.at in
     let rule = rule_text c.args.index in
     (rw c.from.ensures at c.put_number.ensures.text)
-    ∙ ap (λ (t : List ℕ). t ++ at) (c.put.ensures.text ∙ ap (λ (t : List ℕ). t ++ word) c.put_rule.ensures.text)
-    ∙ ap (λ (t : List ℕ). t ++ at) (append_assoc old rule word)
-    ∙ append_assoc old (rule ++ word) at
+    ∙ ap (λ (t : List ℕ). t ++ at) (c.put.ensures.text ∙ ap (λ (t : List ℕ). t ++ reason) c.put_rule.ensures.text)
+    ∙ ap (λ (t : List ℕ). t ++ at) (append_assoc old rule reason)
+    ∙ append_assoc old (rule ++ reason) at

@@ -10,6 +10,6 @@ pub returns-clause-due : goal.returns-clause-due
 returns-clause-due g c =
     let line = fault_line c.args.source.now c.args.fault.now in
     c.source_refusal_behind.ensures.due
-    ∙ ap₂ (λ (told : Cause) (words : List ℕ). Refused told (words ++ line)) c.woven_cause.ensures c.woven_words.ensures
+    ∙ ap₂ (λ (cause : Cause) (front : List ℕ). Refused cause (front ++ line)) c.woven_cause.ensures c.woven_front.ensures
     ∙ woven_is c.in_ok-cause.cause line
     ∙ ap (λ (cause : Cause). of_woven (Refused cause line)) c.in_ok-cause.ensures.cause

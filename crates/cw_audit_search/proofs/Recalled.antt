@@ -22,7 +22,7 @@ abbrev pub Before : Game → Ways → List Todo → List Move → Type 0
 Before g w todo ms = (more : List Todo) (ns : List Move) → Unfolds g w more ns → Unfolds g w (todo ++ more) (ms ++ ns)
 
 -- a run within an activation, no longer than n, for which these stand
-pub record IsTold (g : Game) (w : Ways) (f q p x n : ℕ) (todo : List Todo) : Type 0 where
+pub record IsRecalled (g : Game) (w : Ways) (f q p x n : ℕ) (todo : List Todo) : Type 0 where
   pub moves : List Move
   pub short : length moves ≤ n
   pub run : Goes g (at_pair (g.entry f) q []) moves (at_pair p x [])
@@ -37,17 +37,17 @@ pub record IsReached (g : Game) (w : Ways) (f q n : ℕ) (todo : List Todo) : Ty
   pub before : Before g w todo moves
 
 module _ (g : Game) (functions : ℕ) (fair : IsFair g functions) (s : Found) (sound : IsSound g functions s) (w : Ways) (ways : AreWays g s w) where
-  -- rows with numbers below m are told
+  -- rows with numbers below m are recalled
   abbrev Below : ℕ → Type 0
-  Below m = (f q p x a : ℕ) → s.number f q p x ≡ Some a → a < m → a ≤ 65536 → IsTold g w f q p x a (Row f q p x ∷ [])
+  Below m = (f q p x a : ℕ) → s.number f q p x ≡ Some a → a < m → a ≤ 65536 → IsRecalled g w f q p x a (Row f q p x ∷ [])
 
   good_row : (f q p x a : ℕ) → s.number f q p x ≡ Some a → bad_in g x (slice_get g.spots p) ≡ false
   good_row f q p x a e = (sound.inside f q p x a e).1.4
 
-  moved_told : (m f q p0 x0 n a : ℕ) (by : Move) (c : Config) → Below m → n ≤ m → n ≤ 65536 → s.number f q p0 x0 ≡ Some a → cut (a + 1) ≤ n
+  moved_recalled : (m f q p0 x0 n a : ℕ) (by : Move) (c : Config) → Below m → n ≤ m → n ≤ 65536 → s.number f q p0 x0 ≡ Some a → cut (a + 1) ≤ n
       → is_inner (slice_get g.spots p0) ≡ true → is_step by ≡ true → leads_in g p0 x0 [] (slice_get g.spots p0) by ≡ Some c
-      → IsTold g w f q (skipped g c.pos) c.state n (unfold_way g f q (Moved p0 x0 by))
-  moved_told m f q p0 x0 n a by c below le few e low inner st l =
+      → IsRecalled g w f q (skipped g c.pos) c.state n (unfold_way g f q (Moved p0 x0 by))
+  moved_recalled m f q p0 x0 n a by c below le few e low inner st l =
       let r = below f q p0 x0 a e (omega (arith, low, le, few)) (omega (arith, low, few)) in
       let go = goes r.moves (at_pair p0 x0 []) (at_pair c.pos c.state []) by r.run (good_row f q p0 x0 a e) st (inner_leads g p0 x0 [] (slice_get g.spots p0) by c inner l).0 in
       record {
@@ -57,9 +57,9 @@ module _ (g : Game) (functions : ℕ) (fair : IsFair g functions) (s : Found) (s
         before = λ more ns u. subst (Unfolds g w (Row f q p0 x0 ∷ Step by ∷ more)) (sym (append_assoc r.moves (by ∷ []) ns)) (r.before (Step by ∷ more) (by ∷ ns) (step by more ns u));
       }
 
-  returned_told : (m f q p0 x0 h y n a e j k i : ℕ) → Below m → n ≤ m → n ≤ 65536 → s.number f q p0 x0 ≡ Some a → s.number h x0 (g.exit h) y ≡ Some e → cut (a + e + 2) ≤ n
-      → slice_get g.spots p0 ≡ Some (Call j h k) → slice_get g.spots (g.exit h) ≡ Some (Exit i) → IsTold g w f q (skipped g k) y n (unfold_way g f q (Returned p0 x0 h y))
-  returned_told m f q p0 x0 h y n a e j k i below le few ea ee low call exit =
+  returned_recalled : (m f q p0 x0 h y n a e j k i : ℕ) → Below m → n ≤ m → n ≤ 65536 → s.number f q p0 x0 ≡ Some a → s.number h x0 (g.exit h) y ≡ Some e → cut (a + e + 2) ≤ n
+      → slice_get g.spots p0 ≡ Some (Call j h k) → slice_get g.spots (g.exit h) ≡ Some (Exit i) → IsRecalled g w f q (skipped g k) y n (unfold_way g f q (Returned p0 x0 h y))
+  returned_recalled m f q p0 x0 h y n a e j k i below le few ea ee low call exit =
       let ret : Ret = record { back = k; kept = None } in
       let r = below f q p0 x0 a ea (omega (arith, low, le, few)) (omega (arith, low, few)) in
       let v = below h x0 (g.exit h) y e ee (omega (arith, low, le, few)) (omega (arith, low, few)) in
@@ -88,25 +88,25 @@ module _ (g : Game) (functions : ℕ) (fair : IsFair g functions) (s : Found) (s
           append_assoc ((xs ++ On ∷ []) ++ ys) (On ∷ []) zs ∙ append_assoc (xs ++ On ∷ []) ys (On ∷ zs) ∙ append_assoc xs (On ∷ []) (ys ++ (On ∷ zs))
 
   -- a way to a pair, bad or not
-  way_told : (m f q p x n : ℕ) (way : Way) → Below m → n ≤ m → n ≤ 65536 → IsWay g s f q p x n way → IsTold g w f q p x n (unfold_way g f q way)
-  way_told m f q p x n Begun below le few h = record {
+  way_recalled : (m f q p x n : ℕ) (way : Way) → Below m → n ≤ m → n ≤ 65536 → IsWay g s f q p x n way → IsRecalled g w f q p x n (unfold_way g f q way)
+  way_recalled m f q p x n Begun below le few h = record {
     moves = [];
     short = omega arith;
     run = subst (λ p. Goes g (at_pair (g.entry f) q []) [] (at_pair p x [])) (sym h.0)
         (subst (λ x. Goes g (at_pair (g.entry f) q []) [] (at_pair (skipped g (g.entry f)) x [])) (sym h.1) (come g (g.entry f) q [] (at_pair (g.entry f) q []) [] here));
     before = λ more ns u. u;
   }
-  way_told m f q p x n (Moved p0 x0 by) below le few h =
+  way_recalled m f q p x n (Moved p0 x0 by) below le few h =
       let c = h.5.0 in
-      subst (λ p. IsTold g w f q p x n (unfold_way g f q (Moved p0 x0 by))) (sym h.5.2)
-      (subst (λ x. IsTold g w f q (skipped g c.pos) x n (unfold_way g f q (Moved p0 x0 by))) (sym h.5.3) (moved_told m f q p0 x0 n h.0 by c below le few h.1 h.2 h.3 h.4 h.5.1))
-  way_told m f q p x n (Returned p0 x0 k y) below le few h =
+      subst (λ p. IsRecalled g w f q p x n (unfold_way g f q (Moved p0 x0 by))) (sym h.5.2)
+      (subst (λ x. IsRecalled g w f q (skipped g c.pos) x n (unfold_way g f q (Moved p0 x0 by))) (sym h.5.3) (moved_recalled m f q p0 x0 n h.0 by c below le few h.1 h.2 h.3 h.4 h.5.1))
+  way_recalled m f q p x n (Returned p0 x0 k y) below le few h =
       let i = fair.ends k (inr (p0, h.5.0, h.5.1, h.5.2)) in
-      subst (λ p. IsTold g w f q p x n (unfold_way g f q (Returned p0 x0 k y))) (sym h.5.3)
-      (subst (λ x. IsTold g w f q (skipped g h.5.1) x n (unfold_way g f q (Returned p0 x0 k y))) (sym h.6)
-      (returned_told m f q p0 x0 k y n h.0 h.1 h.5.0 h.5.1 i.0 below le few h.2 h.3 h.4 h.5.2 i.1))
+      subst (λ p. IsRecalled g w f q p x n (unfold_way g f q (Returned p0 x0 k y))) (sym h.5.3)
+      (subst (λ x. IsRecalled g w f q (skipped g h.5.1) x n (unfold_way g f q (Returned p0 x0 k y))) (sym h.6)
+      (returned_recalled m f q p0 x0 k y n h.0 h.1 h.5.0 h.5.1 i.0 below le few h.2 h.3 h.4 h.5.2 i.1))
 
-  row_from : (f q p x a : ℕ) (way : Way) → w.row f q p x ≡ Some way → IsTold g w f q p x a (unfold_way g f q way) → IsTold g w f q p x a (Row f q p x ∷ [])
+  row_from : (f q p x a : ℕ) (way : Way) → w.row f q p x ≡ Some way → IsRecalled g w f q p x a (unfold_way g f q way) → IsRecalled g w f q p x a (Row f q p x ∷ [])
   row_from f q p x a way e t = record {
     moves = t.moves;
     short = t.short;
@@ -115,17 +115,17 @@ module _ (g : Game) (functions : ℕ) (fair : IsFair g functions) (s : Found) (s
   }
 
   -- each row, by its number
-  rows_told : (m : ℕ) → Below m
-  rows_told zero f q p x a e less few = absurd (omega (arith, less))
-  rows_told (suc m) f q p x a e less few =
+  rows_recalled : (m : ℕ) → Below m
+  rows_recalled zero f q p x a e less few = absurd (omega (arith, less))
+  rows_recalled (suc m) f q p x a e less few =
       let z = ways.rows f q p x a e in
-      row_from f q p x a z.0 z.1 (way_told m f q p x a z.0 (rows_told m) (omega (arith, less)) few z.2)
+      row_from f q p x a z.0 z.1 (way_recalled m f q p x a z.0 (rows_recalled m) (omega (arith, less)) few z.2)
 
-  call_told : (f q r r0 a j k : ℕ) (c : Caller) → r ≤ 65536 → IsReached g w c.function c.entered r0 (Reach c.function c.entered ∷ []) → s.number c.function c.entered c.pos q ≡ Some a
+  call_recalled : (f q r r0 a j k : ℕ) (c : Caller) → r ≤ 65536 → IsReached g w c.function c.entered r0 (Reach c.function c.entered ∷ []) → s.number c.function c.entered c.pos q ≡ Some a
       → cut (r0 + a + 1) ≤ r → slice_get g.spots c.pos ≡ Some (Call j f k) → w.call f q ≡ Some (Some c) → IsReached g w f q r (Reach f q ∷ [])
-  call_told f q r r0 a j k c few from e low call ec =
+  call_recalled f q r r0 a j k c few from e low call ec =
       let ret : Ret = record { back = k; kept = None } in
-      let t = rows_told (suc a) c.function c.entered c.pos q a e (omega arith) (omega (arith, low, few)) in
+      let t = rows_recalled (suc a) c.function c.entered c.pos q a e (omega arith) (omega (arith, low, few)) in
       let first = followed g (start_at g) (at_pair (g.entry c.function) c.entered from.rets) (at_pair c.pos q from.rets) from.moves t.moves from.run
       (deeper g from.rets (at_pair (g.entry c.function) c.entered []) (at_pair c.pos q []) t.moves t.run) in
       record {
@@ -148,9 +148,9 @@ module _ (g : Game) (functions : ℕ) (fair : IsFair g functions) (s : Found) (s
       parts xs ys zs = append_assoc (xs ++ ys) (On ∷ []) zs ∙ append_assoc xs ys (On ∷ zs)
 
   -- each group, by its reach
-  reach_told : (m f q r : ℕ) → s.reach f q ≡ Some r → r < m → r ≤ 65536 → IsReached g w f q r (Reach f q ∷ [])
-  reach_told zero f q r e less few = absurd (omega (arith, less))
-  reach_told (suc m) f q r e less few = let z = ways.calls f q r e in by z.0 z.1 z.2 (λ f0 q0 r0 e0 l. reach_told m f0 q0 r0 e0 (omega (arith, l, less)) (omega (arith, l, few)))
+  reach_recalled : (m f q r : ℕ) → s.reach f q ≡ Some r → r < m → r ≤ 65536 → IsReached g w f q r (Reach f q ∷ [])
+  reach_recalled zero f q r e less few = absurd (omega (arith, less))
+  reach_recalled (suc m) f q r e less few = let z = ways.calls f q r e in by z.0 z.1 z.2 (λ f0 q0 r0 e0 l. reach_recalled m f0 q0 r0 e0 (omega (arith, l, less)) (omega (arith, l, few)))
     where
       by : (o : Option Caller) → w.call f q ≡ Some o → IsCaller g s f q r o → ((f0 q0 r0 : ℕ) → s.reach f0 q0 ≡ Some r0 → r0 < r → IsReached g w f0 q0 r0 (Reach f0 q0 ∷ []))
           → IsReached g w f q r (Reach f q ∷ [])
@@ -161,18 +161,18 @@ module _ (g : Game) (functions : ℕ) (fair : IsFair g functions) (s : Found) (s
         run = subst (λ f. Goes g (start_at g) [] (at_pair (g.entry f) q [])) (sym h.0) (subst (λ q. Goes g (start_at g) [] (at_pair (g.entry g.main) q [])) (sym h.1) here);
         before = λ more ns u. reach f q None more ns ec u;
       }
-      by (Some c) ec h k = call_told f q r h.0 h.1 h.5.0 h.5.1 c few (k c.function c.entered h.0 h.2 (omega (arith, h.4, few))) h.3 h.4 h.5.2 ec
+      by (Some c) ec h k = call_recalled f q r h.0 h.1 h.5.0 h.5.1 c few (k c.function c.entered h.0 h.2 (omega (arith, h.4, few))) h.3 h.4 h.5.2 ec
 
   -- The way of the nearest violation stands for a run to a bad pair that is no longer; where no run is shorter it is as long.
-  pub told : (T : ℕ) → s.best ≡ Some T → T ≤ 65536 → ((n : ℕ) → IsHit g n → T ≤ n)
+  pub recalled : (T : ℕ) → s.best ≡ Some T → T ≤ 65536 → ((n : ℕ) → IsHit g n → T ≤ n)
       → (h : BadWay) × (w.hit ≡ Some h) × ((ms : List Move) × Unfolds g w (unfold_hit g h) ms × (length ms ≡ T) × ((c : Config) × Goes g (start_at g) ms c × (is_bad_at g c ≡ true)))
-  told T e few least =
+  recalled T e few least =
       let z = ways.hit T e in
       let h = z.0 in
       let b = z.2 in
       let sum = b.sum in
-      let from = reach_told (suc b.reach) h.function h.entered b.reach b.group (omega arith) (omega (arith, sum, few)) in
-      let t = way_told (suc b.inside) h.function h.entered b.pos b.state b.inside h.way (rows_told (suc b.inside)) (omega arith) (omega (arith, sum, few)) b.leads in
+      let from = reach_recalled (suc b.reach) h.function h.entered b.reach b.group (omega arith) (omega (arith, sum, few)) in
+      let t = way_recalled (suc b.inside) h.function h.entered b.pos b.state b.inside h.way (rows_recalled (suc b.inside)) (omega arith) (omega (arith, sum, few)) b.leads in
       let run = followed g (start_at g) (at_pair (g.entry h.function) h.entered from.rets) (at_pair b.pos b.state from.rets) from.moves t.moves from.run
       (deeper g from.rets (at_pair (g.entry h.function) h.entered []) (at_pair b.pos b.state []) t.moves t.run) in
       let hit : IsHit g (length (from.moves ++ t.moves)) = (from.moves ++ t.moves, refl, (at_pair b.pos b.state from.rets, run, b.bad)) in
