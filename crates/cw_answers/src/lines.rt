@@ -120,13 +120,11 @@ fn take_try(fields: &mut Fields) -> Option<Move>
 fn answer_of(field: &[u8]) -> Option<Move>
     ensures { Reads IsAnswer move_name field.now result }
 {
-    if field == b"grant".as_slice() {
-        return Some(Move::Grant);
+    match field {
+        b"grant" => Some(Move::Grant),
+        b"refuse" => Some(Move::Refuse),
+        _ => None,
     }
-    if field == b"refuse".as_slice() {
-        return Some(Move::Refuse);
-    }
-    None
 }
 
 /// `call VALUE`: what an external call gives.
