@@ -1,7 +1,7 @@
 -- What the loop over the steps keeps, for a program's game and a good table.
-use Rattle.std.proofs.Common.{◌≡◌, ℕ, zero, suc, ◌+◌, ◌<◌, ◌≤◌, List, [], ◌∷◌, ◌++◌, map, take, length, get_or, Bool, true, false, Option, Some, None, option_map, refl, sym, ap, ◌∙◌, subst, arith}
+use Rattle.std.proofs.Common.{◌≡◌, ℕ, ◌+◌, ◌<◌, ◌≤◌, List, [], ◌∷◌, ◌++◌, map, take, length, get_or, Bool, true, false, Option, Some, None, option_map, refl, sym, ap, ◌∙◌, subst, arith}
 use Rattle.std.specs.Prelude.{slice_get, count_by}
-use Rattle.std.proofs.lemmas.List.{take_all, map-append, length-map}
+use Rattle.std.proofs.lemmas.List.{take_all, take-map, map-append, length-map}
 use Rattle.std.proofs.lemmas.List.Sums.{sum_by_more, sum_by-take-le}
 use Rattle.std.proofs.lemmas.Option.{none-some, slice_get-map, slice_get_read, slice_get_within}
 use Rattle.cw_rights.specs.declared.capabilities.Caps.{Caps}
@@ -53,12 +53,6 @@ use Rattle.cw_procs.proofs.Keeping.{Keeps, begins, went_on, done, bad}
 
 abbrev pub plan_here : Held → List ℕ → File → Plan
 plan_here h source file = plan_of (names_of (policy_of h.states.policy)) source file
-
-entries_taken : (steps : List StepData) (i : ℕ) → take i (map entry_of steps) ≡ map entry_of (take i steps)
-entries_taken [] zero = refl
-entries_taken [] (suc i) = refl
-entries_taken (s ∷ steps) zero = refl
-entries_taken (s ∷ steps) (suc i) = ap (λ l. entry_of s ∷ l) (entries_taken steps i)
 
 -- how many of some kind there are so far
 pub room_for : (kind : StepData → Bool) (steps : List StepData) (i : ℕ) (s : StepData) (have room spare total : ℕ) → i < length steps → s ≡ get_or steps i s
@@ -188,7 +182,7 @@ module _ (h : Held) (source : List ℕ) (file : File) (t : Table) (names : Names
       named steps (BadStep i) old new e
       (subst (λ l. TellsWorld (problem_of policy source file) names t forks (map entry_of steps) (BadStep i) old l) (sym a2.1)
       (bad names g t plan of.states of.laid of.routines held holds forks safe (IsFlag h flags) flagged (map entry_of steps) i ps links old mid s.process s.fork s.by
-      (subst (λ l. Kept l ps links old mid) (sym (entries_taken steps i)) k)
+      (subst (λ l. Kept l ps links old mid) (sym (take-map entry_of i steps)) k)
       (slice_get-map entry_of steps i ∙ ap (option_map entry_of) (slice_get_read steps (length steps) i s refl lt is)) a2.0))
 
   pub loop_done : (steps : List StepData) (i : ℕ) (ps : List Process) (links : List Link) (old new : List ℕ) (n : ℕ) → names ≡ trace_names_of source file plan → length steps ≤ i → n ≡ length ps
