@@ -1,9 +1,9 @@
 -- Statements from one on, of which the first that begins at its place is that one.
-use Rattle.std.proofs.Common.{◌≡◌, ℕ, zero, suc, ◌+◌, ◌-◌, arith, take, ◌<◌, ◌≤◌, cond, get_or, length, subst, List, [], ◌∷◌, drop, Some, slice_get, refl, ap, sym, ◌∙◌}
+use Rattle.std.proofs.Common.{◌≡◌, ℕ, zero, suc, ◌+◌, ◌-◌, ◌<◌, ◌≤◌, cond, get_or, length, subst, List, [], ◌∷◌, drop, Some, slice_get, refl, ap, sym, ◌∙◌}
 use Rattle.std.specs.Prelude.{find, option_map}
 use Rattle.std.specs.Borrow.{Bor}
 use Rattle.std.proofs.lemmas.Bool.{eq-eqb}
-use Rattle.std.proofs.lemmas.List.{drop-map, at_drop_more, at_drop_all, length-drop, take_all}
+use Rattle.std.proofs.lemmas.List.{drop-map, at_drop_more, at_drop_all}
 use Rattle.std.proofs.lemmas.Option.{none-some, same_Some, slice_get-map}
 use Rattle.cw_syntax.specs.declared.program.Stmt.{Stmt}
 use Rattle.cw_syntax.specs.Trees.{Statement}
@@ -55,7 +55,3 @@ ascend_more xs i from to x within is le h =
 
 pub ascend_all : (xs : List (Bor Stmt)) (i from to : ℕ) → length xs ≤ i → from ≤ to → Ascend from to (said_in (drop i xs))
 ascend_all xs i from to past le = subst (Ascend from to) (sym (at_drop_all said_in xs i past)) le
-
--- a slice from a place on is all that is left
-pub all_on : {X : Type 0} (d : List X) (n : ℕ) → take (length d - n) (drop n d) ≡ drop n d
-all_on d n = take_all (length d - n) (drop n d) (let e = length-drop n d in omega (arith, e))

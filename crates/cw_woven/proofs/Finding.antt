@@ -1,10 +1,10 @@
 -- Where a needle first stands in a text.
 use Rattle.std.proofs.Common.{◌≡◌, ℕ, zero, suc, ◌+◌, ◌-◌, ◌<◌, ◌≤◌, true, false, List, ◌∷◌, ◌++◌, Some, length, take, drop, refl, sym, ap, subst, ◌∙◌, arith, length-take, length-drop, length-append}
-use Rattle.std.proofs.Common.{nat_eq, ◌⊎◌, inl, inr, le_refl}
+use Rattle.std.proofs.Common.{nat_eq, ◌⊎◌, inl, inr}
 use Rattle.std.specs.List.{starts_with}
 use Rattle.std.proofs.Math.Seq.{take-append_seam}
 use Rattle.std.proofs.lemmas.Bool.{false_from_ne_true, cases_order}
-use Rattle.std.proofs.lemmas.List.{take-append-drop, take_all}
+use Rattle.std.proofs.lemmas.List.{take-append-drop, take_rest}
 use Rattle.memchr.specs.Find.{OccursAt, FindsNeedle, Nowhere}
 use Rattle.memchr.proofs.lemmas.MatchLemmas.{OccursAt-split, OccursAt-from_part}
 use Rattle.cw_emit.specs.Cut.{closing}
@@ -38,9 +38,6 @@ none_at text needle nowhere at = false_from_ne_true _ (λ h. refuted h)
         by_place (inr (inl lt)) = nowhere at (omega arith) (omega (arith, lt)) (occurs text needle at (omega (arith, lt)) h)
         by_place (inr (inr gt)) = nowhere 0 (omega arith) (omega arith) (empty_occurs text needle at gt h)
 
-rest_is : (k : ℕ) (l : List ℕ) → take (length l - k) (drop k l) ≡ drop k l
-rest_is k l = let e : length l - k ≡ length (drop k l) = omega (arith, length-drop k l) in ap (λ (n : ℕ). take n (drop k l)) e ∙ take_all (length (drop k l)) (drop k l) (le_refl (length (drop k l)))
-
 finds_at : (text needle : List ℕ) (k : ℕ) → FindsNeedle text needle 0 (Some k) → IsCutAt needle text (take k text) (drop (k + length needle) text)
 finds_at text needle k g =
     record {
@@ -49,7 +46,7 @@ finds_at text needle k g =
     }
 
 pub finds_some : (text needle : List ℕ) (k : ℕ) → FindsNeedle text needle 0 (Some k) → IsCutAt needle text (take k text) (take (length text - (k + length needle)) (drop (k + length needle) text))
-finds_some text needle k g = subst (λ (z : List ℕ). IsCutAt needle text (take k text) z) (sym (rest_is (k + length needle) text)) (finds_at text needle k g)
+finds_some text needle k g = subst (λ (z : List ℕ). IsCutAt needle text (take k text) z) (sym (take_rest text (k + length needle))) (finds_at text needle k g)
 
 -- ---- before a needle that begins otherwise
 

@@ -1,8 +1,9 @@
 use Rattle.std.proofs.Common.{◌≡◌, ◌<◌, ◌∙◌, Some, ap, arith, drop, find, length, map, refl, slice_get, sym}
+use Rattle.std.proofs.lemmas.List.{take_rest}
 use Rattle.std.proofs.lemmas.Option.{slice_get_read}
 use Rattle.cw_value.specs.Deeds.{begins_at}
 use Rattle.cw_slots.specs.Texts.{statement_at}
-use Rattle.cw_machine.proofs.Behind.{all_on, behind}
+use Rattle.cw_machine.proofs.Behind.{behind}
 use Rattle.cw_machine.proofs.said.Said.behind.Goals as goal
 
 pub returns-in-Some : goal.returns-in-Some
@@ -22,7 +23,7 @@ returns-in-Some c =
     let d = c.deref-in-Some.result.now in
     record {
       found =
-          ap (λ l. find (begins_at at) (map statement_at l)) (all_on d n)
+          ap (λ l. find (begins_at at) (map statement_at l)) (take_rest d n)
           ∙ ap (λ l. find (begins_at at) (map statement_at (drop n l))) second
           ∙ behind items n at s (c.self.invariant c.if-self.true) is same
           ∙ ap (λ l. find (begins_at at) (map statement_at l)) c.self.view_is;
