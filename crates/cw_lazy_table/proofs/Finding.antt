@@ -50,16 +50,12 @@ module _ {A : Type 0} where
   pub found : (test : A → Bool) (xs : List A) (x : A) → find test xs ≡ Some x → Contains xs x × (test x ≡ true)
   found test xs x e = let z = find_in test xs x e in (of_in xs x z.0, z.1)
 
-  pub is_found : (test : A → Bool) (xs : List A) (x : A) → Contains xs x → test x ≡ true → (y : A) × (find test xs ≡ Some y)
-  is_found test xs x c t = some_is (find test xs) (find_some test xs x (in_of xs x c) t)
-    where
-      some_is : (o : Option A) → is_some o ≡ true → (y : A) × (o ≡ Some y)
-      some_is None e = cc
-      some_is (Some y) e = (y, refl)
-
   pub somewhere : (o : Option A) → is_some o ≡ true → (y : A) × (o ≡ Some y)
   somewhere None e = cc
   somewhere (Some y) e = (y, refl)
+
+  pub is_found : (test : A → Bool) (xs : List A) (x : A) → Contains xs x → test x ≡ true → (y : A) × (find test xs ≡ Some y)
+  is_found test xs x c t = somewhere (find test xs) (find_some test xs x (in_of xs x c) t)
 
   -- the number of an element
   pub numbered : (xs : List A) (x : A) → Contains xs x → (i : ℕ) × (i < length xs) × (slice_get xs i ≡ Some x)
