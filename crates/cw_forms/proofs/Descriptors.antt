@@ -29,10 +29,7 @@ use Rattle.cw_forms.proofs.Observed.{pairs_both, listed_pairs}
 use Rattle.cw_forms.proofs.Trees.{NoneAll, none_of, of_none, none_split, none_join, none_pairs, no_place, place_none, call_of, is_name_op, same_call, same_read, nodes_alike, parts_alike}
 use Rattle.cw_forms.proofs.Lists.{AllOf, wholes_made, locals_pairs}
 use Rattle.cw_lemmas.proofs.Options.{option_map_none}
-
-neither : (a b : Option DescriptorFault) → option_or a b ≡ None → (a ≡ None) × (b ≡ None)
-neither None b e = (refl, e)
-neither (Some x) b e = absurd (cc)
+use Rattle.cw_source.proofs.Kept.{neither}
 
 of_neither : (a b : Option DescriptorFault) → a ≡ None → b ≡ None → option_or a b ≡ None
 of_neither a b e f = rw (e, f) refl

@@ -3,7 +3,7 @@ use Rattle.std.proofs.Common.{◌≡◌, ℕ, Bool, true, false, cond, not, is_s
 use Rattle.std.proofs.Common.{subst, ◌∙◌}
 use Rattle.std.specs.Prelude.{codes}
 use Rattle.std.specs.List.{filter_map, list_any}
-use Rattle.std.specs.Option.{option_map, option_or}
+use Rattle.std.specs.Option.{option_map}
 use Rattle.std.specs.Str.{bytes_eq}
 use Rattle.cw_core.specs.declared.quantity.Quantity.TheVariants.{Functions, Labels}
 use Rattle.cw_core.specs.Quantities.{limit_of}
@@ -31,7 +31,7 @@ use Rattle.cw_forms.proofs.Trees.{same_plain, nodes_alike, parts_alike, counts_a
 use Rattle.cw_forms.proofs.Lists.{AllOf, if_name, filter_none, none_filter, loose, jumps_stand, wholes_made, statements_stand, labels_stand, node_rule, globals_pairs, locals_pairs}
 use Rattle.cw_forms.proofs.Lists.{every_label_pairs, places_pairs, found_same}
 use Rattle.cw_lemmas.proofs.Options.{option_map_none}
-use Rattle.cw_source.proofs.Kept.{Nine, nine_of}
+use Rattle.cw_source.proofs.Kept.{neither as one_none, Nine, nine_of}
 
 -- ---- rules one after the other
 
@@ -75,13 +75,9 @@ module _ (source form : List ℕ) where
   labels_none [] (g ∷ gs) h e = absurd h
   labels_none (f ∷ fs) [] h e = absurd h
   labels_none (f ∷ fs) (g ∷ gs) h e =
-      let both = either_none (repeated source [] (labels_of (body_of f))) (second_label source fs) e in
+      let both = one_none (repeated source [] (labels_of (body_of f))) (second_label source fs) e in
       let first = repeated_none [] (labels_of (body_of f)) (labels_of (body_of g)) (labels_stand source form (body_of f) (body_of g) h.0.3) both.0 in
       rw first (labels_none fs gs h.1 both.1)
-    where
-      either_none : (a b : Option Name) → option_or a b ≡ None → (a ≡ None) × (b ≡ None)
-      either_none None b k = (refl, k)
-      either_none (Some x) b k = absurd (cc)
 
   -- ---- a file and that of its form
 

@@ -1,5 +1,6 @@
 -- Where no scope rule is broken each is kept.
 use Rattle.std.proofs.Common.{◌≡◌, ℕ, Bool, true, false, cond, nat_lt, ◌≤◌, List, [], length, map, Option, None, Some, refl, arith}
+use Rattle.std.specs.Option.{option_or}
 use Rattle.std.proofs.lemmas.Bool.Decides.{nat_tests}
 use Rattle.cw_core.specs.declared.quantity.Quantity.TheVariants.{Functions, Labels}
 use Rattle.cw_syntax.specs.Trees.{File}
@@ -12,7 +13,7 @@ use Rattle.cw_resolve.specs.Soonest.{soonest}
 use Rattle.cw_scope.specs.Faults.{no_main, two_functions, two_labels, arity, call_form, main_called, reserved_name, jump, limit, ◌or_else◌, scope_fault}
 use Rattle.cw_lemmas.proofs.Options.{option_map_none}
 
-pub neither : (a b : Option ScopeFault) → a or_else b ≡ None → (a ≡ None) × (b ≡ None)
+pub neither : {X : Type 0} (a b : Option X) → option_or a b ≡ None → (a ≡ None) × (b ≡ None)
 neither None b e = (refl, e)
 neither (Some x) b e = absurd (cc)
 
