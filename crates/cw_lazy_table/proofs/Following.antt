@@ -5,7 +5,6 @@ use Rattle.std.specs.Prelude.{slice_get, option_map, Contains, OnOk}
 use Rattle.std.specs.List.{cons_option}
 use Rattle.cw_core.specs.declared.ids.PosId.{PosId}
 use Rattle.cw_core.specs.declared.ids.StateId.{StateId}
-use Rattle.cw_rights.specs.declared.capabilities.Primitive.{Primitive}
 use Rattle.cw_certs.specs.declared.moves.Move.{Move}
 use Rattle.cw_game.specs.declared.spots.Spot.{Spot}
 use Rattle.cw_game.specs.declared.spots.Spot.TheVariants.{Visit, Asked, Step, Branch, Label, Open, Close, Call, SplitCall, Exit}
@@ -22,7 +21,7 @@ use Rattle.cw_solve.proofs.Calling.{the_call, called}
 use Rattle.cw_solve.proofs.Falls.{back_stays}
 use Rattle.cw_solve.proofs.Still.{first_of_two}
 use Rattle.cw_solve.proofs.Tabling.{there}
-use Rattle.cw_solve.proofs.Turning.{turn_call}
+use Rattle.cw_solve.proofs.Turning.{turn_call, turn_visit}
 use Rattle.cw_lazy_table.specs.declared.key.Key.{Key}
 use Rattle.cw_solve.specs.Numbering.{IsUnder}
 use Rattle.cw_lazy_table.specs.Choices.{lost_in, set_in, CanFollow}
@@ -47,21 +46,7 @@ pub put_is : (keys : List Key) (pair : Option (PosId × StateId)) (e : ℕ) (o :
 put_is keys None e o h = sym (append-nil keys) ∙ ap (λ (o : Option (ℕ × ℕ)). keys ++ cons_option (option_map (λ r. key r.0 r.1 e) o) []) h
 put_is keys (Some pair) e o h = ap (λ (o : Option (ℕ × ℕ)). keys ++ cons_option (option_map (λ r. key r.0 r.1 e) o) []) h
 
--- what stands where it is nobody's turn to call
 module _ (g : Game) where
-  visit_in : (o : Option Spot) → Some turn.Weaver ≡ option_map (turn_in g) o → (j : ℕ) × (i : ℕ) × (a : Primitive) × (o ≡ Some (Visit j i a))
-  visit_in (Some (Visit j i a)) e = (j, i, a, refl)
-  visit_in None e = cc
-  visit_in (Some (Exit f)) e = cc
-  visit_in (Some (Asked j i a)) e = cc
-  visit_in (Some (Step m)) e = cc
-  visit_in (Some (Branch l m)) e = cc
-  visit_in (Some (Label j l m)) e = cc
-  visit_in (Some (Open j d m)) e = cc
-  visit_in (Some (Close j d m)) e = cc
-  visit_in (Some (Call j f m)) e = cc
-  visit_in (Some (SplitCall j f m)) e = cc
-
   -- whoever's turn it is, a call promises something and waits, and nothing else does
   module _ (k : Key) where
     abbrev spot : Option Spot
@@ -150,7 +135,7 @@ module _ (h : HeldGame) (s : Held) (k : Key) (can : CanFollow h s k) where
 
   pub skip_there : Some turn.Weaver ≡ option_map (turn_in g) (slice_get g.spots k.pos) → IsUnder g (k.pos + 2) k.promise
   skip_there e =
-      let v = visit_in g (slice_get g.spots k.pos) e in (
+      let v = turn_visit g (slice_get g.spots k.pos) e in (
         is_safe.function,
         can.ready.begins.routed.stays is_safe.function k.pos (k.pos + 2) is_safe.below is_safe.of
             (subst (λ o. Contains (targets k.pos o) (k.pos + 2)) (sym v.3) (first_of_two (k.pos + 2) (k.pos + 1))),

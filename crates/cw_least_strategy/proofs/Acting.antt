@@ -1,15 +1,11 @@
 -- What is done at a key, by whose turn it is.
 use Rattle.std.proofs.Common.{◌≡◌, ℕ, ◌+◌, ◌<◌, ◌≤◌, List, [], ◌∷◌, ◌++◌, true, false, cond, Option, Some, None, map, filter_map, length, nat_lt, refl, sym, ap, ap₂, ◌∙◌, arith}
-use Rattle.std.specs.Prelude.{slice_get, option_map}
+use Rattle.std.specs.Prelude.{slice_get}
 use Rattle.std.specs.List.{range_with_len, cons_option}
 use Rattle.std.proofs.lemmas.Bool.{lt-ltb, le-ltb}
 use Rattle.cw_core.specs.declared.ids.StateId.{StateId}
-use Rattle.cw_game.specs.declared.spots.Spot.{Spot}
-use Rattle.cw_game.specs.declared.spots.Spot.TheVariants.{Visit, Asked, Step, Branch, Label, Open, Close, Call, SplitCall, Exit}
 use Rattle.cw_game.specs.Games.{Game}
 use Rattle.cw_game.specs.Pairs.{Called, call_in}
-use Rattle.cw_product.specs.declared.turn.Turn.TheVariants as turn
-use Rattle.cw_product.specs.Moves.{turn_in}
 use Rattle.cw_solve.specs.Contexts.{context}
 use Rattle.cw_product.specs.Routed.{AreRouted}
 use Rattle.cw_solve.proofs.Tabling.{there}
@@ -22,22 +18,6 @@ use Rattle.cw_least_strategy.proofs.Naming.{callee_lower}
 use Rattle.cw_least_strategy.proofs.Looking.{kept_more}
 
 module _ (g : Game) (k : Key) where
-  visit_in_turn : (o : Option Spot) → Some turn.Weaver ≡ option_map (turn_in g) o → (j : ℕ) × (i : ℕ) × (a : _) × (o ≡ Some (Visit j i a))
-  visit_in_turn (Some (Visit j i a)) e = (j, i, a, refl)
-  visit_in_turn None e = cc
-  visit_in_turn (Some (Exit f)) e = cc
-  visit_in_turn (Some (Asked j i a)) e = cc
-  visit_in_turn (Some (Step m)) e = cc
-  visit_in_turn (Some (Branch l m)) e = cc
-  visit_in_turn (Some (Label j l m)) e = cc
-  visit_in_turn (Some (Open j d m)) e = cc
-  visit_in_turn (Some (Close j d m)) e = cc
-  visit_in_turn (Some (Call j f m)) e = cc
-  visit_in_turn (Some (SplitCall j f m)) e = cc
-
-  pub weaver_at : Some turn.Weaver ≡ option_map (turn_in g) (slice_get g.spots k.pos) → (j : ℕ) × (i : ℕ) × (a : _) × (slice_get g.spots k.pos ≡ Some (Visit j i a))
-  weaver_at e = visit_in_turn (slice_get g.spots k.pos) e
-
   pub into_act : (c : Called) (callee : Key) (backs : List (ℕ × Key)) → call_in (slice_get g.spots k.pos) ≡ Some c → callee ≡ below g k (g.entry c.function) k.state (aim_at g k c)
       → backs ≡ backs_at g k c
       → Into callee backs ≡ act g k

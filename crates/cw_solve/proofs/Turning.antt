@@ -4,6 +4,7 @@ use Rattle.std.specs.Prelude.{option_map}
 use Rattle.std.proofs.lemmas.Bool.{false≢true}
 use Rattle.std.proofs.lemmas.Option.{same_Some, none-some}
 use Rattle.cw_core.specs.declared.ids.PosId.{PosId}
+use Rattle.cw_rights.specs.declared.capabilities.Primitive.{Primitive}
 use Rattle.cw_game.specs.declared.spots.Spot.{Spot}
 use Rattle.cw_game.specs.declared.spots.Spot.TheVariants.{Visit, Asked, Step, Branch, Label, Open, Close, Call, SplitCall, Exit}
 use Rattle.cw_game.specs.Games.{Game, bad_in, Promise, holds_in}
@@ -70,6 +71,20 @@ module _ (g : Game) where
       let t = turns o (turn.Call f split back) e in
       let c = call_spot_is t.0 f back.0 split (turn.Call f split back) t.2 refl refl refl refl in
       (c.0, t.1 ∙ ap (λ (s : Spot). Some s) c.1)
+
+  -- a visit
+  pub turn_visit : (o : Option Spot) → Some turn.Weaver ≡ option_map (turn_in g) o → (j : ℕ) × (i : ℕ) × (a : Primitive) × (o ≡ Some (Visit j i a))
+  turn_visit (Some (Visit j i a)) e = (j, i, a, refl)
+  turn_visit None e = cc
+  turn_visit (Some (Exit f)) e = cc
+  turn_visit (Some (Asked j i a)) e = cc
+  turn_visit (Some (Step m)) e = cc
+  turn_visit (Some (Branch l m)) e = cc
+  turn_visit (Some (Label j l m)) e = cc
+  turn_visit (Some (Open j d m)) e = cc
+  turn_visit (Some (Close j d m)) e = cc
+  turn_visit (Some (Call j f m)) e = cc
+  turn_visit (Some (SplitCall j f m)) e = cc
 
   -- the end of a function
   pub turn_exit : (h : ℕ → ℕ → Promise → Bool) (p q : ℕ) (e : Promise) (o : Option Spot) (main : Bool) → Some (turn.Exit main) ≡ option_map (turn_in g) o → (main || e q) ≡ holds_in g h p q e o

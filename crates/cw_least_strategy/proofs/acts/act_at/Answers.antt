@@ -2,8 +2,8 @@ use Rattle.std.proofs.Common.{ap, ◌∙◌, length, arith, option_map}
 use Rattle.std.specs.Prelude.{slice_get}
 use Rattle.cw_product.specs.Product.{Held, game_of}
 use Rattle.cw_product.specs.Moves.{turn_in}
-use Rattle.cw_solve.proofs.Turning.{turn_call}
-use Rattle.cw_least_strategy.proofs.Acting.{pos_within, weaver_at}
+use Rattle.cw_solve.proofs.Turning.{turn_call, turn_visit}
+use Rattle.cw_least_strategy.proofs.Acting.{pos_within}
 use Rattle.cw_least_strategy.proofs.Looking.{visit_in}
 use Rattle.cw_least_strategy.proofs.acts.act_at.Goals as goal
 
@@ -23,14 +23,14 @@ pub below-requires-clause-here : goal.below-requires-clause-here
 below-requires-clause-here c =
     let g = game_of c.args.solved.now.game in
     let k = c.args.key.now in
-    let v = weaver_at g k (c.in-Weaver.ensures ∙ ap (λ (x : Held). option_map (turn_in (game_of x)) (slice_get (game_of x).spots k.pos)) c.game.ensures) in
+    let v = turn_visit g (slice_get g.spots k.pos) (c.in-Weaver.ensures ∙ ap (λ (x : Held). option_map (turn_in (game_of x)) (slice_get (game_of x).spots k.pos)) c.game.ensures) in
     (visit_in c.args.solved.now c.requires.routed c.context_of-number.result k.aim k.pos k.state v.0 v.1 v.2 c.context_of-number.ensures v.3).0
 
 pub below-requires-in-Weaver-clause-here : goal.below-requires-in-Weaver-clause-here
 below-requires-in-Weaver-clause-here c =
     let g = game_of c.args.solved.now.game in
     let k = c.args.key.now in
-    let v = weaver_at g k (c.in-Weaver.ensures ∙ ap (λ (x : Held). option_map (turn_in (game_of x)) (slice_get (game_of x).spots k.pos)) c.game.ensures) in
+    let v = turn_visit g (slice_get g.spots k.pos) (c.in-Weaver.ensures ∙ ap (λ (x : Held). option_map (turn_in (game_of x)) (slice_get (game_of x).spots k.pos)) c.game.ensures) in
     (visit_in c.args.solved.now c.requires.routed c.context_of-number.result k.aim k.pos k.state v.0 v.1 v.2 c.context_of-number.ensures v.3).1
 
 pub into-requires-clause-call : goal.into-requires-clause-call
