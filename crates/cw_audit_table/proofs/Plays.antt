@@ -12,13 +12,14 @@ use Rattle.cw_model.proofs.Moving.{one_party, over_has_none}
 use Rattle.cw_model.specs.Boards.{stop_answers, is_refused}
 use Rattle.cw_model.specs.Laws.{party_of}
 use Rattle.cw_game.specs.declared.spots.Spot.{Spot}
-use Rattle.cw_game.specs.declared.spots.Spot.TheVariants.{Exit, Visit as VisitSpot}
-use Rattle.cw_game.specs.Games.{Game, Ret, Config, leads_in, leads_to, bad_in, weavers_in}
+use Rattle.cw_game.specs.declared.spots.Spot.TheVariants.{Exit}
+use Rattle.cw_game.specs.Games.{Game, Ret, Config, leads_in, leads_to}
 use Rattle.cw_game.specs.Standing.{IsGameOf, StandsAt}
 use Rattle.cw_game.specs.Laws.{AreLinked as AreTied}
 use Rattle.cw_game.specs.Linked.{spot_at, IsLastEnd}
 use Rattle.cw_game.specs.Linked.{is_bad_at}
 use Rattle.cw_game.proofs.Linking.{linked}
+use Rattle.cw_game.proofs.Link.{weavers_good}
 use Rattle.cw_audit_table.specs.Plays.{Played, begins, skips, goes, IsViolating, IsVerdict, IsUnasked}
 use Rattle.cw_audit_table.specs.Runs.{is_step, Goes, here, skips as skips_to, goes as goes_to, start_at, IsHit}
 use Rattle.cw_audit_table.specs.Laws.{NothingIsAsked, HitsAreViolations, GoodAuditsHold, ShownAuditsAreExact}
@@ -146,16 +147,12 @@ module _ (p : Problem) (g : Game) (game : IsGameOf p g) where
       let n = t.to_board e l in
       (n.0, n.1, n.2)
 
-  visit_good : (q : ℕ) (spot : Option Spot) → weavers_in spot ≡ true → bad_in g q spot ≡ false
-  visit_good q (Some (VisitSpot j i a)) e = refl
-  visit_good q _ e = cc
-
   pub goes_played : (ms : List Move) (c : Config) → Goes g (start_at g) ms c → (b : Board) × Played p ms b × StandsAt g b c
   goes_played [] _ here = (start_board p, begins, tied.starts)
   goes_played ms e (skips_to _ d _ h l) =
       let w = goes_played ms d h in
       let v = skip_leads g (spot_at g d) d.pos d.state d.rets e l in
-      let n = back_to ms w.0 d e Skip (nothing_is_asked p ms w.0 w.1) w.2 (visit_good d.state (spot_at g d) v.0) l in
+      let n = back_to ms w.0 d e Skip (nothing_is_asked p ms w.0 w.1) w.2 (weavers_good g d.state (spot_at g d) v.0) l in
       (n.0, skips ms w.0 n.0 w.1 n.1, n.2)
   goes_played _ e (goes_to ms d _ by h good step l) =
       let w = goes_played ms d h in

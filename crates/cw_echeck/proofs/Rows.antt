@@ -20,15 +20,12 @@ use Rattle.cw_echeck.proofs.Boards.{problem_in, Rests, moves_to, state_within, s
 use Rattle.cw_syntax.specs.Plans.{Plan}
 use Rattle.cw_lemmas.proofs.Truths.{not_both}
 use Rattle.cw_game.proofs.Members.{has_none}
+use Rattle.cw_game.proofs.Holding.{bad_fails}
 use Rattle.cw_echeck.proofs.Leads.{local_over, calls_to, weavers_to}
 use Rattle.cw_lemmas.proofs.Truths.{not_or as fails_where}
 use Rattle.std.proofs.lemmas.Bool.{and_left as fails_left, and_right as fails_right, or_from as fails_both}
 
 module _ (g : Game) (h : ℕ → ℕ → Promise → Bool) where
-  bad_lost : (p q : ℕ) (e : Promise) (spot : Option Spot) → bad_in g q spot ≡ true → holds_in g h p q e spot ≡ false
-  bad_lost p q e (Some (Label j l n)) b = fails_left (not (g.states.bad q l)) (h n (g.states.lettered q l) e) (ap not b)
-  bad_lost p q e _ b = cc
-
   both_lost : (p q : ℕ) (e : Promise) (spot : Option Spot) → weavers_in spot ≡ true → h (p + 2) q e ≡ false → h (p + 1) q e ≡ false → holds_in g h p q e spot ≡ false
   both_lost p q e (Some (Visit j i a)) w s t = fails_both (h (p + 2) q e) (h (p + 1) q e) s t
   both_lost p q e _ w s t = cc
@@ -105,7 +102,7 @@ module _ (plan : Plan) (g : Game) (game : IsGameOf (problem_in plan g) g) (s : S
 
   by_how : (n i pos q aim : ℕ) (rets : List Ret) (promised : Promise) (how : How) → IsSuch (at_pair pos q rets) → HowOk g s i pos q aim how → ((k : ℕ) → k < i → IsLostFor n k)
       → LeavesOut aim rets promised → Holds g (suc n) pos q promised ≡ false
-  by_how n i pos q aim rets promised Bad h ok below out = bad_lost g (Holds g n) pos q promised (slice_get g.spots pos) ok
+  by_how n i pos q aim rets promised Bad h ok below out = bad_fails g (Holds g n) pos q promised (slice_get g.spots pos) ok
   by_how n i pos q aim rets promised Out h ok below out =
       ap (holds_in g (Holds g n) pos q promised) ok.1
       ∙ fails_both (nat_eq ok.0 g.main) (promised q) (not_main ok.0 (nat_eq ok.0 g.main) ok.2 refl) (out q (pos, ok.0, ok.1, h) ok.3)

@@ -4,8 +4,14 @@ use Rattle.std.specs.Prelude.{slice_get}
 use Rattle.cw_rights.specs.declared.capabilities.Primitive.TheVariants.{Split}
 use Rattle.cw_game.specs.declared.spots.Spot.{Spot}
 use Rattle.cw_game.specs.declared.spots.Spot.TheVariants.{Visit, Asked, Step, Branch, Label, Open, Close, Call, SplitCall, Exit}
-use Rattle.cw_game.specs.Games.{Game, refuses_in, Promise, holds_in, Holds}
+use Rattle.cw_game.specs.Games.{Game, refuses_in, bad_in, Promise, holds_in, Holds}
 pub use Rattle.cw_game.specs.Staying.{AreClosed}
+
+-- a bad pair doesn't hold for any move
+pub bad_fails : (g : Game) (h : ℕ → ℕ → Promise → Bool) (p q : ℕ) (e : Promise) (o : Option Spot) → bad_in g q o ≡ true → holds_in g h p q e o ≡ false
+bad_fails g h p q e (Some (Label j l n)) b = rw b refl
+bad_fails g h p q e None b = cc
+bad_fails g h p q e (Some _) b = cc
 
 -- if the one is true so is the other
 abbrev pub Gives : Bool → Bool → Type 0

@@ -47,6 +47,11 @@ abbrev pub party_of : Bool → Party
 party_of true = Weaver
 party_of false = Environment
 
+-- where the weaver moves nothing is bad
+pub weavers_good : (g : Game) (q : ℕ) (spot : Option Spot) → weavers_in spot ≡ true → bad_in g q spot ≡ false
+weavers_good g q (Some (LabelSpot j l n)) e = cc
+weavers_good g q _ e = refl
+
 -- an exit leads somewhere by On alone
 pub exit_only : (g : Game) (p q f : ℕ) (rets : List Ret) (by : Move) → (by ≡ On → ⊥) → leads_in g p q rets (Some (Exit f)) by ≡ None
 exit_only g p q f [] by ne = refl
@@ -435,10 +440,6 @@ module _ (Means : Meaning) (g : Game) (plan : Plan) (right : AreStates g.policy 
   weavers_pair b FreeSplit spot p q rets by next t w r e = let y = same_Some _ _ t in cc
   weavers_pair b Over spot p q rets by next t w r e = absurd (none-some _ t)
 
-  good_at : (q : ℕ) (spot : Option Spot) → weavers_in spot ≡ true → bad_in g q spot ≡ false
-  good_at q (Some (LabelSpot j l n)) e = cc
-  good_at q _ e = refl
-
   -- what the weaver leads to from its pair stands again
   weavers_to : (b : Board) (c : Config) (by : Move) (to : Board) → Stands Means g b c → weavers_in (slice_get g.spots c.pos) ≡ true → moved problem b b.phase by ≡ Some to
       → (next : Config) × (leads_to g c by ≡ Some next) × Stands Means g to next
@@ -447,7 +448,7 @@ module _ (Means : Meaning) (g : Game) (plan : Plan) (right : AreStates g.policy 
         k.0,
         k.1,
         subst (λ o. IsTied Means g o (Some k.0)) e (subst (λ o. IsTied Means g (moved problem b b.phase by) o) k.1
-            (tied b c by h (good_at c.state (slice_get g.spots c.pos) w) (unanswered b c k.0 by h k.1))),
+            (tied b c by h (weavers_good g c.state (slice_get g.spots c.pos) w) (unanswered b c k.0 by h k.1))),
       )
 
   -- What is forced of a configuration is forced of the boards that stand there.

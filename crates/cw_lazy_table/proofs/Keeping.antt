@@ -8,12 +8,11 @@ use Rattle.cw_game.specs.declared.spots.Spot.{Spot}
 use Rattle.cw_game.specs.declared.spots.Spot.TheVariants.{Visit, Exit}
 use Rattle.cw_game.specs.Games.{Game, Config, returned, bad_in, weavers_in, Promise, holds_in, Holds, IsLost}
 use Rattle.cw_game.specs.Pairs.{has, all_states, Called, call_in, call_spot, kept_at}
-use Rattle.cw_game.proofs.Holding.{lost_rises}
+use Rattle.cw_game.proofs.Holding.{lost_rises, bad_fails}
 use Rattle.cw_product.specs.Routed.{IsState, targets, AreRouted, IsOf}
 use Rattle.cw_solve.specs.Contexts.{context, promise_at, IsSetOf, IsNeeded, of_main, of_call}
 use Rattle.cw_solve.proofs.Falls.{later, return_state, back_stays, call_is}
 use Rattle.cw_solve.proofs.Still.{first_of_two, second_of_two, only, holds_call}
-use Rattle.cw_solve.proofs.Moves.{bad_fails}
 use Rattle.cw_lazy_table.specs.Live.{IsFull, IsLive, begins, skips, tries, moves, goes_on, calls, returns}
 use Rattle.cw_lazy_table.specs.Staged.{IsAsked, AreStaged}
 use Rattle.cw_lazy_table.proofs.Going.{goes_to, resumes}

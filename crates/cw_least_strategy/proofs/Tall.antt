@@ -11,12 +11,12 @@ use Rattle.cw_game.specs.declared.spots.Spot.{Spot}
 use Rattle.cw_game.specs.declared.spots.Spot.TheVariants.{Visit, Asked, Step, Branch, Label, Open, Close, Call, SplitCall, Exit}
 use Rattle.cw_game.specs.Games.{Game, Promise, Holds, holds_in, bad_in, weavers_in, returned}
 use Rattle.cw_game.specs.Pairs.{has, Called, call_in, is_call_in, is_exit_in, kept_at}
-use Rattle.cw_game.proofs.Holding.{lost_rises}
+use Rattle.cw_game.proofs.Holding.{lost_rises, bad_fails}
 use Rattle.cw_lemmas.proofs.Lists.{contains_map, get_contains, head_in, tail_in}
 use Rattle.cw_product.specs.Routed.{IsState, AreRouted}
 use Rattle.cw_solve.specs.Contexts.{promise_at}
 use Rattle.cw_solve.proofs.Falls.{later}
-use Rattle.cw_solve.proofs.Moves.{by_moves, bad_fails}
+use Rattle.cw_solve.proofs.Moves.{by_moves}
 use Rattle.cw_solve.proofs.Still.{holds_call}
 use Rattle.cw_least_strategy.specs.declared.key.Key.{Key}
 use Rattle.cw_least_strategy.specs.declared.key.Way.{Way}

@@ -9,14 +9,14 @@ use Rattle.cw_game.specs.declared.spots.Spot.{Spot}
 use Rattle.cw_game.specs.declared.spots.Spot.TheVariants.{Visit, Asked, Step, Branch, Label, Open, Close, Call, SplitCall, Exit}
 use Rattle.cw_game.specs.Games.{Game, Config, refuses_in, bad_in, leads_in, Promise, holds_in}
 use Rattle.cw_game.specs.Pairs.{is_call_in, is_exit_in}
-use Rattle.cw_game.proofs.Holding.{Gives, gives_or, gives_and}
+use Rattle.cw_game.proofs.Holding.{Gives, gives_or, gives_and, bad_fails}
 use Rattle.cw_product.specs.Moves.{pair_of, is_left_in, next_in, next_at}
 use Rattle.cw_solve.specs.declared.contexts.Context.{Context}
 use Rattle.cw_solve.specs.Asking.{holds_after, holds_by_moves}
 use Rattle.cw_product.specs.Routed.{IsState, AreRouted}
 use Rattle.cw_solve.specs.Rounds.{IsCell}
 use Rattle.cw_solve.proofs.Calling.{next_target}
-use Rattle.cw_solve.proofs.Moves.{by_moves, bad_fails}
+use Rattle.cw_solve.proofs.Moves.{by_moves}
 use Rattle.cw_linked.specs.Steps.{IsMoveIn}
 use Rattle.cw_lemmas.proofs.Truths.{or_first as neither, or_middle}
 use Rattle.cw_lemmas.proofs.Options.{cond_none_some as not_left, option_map_some as mapped}

@@ -30,9 +30,3 @@ by_moves g h p q e (Some (Close j d n)) b c x = refl
 by_moves g h p q e (Some (Call j f n)) b c x = cc
 by_moves g h p q e (Some (SplitCall j f n)) b c x = cc
 by_moves g h p q e (Some (Exit f)) b c x = cc
-
--- a bad pair doesn't hold for any move
-pub bad_fails : (g : Game) (h : ℕ → ℕ → Promise → Bool) (p q : ℕ) (e : Promise) (o : Option Spot) → bad_in g q o ≡ true → holds_in g h p q e o ≡ false
-bad_fails g h p q e (Some (Label j l n)) b = rw b refl
-bad_fails g h p q e None b = cc
-bad_fails g h p q e (Some _) b = cc

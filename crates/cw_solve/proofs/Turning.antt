@@ -9,11 +9,12 @@ use Rattle.cw_game.specs.declared.spots.Spot.{Spot}
 use Rattle.cw_game.specs.declared.spots.Spot.TheVariants.{Visit, Asked, Step, Branch, Label, Open, Close, Call, SplitCall, Exit}
 use Rattle.cw_game.specs.Games.{Game, bad_in, Promise, holds_in}
 use Rattle.cw_game.specs.Pairs.{call_spot, is_call_in, is_exit_in}
+use Rattle.cw_game.proofs.Holding.{bad_fails}
 use Rattle.cw_product.specs.declared.turn.Turn.{Turn}
 use Rattle.cw_product.specs.declared.turn.Turn.TheVariants as turn
 use Rattle.cw_product.specs.Moves.{turn_in}
 use Rattle.cw_solve.specs.Asking.{holds_by_moves}
-use Rattle.cw_solve.proofs.Moves.{by_moves, bad_fails}
+use Rattle.cw_solve.proofs.Moves.{by_moves}
 
 -- what a call says
 abbrev callee_in : Turn → ℕ
