@@ -1,5 +1,6 @@
 -- The proofs.
 pub mod Puts
+pub mod KindWords
 pub mod Lines
 pub mod Behind
 pub mod OneAnswer

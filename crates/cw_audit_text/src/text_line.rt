@@ -3,7 +3,7 @@
 ghost use Rattle.std.specs.Prelude.{◌≡◌, [], IfSome};
 ghost use Rattle.cw_text.specs.Lines.{Reads};
 ghost use Rattle.cw_audit_text.specs.TextLines.{line_fields, line_text, FitsLine};
-ghost use Rattle.cw_audit_text.specs.Kinds.{kind_field, rest_fields, FitsKind, IsOf};
+ghost use Rattle.cw_audit_text.specs.Kinds.{kind_field, word_kinds, kind_by, rest_fields, FitsKind, IsOf};
 ghost use Rattle.cw_audit_text.specs.declared.text_line.LineKind.TheVariants as kind;
 
 use cw_certs::Move;
@@ -59,31 +59,30 @@ fn take_line(fields: &mut Fields) -> Option<TextLine>
 }
 
 /// What a line says whose first field this is.
+#[tactic(auto, using(crate::proofs::KindWords::word_kind, crate::proofs::KindWords::move_kind, crate::proofs::KindWords::no_kind))]
 fn kind_of(field: &[u8]) -> Option<LineKind>
     ensures { Reads FitsKind kind_field field.now result }
 {
-    if field == b"in".as_slice() {
-        return Some(LineKind::In);
+    match word_kind(field) {
+        Some(kind) => Some(kind),
+        None => Some(LineKind::Go(environments_move(field)?)),
     }
-    if field == b"at".as_slice() {
-        return Some(LineKind::At);
+}
+
+/// The same where the field is no move's name.
+fn word_kind(field: &[u8]) -> Option<LineKind>
+    ensures { result ≡ kind_by word_kinds field.now }
+{
+    match field {
+        b"in" => Some(LineKind::In),
+        b"at" => Some(LineKind::At),
+        b"capweave" => Some(LineKind::Head),
+        b"states" => Some(LineKind::States),
+        b"meets" => Some(LineKind::Meets),
+        b"violates" => Some(LineKind::Violates),
+        b"end" => Some(LineKind::End),
+        _ => None,
     }
-    if field == b"capweave".as_slice() {
-        return Some(LineKind::Head);
-    }
-    if field == b"states".as_slice() {
-        return Some(LineKind::States);
-    }
-    if field == b"meets".as_slice() {
-        return Some(LineKind::Meets);
-    }
-    if field == b"violates".as_slice() {
-        return Some(LineKind::Violates);
-    }
-    if field == b"end".as_slice() {
-        return Some(LineKind::End);
-    }
-    Some(LineKind::Go(environments_move(field)?))
 }
 
 /// What a line of this kind says, by the fields behind its first one.
