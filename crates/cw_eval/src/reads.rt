@@ -36,23 +36,17 @@ fn given_read(at: u32, given: Option<i64>, m: &Memory) -> Result<i64, Halt>
     }
 }
 
-/// The value of a name whose values are kept there.
+/// The value of the name with this span, whose values are kept there.
 #[inline(always)]
-fn name_read(
-    scope: &Scope,
-    name: &[u8],
-    at: u32,
-    m: &Memory,
-    location: Location,
-) -> Result<i64, Halt>
-    ensures { Shows as_is result (memory_of m.now) (name_read (scope_of scope.now) name.now at (memory_of m.now) (location_in location)) }
+fn name_read(scope: &Scope, from: u32, to: u32, m: &Memory, location: Location) -> Result<i64, Halt>
+    ensures { Shows as_is result (memory_of m.now) (name_read (scope_of scope.now) (slice (scope_of scope.now).source from to) from (memory_of m.now) (location_in location)) }
 {
     match location {
-        Location::Own(n) => cell_read(at, m.own.get(Spot::Plain(n)), m),
-        Location::Shared(n) => cell_read(at, m.shared.get(Spot::Plain(n)), m),
-        Location::Nowhere => given_read(at, scope.given(name), m),
-        Location::OwnArray(_) => Err(Halt::Stop(Stop::Form(at))),
-        Location::SharedArray(_) => Err(Halt::Stop(Stop::Form(at))),
+        Location::Own(n) => cell_read(from, m.own.get(Spot::Plain(n)), m),
+        Location::Shared(n) => cell_read(from, m.shared.get(Spot::Plain(n)), m),
+        Location::Nowhere => given_read(from, scope.given(scope.text(from, to)), m),
+        Location::OwnArray(_) => Err(Halt::Stop(Stop::Form(from))),
+        Location::SharedArray(_) => Err(Halt::Stop(Stop::Form(from))),
     }
 }
 
@@ -60,8 +54,7 @@ fn name_read(
 pub(crate) fn read_name(scope: &Scope, from: u32, to: u32, m: &Memory) -> Result<i64, Halt>
     ensures { Shows as_is result (memory_of m.now) (read_name (scope_of scope.now) from to (memory_of m.now)) }
 {
-    let name = scope.text(from, to);
-    name_read(scope, name, from, m, scope.location(name))
+    name_read(scope, from, to, m, scope.location_at(from, to))
 }
 
 /// Where a name is changed: nowhere where it isn't declared, or is an array.
@@ -83,7 +76,7 @@ fn target_at(location: Location) -> Target
 pub fn name_target(scope: &Scope, from: u32, to: u32) -> Target
     ensures target { target_in result ≡ name_target (scope_of scope.now) from to }
 {
-    target_at(scope.location(scope.text(from, to)))
+    target_at(scope.location_at(from, to))
 }
 
 /// The location of an expression that is a bare name.
@@ -92,7 +85,7 @@ fn bare_at(scope: &Scope, op: Op, from: u32, to: u32) -> Location
     ensures { location_in result ≡ bare_at (scope_of scope.now) op from to }
 {
     match op {
-        Op::Name => scope.location(scope.text(from, to)),
+        Op::Name => scope.location_at(from, to),
         Op::Number(_) | Op::Char(_) | Op::Text | Op::Call(_) => Location::Nowhere,
         Op::Index | Op::Prefix(_) | Op::Suffix(_) | Op::Binary(_) => Location::Nowhere,
         Op::Assign(_) | Op::Cast(_) | Op::SizeOf | Op::SizeOfType(_) => Location::Nowhere,

@@ -1,3 +1,4 @@
 mod Kept
 pub mod Rowed
 pub mod Behind
+mod Standing

@@ -3,10 +3,11 @@ use Rattle.std.specs.Prelude.{◌≡◌, ℕ, List, map, Option, Some, None, sli
 use Rattle.std.specs.List.{All}
 use Rattle.std.specs.Borrow.{Bor}
 use Rattle.cw_syntax.specs.declared.program.Stmt.{Stmt}
-use Rattle.cw_syntax.specs.Trees.{Statement, Definition}
+use Rattle.cw_syntax.specs.Trees.{Statement, Definition, File}
 use Rattle.cw_value.specs.Expressions.{Named}
 use Rattle.cw_value.specs.Deeds.{Deed, Rests, said_all}
 use Rattle.cw_value.specs.Machines.{Source, function, no_names, own_if, own_names, shared_names}
+use Rattle.cw_slots.specs.Standing.{Seen, seen}
 use Rattle.cw_slots.specs.Texts.{statement_at}
 use Rattle.cw_deeds.specs.declared.items.Row.{Row}
 use Rattle.cw_deeds.specs.declared.items.Row.TheVariants as row
@@ -31,16 +32,25 @@ IsTask functions t = deed_in t.deed ≡ deed_for (slice_get functions t.function
 abbrev pub rows_in : List Task → List Row
 rows_in tasks = map (λ t. t.row) tasks
 
--- the names are the file's and its functions', the statements each function's, and the tasks right
+-- what stands in a function with these names
+abbrev pub seen_by : List ℕ → File → Named → Seen
+seen_by bytes file own = seen bytes own (shared_names bytes file)
+
+-- the names are the file's and its functions', the statements each function's, the tasks right, and what stands in each function is known by its names
 pub record IsKnown (k : Known) : Type 0 where
   pub shared : k.shared.now ≡ shared_names (source_in k.source).bytes (source_in k.source).file
   pub none : k.none.now ≡ no_names
   pub own : k.own.now ≡ map (own_names (source_in k.source).bytes) (source_in k.source).file.functions
   pub said : map said_in k.said.now ≡ map (λ f. said_all f.body) (source_in k.source).file.functions
   pub tasks : All (IsTask (source_in k.source).file.functions) k.tasks.now
+  pub standing : k.standing.now ≡ map (λ f. seen_by (source_in k.source).bytes (source_in k.source).file (own_names (source_in k.source).bytes f)) (source_in k.source).file.functions
+  pub nowhere : k.nowhere.now ≡ seen_by (source_in k.source).bytes (source_in k.source).file no_names
 
 abbrev pub names_for : Source → ℕ → Named
 names_for s number = own_if s.bytes (function s number)
+
+abbrev pub standing_for : Source → ℕ → Seen
+standing_for s number = seen_by s.bytes s.file (names_for s number)
 
 -- the place of the statement that a row stands for
 abbrev pub place_of : Row → ℕ

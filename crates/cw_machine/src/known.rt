@@ -7,17 +7,17 @@ ghost use Rattle.cw_slots.specs.Shown.{scope_of};
 ghost use Rattle.cw_slots.specs.Texts.{statement_at};
 ghost use Rattle.cw_eval.specs.Passings.{deed_in};
 ghost use Rattle.cw_starts.specs.Sources.{source_in};
-ghost use Rattle.cw_machine.specs.Knowing.{IsKnown, deed_for, names_for, said_in};
+ghost use Rattle.cw_machine.specs.Knowing.{IsKnown, deed_for, names_for, said_in, standing_for};
 
 use crate::said::Said;
 use crate::tasks::{Task, deed_of};
 use cw_deeds::{Row, call_start, statement_start};
 use cw_eval::Deed;
-use cw_slots::{Names, Scope};
+use cw_slots::{Names, NamesAt, Scope};
 use cw_starts::Source;
 
-/// What a run goes by: the source, the names of its file and of its functions, the statements of each function, and what is to be done at
-/// each point.
+/// What a run goes by: the source, the names of its file and of its functions, the statements of each function, what is to be done at
+/// each point, and where the names are kept that stand in each function.
 #[derive(Clone, Copy, Drop)]
 pub struct Known<'a, 's> {
     pub source: Source<'s>,
@@ -26,6 +26,8 @@ pub struct Known<'a, 's> {
     pub own: &'a [Names<'s>],
     pub said: &'a [Said<'s>],
     pub tasks: &'a [Task<'s>],
+    pub standing: &'a [NamesAt<'s>],
+    pub nowhere: &'a NamesAt<'s>,
 }
 
 impl<'a, 's> Known<'a, 's> {
@@ -40,6 +42,17 @@ impl<'a, 's> Known<'a, 's> {
         &self.own[number]
     }
 
+    /// Where the names are kept that stand in a function; none is known where there is none with this number.
+    pub fn names_at(&self, number: usize) -> &'a NamesAt<'s>
+        requires known { IsKnown self.now }
+        ensures standing { result.now ≡ standing_for (source_in self.now.source) number }
+    {
+        if number >= self.standing.len() {
+            return self.nowhere;
+        }
+        &self.standing[number]
+    }
+
     /// The scope of a function.
     pub fn scope(&self, number: usize) -> Scope<'a, 's>
         requires known { IsKnown self.now }
@@ -51,6 +64,7 @@ impl<'a, 's> Known<'a, 's> {
             own: self.names(number),
             shared: self.shared,
             given: self.source.given,
+            standing: self.names_at(number),
         }
     }
 

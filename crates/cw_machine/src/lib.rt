@@ -12,7 +12,7 @@ mod whole;
 
 pub use known::Known;
 pub use machine::{Machine, Wait, new_store};
-pub use prepared::{all_own_names, all_said, given_cells};
+pub use prepared::{all_names_at, all_own_names, all_said, given_cells};
 pub use said::Said;
 pub use steps::{step_back, step_into, step_on};
 pub use tasks::{Task, all_tasks};

@@ -1,11 +1,9 @@
 //! What a name stands for where it is used.
 ghost use Rattle.std.specs.Prelude.{◌≡◌, Some};
-ghost use Rattle.cw_syntax.specs.Names.{slice};
-ghost use Rattle.cw_value.specs.Expressions.{given_for, location_of};
-ghost use Rattle.cw_slots.specs.Shown.{own_kept, location_in, scope_of, shared_if_kept};
 
+use crate::locations::location_among;
 use crate::names::Names;
-use crate::numbers::Kept;
+use crate::names_at::NamesAt;
 use cw_syntax::names::slice;
 use std::alloc::Global;
 
@@ -28,9 +26,16 @@ pub struct Scope<'a, 's> {
     pub own: &'a Names<'s>,
     pub shared: &'a Names<'s>,
     pub given: &'a [(Vec<u8>, i64)],
+    /// Where the names are kept that stand in the function, as far as they were looked up before.
+    pub standing: &'a NamesAt<'s>,
+    ghost stand_here: { standing.now ≡ record { source = source.now; own = own.now; shared = shared.now } },
 }
 
 impl<'a, 's> Scope<'a, 's> {
+    ghost use Rattle.cw_syntax.specs.Names.{slice};
+    ghost use Rattle.cw_value.specs.Expressions.{given_for, location_of};
+    ghost use Rattle.cw_slots.specs.Shown.{location_in, scope_of};
+
     /// The bytes of a span.
     #[inline(always)]
     pub fn text(&self, from: u32, to: u32) -> &'a [u8]
@@ -44,9 +49,17 @@ impl<'a, 's> Scope<'a, 's> {
     pub fn location(&self, name: &[u8]) -> Location
         ensures location { location_in result ≡ location_of (scope_of self.now) name.now }
     {
-        match self.own.find(name) {
-            Some(kept) => own_location(kept),
-            None => shared_location(self.shared.find(name)),
+        location_among(self.own, self.shared, name)
+    }
+
+    /// Where the value of the name with this span is kept.
+    #[inline(always)]
+    pub fn location_at(&self, from: u32, to: u32) -> Location
+        ensures location { location_in result ≡ location_of (scope_of self.now) (slice (scope_of self.now).source from to) }
+    {
+        match self.standing.find(from, to) {
+            Some(location) => location,
+            None => self.location(self.text(from, to)),
         }
     }
 
@@ -75,29 +88,4 @@ fn value_of(given: &(Vec<u8>, i64)) -> Option<i64>
     ensures { result ≡ Some given.now.1 }
 {
     Some(given.1)
-}
-
-/// Where the value of a name of the function is kept.
-#[inline(always)]
-fn own_location(kept: Kept) -> Location
-    ensures { location_in result ≡ own_kept kept }
-{
-    match kept {
-        Kept::Plain(n) => Location::Own(n),
-        Kept::Array(n) => Location::OwnArray(n),
-    }
-}
-
-/// Where the value of a name is kept that is none of the function's.
-#[inline(always)]
-fn shared_location(kept: Option<Kept>) -> Location
-    ensures { location_in result ≡ shared_if_kept kept }
-{
-    match kept {
-        None => Location::Nowhere,
-        Some(kept) => match kept {
-            Kept::Plain(n) => Location::Shared(n),
-            Kept::Array(n) => Location::SharedArray(n),
-        },
-    }
 }

@@ -13,7 +13,7 @@ use crate::outer::{cell_by, is_named, listed, start_cell};
 use cw_cells::Cells;
 use cw_core::NoMemory;
 use cw_eval::{Halt, Memory, Store, sized};
-use cw_slots::{Names, Scope};
+use cw_slots::{Names, NamesAt, Scope};
 use cw_syntax::program::{Item, Program};
 use std::alloc::Global;
 
@@ -41,12 +41,14 @@ fn sized_blank(source: &Source, item: &Item) -> Result<Option<usize>, NoMemory>
     ensures { IfOk result (λ n. n ≡ number_of (sized (blank source.now.bytes.now) (size_in (array_of item.now.array)) item.now.braces (trees_of item.now.init.items) no_memory)) }
 {
     let none = Names::none(source.alloc);
+    let standing = NamesAt::none(source.alloc, source.bytes, &none, &none);
     let scope = Scope {
         alloc: source.alloc,
         source: source.bytes,
         own: &none,
         shared: &none,
         given: &[],
+        standing: &standing,
     };
     let mut m = Memory {
         own: no_store(source.alloc),

@@ -15,7 +15,7 @@ use Rattle.cw_starts.specs.Sources.{source_in}
 use Rattle.cw_value.specs.Deeds.{said_all}
 use Rattle.cw_value.specs.Machines.{no_names, own_names, shared_names}
 use Rattle.cw_machine.specs.declared.machine.Wait.{Wait}
-use Rattle.cw_machine.specs.Knowing.{IsTask, rows_in, said_in}
+use Rattle.cw_machine.specs.Knowing.{IsTask, rows_in, said_in, seen_by}
 use Rattle.cw_values.specs.Stands.{plan}
 use Rattle.cw_values.specs.declared.running.Run.{Run}
 use Rattle.cw_values.specs.declared.prepared.Prepared.{Prepared}
@@ -29,7 +29,8 @@ pub record IsRunOf (policy : PlainPolicy) (run : Run) : Type 0 where
   pub graph : IsGraph (names_of policy) (source_in run.known.source).bytes (source_in run.known.source).file run.graph.now
   pub rows : rows_of run ≡ map row_of (points (plan policy (source_in run.known.source)))
 
--- what is drawn from a program: the tasks are right and have the rows of its points, the names are the file's and its functions', and the statements each function's
+-- what is drawn from a program: the tasks are right and have the rows of its points, the names are the file's and its functions', the statements each function's, and what stands in each is
+-- known by its names
 pub record IsPrepared (policy : PlainPolicy) (bytes : List ℕ) (file : File) (p : Prepared) : Type 0 where
   pub rows : rows_in p.tasks.items ≡ map row_of (points (plan_of (names_of policy) bytes file))
   pub tasks : All (IsTask file.functions) p.tasks.items
@@ -37,6 +38,8 @@ pub record IsPrepared (policy : PlainPolicy) (bytes : List ℕ) (file : File) (p
   pub none : p.none ≡ no_names
   pub own : p.own.items ≡ map (own_names bytes) file.functions
   pub said : map said_in p.said.items ≡ map (λ f. said_all f.body) file.functions
+  pub standing : p.standing.items ≡ map (λ f. seen_by bytes file (own_names bytes f)) file.functions
+  pub nowhere : p.nowhere ≡ seen_by bytes file no_names
 
 -- where `main` begins
 abbrev pub entry_of : Run → Option PointId

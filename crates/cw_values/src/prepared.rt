@@ -12,16 +12,17 @@ ghost use Rattle.cw_values.specs.Running.{IsRunOf, IsPrepared};
 use crate::running::Run;
 use cw_core::NoMemory;
 use cw_deeds::rows;
-use cw_machine::{Known, Said, Task, all_own_names, all_said, all_tasks};
+use cw_machine::{Known, Said, Task, all_names_at, all_own_names, all_said, all_tasks};
 use cw_points::Graph;
 use cw_rights::Policy;
-use cw_slots::{Names, shared_names};
+use cw_slots::{Names, NamesAt, shared_names};
 use cw_starts::Source;
 use cw_syntax::checked::Checked;
+use cw_syntax::program::Function;
 use std::alloc::Global;
 
 /// What is drawn from a program before it runs: what is to be done at each point, the names of the file and of its functions, the
-/// statements of each function.
+/// statements of each function, and where the names are kept that stand in it.
 #[derive(Drop)]
 pub struct Prepared<'s> {
     pub tasks: Vec<Task<'s>>,
@@ -29,6 +30,8 @@ pub struct Prepared<'s> {
     pub none: Names<'s>,
     pub own: Vec<Names<'s>>,
     pub said: Vec<Said<'s>>,
+    pub standing: Vec<NamesAt<'s>>,
+    pub nowhere: NamesAt<'s>,
 }
 
 /// Draws from a program what its runs go by.
@@ -44,12 +47,18 @@ pub fn prepare<'s>(
     let own = all_own_names(alloc, checked.source, &checked.program.functions)?;
     let said = all_said(alloc, &checked.program.functions)?;
     let tasks = all_tasks(alloc, &said, &rows)?;
+    let functions: &[Function] = &checked.program.functions;
+    let standing = all_names_at(alloc, checked.source, functions, &own, &shared)?;
+    let none = Names::none(alloc);
+    let nowhere = NamesAt::none(alloc, checked.source, &none, &shared);
     Ok(Prepared {
         tasks,
         shared,
-        none: Names::none(alloc),
+        none,
         own,
         said,
+        standing,
+        nowhere,
     })
 }
 
@@ -68,6 +77,8 @@ impl<'s> Prepared<'s> {
                 own: &self.own,
                 said: &self.said,
                 tasks: &self.tasks,
+                standing: &self.standing,
+                nowhere: &self.nowhere,
             },
             graph,
         }
