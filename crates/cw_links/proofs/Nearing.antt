@@ -101,6 +101,17 @@ module _ (now : List ℕ) (now_key : ℕ) (soon : List ℕ) (soon_key : ℕ) (la
         others = λ k ne. with_other inner key (reverse (soon ++ element ∷ [])) k ne ∙ sym (passed inner soon_key soon k (inl none));
       }
 
+  -- now, where nothing else waits now or soon
+  pub puts_first : (element key : ℕ) → length now ≡ 0 → length soon ≡ 0 → Puts (three now now_key soon soon_key later) (three (now ++ element ∷ []) key soon soon_key later) element key
+  puts_first element key not_now not_soon =
+      let old = with_stack later now_key (reverse now) in
+      let new = with_stack later key (reverse (now ++ element ∷ [])) in
+      let before : (k : ℕ) → list_at (three now now_key soon soon_key later) k ≡ list_at later k = λ k. passed old soon_key soon k (inl not_soon) ∙ passed later now_key now k (inl not_now) in
+      record {
+        here = passed new soon_key soon key (inl not_soon) ∙ front_more later key now element ∙ ap (λ (ys : List ℕ). element ∷ ys) (passed later key now key (inl not_now) ∙ sym (before key));
+        others = λ k ne. passed new soon_key soon k (inl not_soon) ∙ with_other later key (reverse (now ++ element ∷ [])) k ne ∙ sym (before k);
+      }
+
   pub puts_later : (more : List (List ℕ)) (element key : ℕ) → (length now ≡ 0) ⊎ (key ≡ now_key → ⊥) → (length soon ≡ 0) ⊎ (key ≡ soon_key → ⊥) → Puts later more element key
       → Puts (three now now_key soon soon_key later) (three now now_key soon soon_key more) element key
   puts_later more element key not_now not_soon p =

@@ -2,7 +2,7 @@
 use Rattle.std.proofs.Common.{◌≡◌, ℕ, zero, suc, ◌+◌, ◌-◌, ◌*◌, ◌/◌, ◌%◌, ◌^◌, ◌<◌, ◌≤◌, Bool, false, eqb, List, [], ◌∷◌, ◌++◌, length, get_or, replicate, refl, sym, ap, ◌∙◌, arith, inl, inr}
 use Rattle.std.specs.Int.{bit_at, div_ceil}
 use Rattle.std.proofs.lemmas.Bool.{cases_eq, cases_lt}
-use Rattle.std.proofs.lemmas.List.{length-append, length-replicate, get_or-replicate, get_or_append_left, get_or-append_right, get_or_past, ext_get_or}
+use Rattle.std.proofs.lemmas.List.{append-nil, length-append, length-replicate, get_or-replicate, get_or_append_left, get_or-append_right, get_or_past, ext_get_or}
 use Rattle.std.proofs.lemmas.Nat.{pow_pos}
 use Rattle.std.proofs.lemmas.Nat.Bits.{bit_at_above}
 use Rattle.std.proofs.Math.Nat.{pow-le-pow_right}
@@ -18,6 +18,10 @@ number-plain (suc many) = omega (arith, number-cons false (replicate many false)
 
 pub rank-plain : (many index : ℕ) → rank (replicate many false) index ≡ 0
 rank-plain many index = omega (arith, rank-le (replicate many false) index, number-plain many)
+
+-- none more
+pub none_more : (xs : List ℕ) (n x : ℕ) → n ≡ 0 → xs ≡ xs ++ replicate n x
+none_more xs n x none = sym (append-nil xs) ∙ ap (λ (k : ℕ). xs ++ replicate k x) (sym none)
 
 -- limbs more of 0 are read as none
 zeros : (more k : ℕ) → get_or (replicate {A = ℕ} more 0) k 0 ≡ 0

@@ -31,7 +31,7 @@ IsApart near key Next = (length near.soon.items ≡ 0) × (near.present_key < ke
 IsApart near key Later = (near.present_key < key) × (key ≡ near.soon_key → ⊥)
 IsApart near key Before = key < near.present_key
 
--- nothing waits now or soon, and any key may be that of what waits soon
+-- nothing waits now or soon, and any key may be that of what waits now
 pub record IsSetAside (near : Near) : Type 0 where
   pub now : length near.present.items ≡ 0
   pub soon : length near.soon.items ≡ 0

@@ -135,7 +135,7 @@ impl Flags {
     }
 }
 
-/// Adds so many limbs without flags.
+/// Adds so many limbs without flags, mostly none.
 fn begin_limbs(
     limbs: &mut Vec<u64>,
     before: &mut Vec<u32>,
@@ -149,6 +149,9 @@ fn begin_limbs(
     ensures refused_limbs { OnErr result (limbs.new.items ≡ limbs.old.items) }
     ensures refused_before { OnErr result (before.new.items ≡ before.old.items) }
 {
+    if more == 0 {
+        return Ok(());
+    }
     limbs.reserve(more)?;
     before.reserve(more)?;
     let end = limbs.len() + more;

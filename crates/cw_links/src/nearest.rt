@@ -198,8 +198,8 @@ fn put_in(near: &mut Near, later: &mut Queue, element: u32, key: u32) -> Result<
         }
         Apart::Before => {
             set_aside(near, later)?;
-            near.soon.push(element)?;
-            near.soon_key = key;
+            near.present.push(element)?;
+            near.present_key = key;
             Ok(())
         }
     }

@@ -25,6 +25,8 @@ pub struct Store {
     keys: Keys,
     callers: Callers,
     waves: Vec<u32>,
+    /// The index of each link. What is read here is tested, so nothing is asked of it.
+    link_indices: Vec<u32>,
 }
 
 impl Model for Store {
@@ -47,6 +49,7 @@ impl Store {
             keys: Keys::make(alloc)?,
             callers: Callers::make(alloc)?,
             waves: Vec::new(alloc),
+            link_indices: Vec::new(alloc),
         })
     }
 
@@ -135,7 +138,7 @@ impl Store {
         ensures { PopsIndex self.old self.new result }
     {
         let popped = self.keys.pop();
-        at_index(&self.flags, popped)
+        at_index(&self.flags, &self.link_indices, popped)
     }
 
     /// Puts the link at an index into a list, with a number of moves.
@@ -196,9 +199,13 @@ impl Store {
         self.keys.reserve_link()?;
         self.callers.reserve()?;
         self.waves.reserve(1)?;
+        self.link_indices.reserve(1)?;
+        let index = self.flags.len() as u32;
         self.flags.push(true)?;
         self.keys.push_cells(1);
         add_link(&mut self.keys, &mut self.callers, &mut self.waves);
+        // There is room, so the push is not refused.
+        let _ = self.link_indices.push(index);
         Ok(())
     }
 
@@ -224,13 +231,13 @@ impl Store {
         self.callers.next(link)
     }
 
-    /// The index of a link. It halves the indices at each step.
+    /// The index of a link.
     pub fn index(&self, link: u32) -> usize
         requires { link < number self.now.flags }
         ensures flagged { is_flagged self.now.flags result ≡ true }
         ensures rank { rank self.now.flags result ≡ link }
     {
-        self.flags.index(link)
+        index_of(&self.flags, &self.link_indices, link as usize)
     }
 
     /// The heights of the cells by index. It takes no memory.
@@ -242,23 +249,50 @@ impl Store {
             keys,
             callers: _,
             waves: _,
+            link_indices: _,
         } = self;
         keys.into_heights()
     }
 }
 
-/// The index of a link.
-fn index_of(flags: &Flags, link: usize) -> usize
+/// The index of a link as it was noted, 0 where none was.
+fn noted(indices: &[u32], link: usize) -> usize {
+    match indices.get(link) {
+        None => 0,
+        Some(index) => *index as usize,
+    }
+}
+
+/// Whether an index is that of a link.
+fn is_index(flags: &Flags, index: usize, link: usize) -> bool
+    ensures flagged { result ≡ true → is_flagged flags.now index ≡ true }
+    ensures rank { result ≡ true → rank flags.now index ≡ link }
+{
+    if index >= flags.len() {
+        return false;
+    }
+    if !flags.is_flagged(index) {
+        return false;
+    }
+    flags.rank(index) as usize == link
+}
+
+/// The index of a link: the one that was noted, mostly. Where that isn't it, the indices are halved at each step.
+fn index_of(flags: &Flags, indices: &[u32], link: usize) -> usize
     requires few { length flags.now ≤ 4194304 }
     requires known { link < number flags.now }
     ensures flagged { is_flagged flags.now result ≡ true }
     ensures rank { rank flags.now result ≡ link }
 {
+    let index = noted(indices, link);
+    if is_index(flags, index, link) {
+        return index;
+    }
     flags.index(link as u32)
 }
 
 /// What is taken, with the index in the stead of a link's number.
-fn at_index(flags: &Flags, popped: Popped) -> Popped
+fn at_index(flags: &Flags, indices: &[u32], popped: Popped) -> Popped
     requires few { length flags.now ≤ 4194304 }
     requires known { IsKnown flags.now popped }
     ensures { IsAt flags.now popped result }
@@ -266,7 +300,7 @@ fn at_index(flags: &Flags, popped: Popped) -> Popped
     match popped {
         Popped::Nothing => Popped::Nothing,
         Popped::Cell(index, key) => Popped::Cell(index, key),
-        Popped::Link(link, key) => Popped::Link(index_of(flags, link), key),
+        Popped::Link(link, key) => Popped::Link(index_of(flags, indices, link), key),
     }
 }
 

@@ -1,7 +1,7 @@
 use Rattle.std.proofs.Common.{◌++◌, ◌∷◌, [], ℕ, List, sym, ◌∙◌, subst, arith, inr}
 use Rattle.cw_links.specs.Queues.{Puts}
 use Rattle.cw_links.specs.Nearest.{all_stacks}
-use Rattle.cw_links.proofs.Nearing.{three, puts_now, puts_soon, puts_next, puts_later, puts_same}
+use Rattle.cw_links.proofs.Nearing.{three, puts_first, puts_now, puts_soon, puts_next, puts_later, puts_same}
 use Rattle.cw_links.proofs.nearest.put_in.Goals as goal
 
 pub returns-in_ok-push-in-Now-clause-put : goal.returns-in_ok-push-in-Now-clause-put
@@ -61,12 +61,16 @@ returns-in_ok-push-in-Before-clause-put c =
     let n = c.set_aside.new.near in
     let later = c.set_aside.new.later in
     let e = c.args.element in
-    puts_same (all_stacks c.args.near.now c.args.later.now) (all_stacks n later) (three n.present.items n.present_key c.push-in-Before.new.self.items c.args.key later) e c.args.key
+    let aside = c.in_ok-set_aside-in-Before.ensures.aside in
+    puts_same (all_stacks c.args.near.now c.args.later.now) (all_stacks n later) (three c.push-in-Before.new.self.items c.args.key n.soon.items n.soon_key later) e c.args.key
     c.set_aside.ensures.same
-    (subst (λ (xs : List ℕ). Puts (all_stacks n later) (three n.present.items n.present_key xs c.args.key later) e c.args.key) (sym c.in_ok-push-in-Before.ensures.items)
-    (puts_next n.present.items n.present_key n.soon.items n.soon_key later c.set_aside.ensures.kept.behind e c.args.key c.in_ok-set_aside-in-Before.ensures.aside.soon))
+    (subst (λ (xs : List ℕ). Puts (all_stacks n later) (three xs c.args.key n.soon.items n.soon_key later) e c.args.key) (sym c.in_ok-push-in-Before.ensures.items)
+    (puts_first n.present.items n.present_key n.soon.items n.soon_key later c.set_aside.ensures.kept.behind e c.args.key aside.now aside.soon))
 
 pub returns-in_ok-push-in-Before-clause-kept : goal.returns-in_ok-push-in-Before-clause-kept
 returns-in_ok-push-in-Before-clause-kept c =
-    let kept = c.set_aside.ensures.kept in
-    record { some = kept.some; behind = λ _. omega (arith, c.in_ok-set_aside-in-Before.ensures.aside.least, c.requires.some); above = kept.above }
+    record {
+      some = λ _. c.requires.some;
+      behind = λ lt. absurd (omega (arith, lt, c.in_ok-set_aside-in-Before.ensures.aside.soon));
+      above = c.set_aside.ensures.kept.above;
+    }
