@@ -35,10 +35,10 @@ all_kinds : AllKinds word_kinds
 all_kinds = ((tt, refl), ((tt, refl), ((tt, refl), ((tt, refl), ((tt, refl), ((tt, refl), ((tt, refl), tt)))))))
 
 pub word_kind : (field : List ℕ) (k : LineKind) → Some k ≡ kind_by word_kinds field → Reads FitsKind kind_field field (Some k)
-word_kind field k e = record { some = kind_found word_kinds field k all_kinds (sym e); none = tt; }
+word_kind field k e = record { some = kind_found word_kinds field k all_kinds (sym e); none = tt }
 
 pub move_kind : (field : List ℕ) (by : Move) → IsEnvironments by → move_name by ≡ field → Reads FitsKind kind_field field (Some (kind.Go by))
-move_kind field by fits e = record { some = (fits, e); none = tt; }
+move_kind field by fits e = record { some = (fits, e); none = tt }
 
 other : (field : List ℕ) (k : LineKind) → kind_by word_kinds (kind_field k) ≡ Some k → None ≡ kind_by word_kinds field → kind_field k ≢ field
 other field k is none e = none-some k (none ∙ ap (kind_by word_kinds) (sym e) ∙ is)
@@ -54,4 +54,4 @@ none_of field none moves kind.At fits = other field kind.At refl none
 none_of field none moves kind.End fits = other field kind.End refl none
 
 pub no_kind : (field : List ℕ) → None ≡ kind_by word_kinds field → ((by : Move) → IsEnvironments by → move_name by ≢ field) → Reads FitsKind kind_field field None
-no_kind field none moves = record { some = tt; none = none_of field none moves; }
+no_kind field none moves = record { some = tt; none = none_of field none moves }

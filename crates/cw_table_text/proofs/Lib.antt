@@ -1,6 +1,7 @@
 pub mod RowLines
 pub mod Orders
 pub mod Adding
+pub mod RowNames
 pub mod Pieces
 pub mod Same
 pub mod Faults

@@ -1,5 +1,5 @@
 -- Working definitions, which only the contracts of the reader's parts and proofs use: a table in the making.
-use Rattle.std.specs.Prelude.{◌≡◌, ◌≢◌, ℕ, ◌-◌, ◌==◌, ◌&&◌, Bool, true, false, Option, None, Some, IfSome, IfNone, List, [], ◌∷◌, ◌++◌, map, length, slice_get, Result, Ok, Err, ◌+◌, ◌^◌, ◌<◌, ◌≤◌}
+use Rattle.std.specs.Prelude.{◌≡◌, ◌≢◌, ℕ, ◌-◌, ◌==◌, ◌&&◌, Bool, true, false, Option, None, Some, IfSome, IfNone, cond, codes, List, [], ◌∷◌, ◌++◌, map, length, slice_get, Result, Ok, Err, ◌+◌, ◌^◌, ◌<◌, ◌≤◌}
 use Rattle.std.specs.declared.cmp.Ordering.{Ordering}
 use Rattle.std.specs.Ordering.{is_lt}
 use Rattle.cw_core.specs.declared.ids.MemId.{MemId}
@@ -7,6 +7,7 @@ use Rattle.cw_certs.specs.Ascending.{mem_cmp, live_cmp, try_cmp, at_cmp, open_cm
 use Rattle.cw_certs.specs.Tables.{Table, table_with}
 use Rattle.std.specs.List.{AllByRecursion}
 use Rattle.std.specs.Fmt.{decimal}
+use Rattle.std.specs.Str.{bytes_eq}
 use Rattle.cw_rights.specs.Policies.{PlainPolicy}
 use Rattle.cw_certs.specs.Ascending.{Ascends}
 use Rattle.cw_text.specs.Lines.{line, IsFree}
@@ -16,6 +17,8 @@ use Rattle.cw_table_text.specs.Grammar.{Fits, IsMem, GoesOn, Answers}
 use Rattle.cw_table_text.specs.Rows.{name_of, fields_of, row_text, rows_of}
 use Rattle.cw_table_text.specs.TablesText.{head_lines, text_of, done}
 use Rattle.cw_table_text.specs.declared.draft.Draft.{Draft}
+use Rattle.cw_table_text.specs.declared.line.RowKind.{RowKind}
+use Rattle.cw_table_text.specs.declared.line.RowKind.TheVariants as kind
 use Rattle.cw_table_text.specs.declared.rows.Next.{Next}
 use Rattle.cw_table_text.specs.declared.rows.Next.TheVariants.{Done, Row as ARow}
 use Rattle.cw_table_text.specs.declared.row.Row.{Row}
@@ -77,6 +80,26 @@ pub record TakesRow {A : Type 0} (Fitting : A → Type 0) (fields : A → List (
 pub record TakesNamed (format : ℕ) (name : List ℕ) (old new : List (List ℕ)) (result : Option Row) : Type 0 where
   pub some : IfSome result (λ row. Fits format row × (name ≡ name_of row) × (old ≡ fields_of format row ++ new))
   pub none : IfNone result ((row : Row) (rest : List (List ℕ)) → Fits format row → name ≡ name_of row → old ≢ fields_of format row ++ rest)
+
+-- rows by their kinds: the name that each begins with
+abbrev pub kind_name : RowKind → List ℕ
+kind_name kind.Memory = codes "CW_MEM"
+kind_name kind.Live = codes "CW_LIVE"
+kind_name kind.Try = codes "CW_TRY"
+kind_name kind.At = codes "CW_AT"
+kind_name kind.Opened = codes "CW_OPENED"
+kind_name kind.Closed = codes "CW_CLOSED"
+kind_name kind.Into = codes "CW_INTO"
+kind_name kind.Back = codes "CW_BACK"
+
+abbrev pub row_names : List (List ℕ × RowKind)
+row_names =
+    (codes "CW_MEM", kind.Memory) ∷ (codes "CW_LIVE", kind.Live) ∷ (codes "CW_TRY", kind.Try) ∷ (codes "CW_AT", kind.At)
+    ∷ (codes "CW_OPENED", kind.Opened) ∷ (codes "CW_CLOSED", kind.Closed) ∷ (codes "CW_INTO", kind.Into) ∷ (codes "CW_BACK", kind.Back) ∷ []
+
+abbrev pub kind_by : List (List ℕ × RowKind) → List ℕ → Option RowKind
+kind_by [] name = None
+kind_by (k ∷ rest) name = cond (bytes_eq name k.0) (Some k.1) (kind_by rest name)
 
 -- a name before `(`, and what stands from there to a `)` at the end
 pub record IsCalled (line : List ℕ) (result : Option (List ℕ × List ℕ)) : Type 0 where

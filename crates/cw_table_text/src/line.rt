@@ -1,16 +1,29 @@
 //! The line of a row.
 
-ghost use Rattle.std.specs.Prelude.{codes, option_map};
+ghost use Rattle.std.specs.Prelude.{◌≡◌, codes, option_map};
 ghost use Rattle.cw_text.specs.Lines.{Reads};
 ghost use Rattle.cw_table_text.specs.Grammar.{Fits};
 ghost use Rattle.cw_table_text.specs.Rows.{row_text};
-ghost use Rattle.cw_table_text.specs.Working.{IsCalled, TakesNamed};
+ghost use Rattle.cw_table_text.specs.Working.{IsCalled, TakesNamed, kind_name, kind_by, row_names};
 
 use crate::fields::{
     take_after, take_back, take_into, take_live, take_memory, take_opened, take_try,
 };
 use crate::row::Row;
 use cw_text::{Fields, cut};
+
+/// What a row is, without its fields.
+#[derive(Clone, Copy, Drop)]
+enum RowKind {
+    Memory,
+    Live,
+    Try,
+    At,
+    Opened,
+    Closed,
+    Into,
+    Back,
+}
 
 /// The name before the first `(` of a line, and what stands between that and a `)` at its end.
 pub(crate) fn name_and_inner(line: &[u8]) -> Option<(&[u8], &[u8])>
@@ -25,34 +38,45 @@ pub(crate) fn name_and_inner(line: &[u8]) -> Option<(&[u8], &[u8])>
 }
 
 /// The row whose fields stand first among these.
+#[tactic(auto, using(crate::proofs::RowNames::named_row, crate::proofs::RowNames::no_row))]
 fn take_row(name: &[u8], fields: &mut Fields, format: u8) -> Option<Row>
     ensures { TakesNamed format name.now fields.old fields.new result }
 {
-    if name == b"CW_MEM".as_slice() {
-        return memory_row(fields, format);
+    let kind = kind_of(name)?;
+    take_as(kind, fields, format)
+}
+
+/// The kind of the rows that begin with this name.
+fn kind_of(name: &[u8]) -> Option<RowKind>
+    ensures { result ≡ kind_by row_names name.now }
+{
+    match name {
+        b"CW_MEM" => Some(RowKind::Memory),
+        b"CW_LIVE" => Some(RowKind::Live),
+        b"CW_TRY" => Some(RowKind::Try),
+        b"CW_AT" => Some(RowKind::At),
+        b"CW_OPENED" => Some(RowKind::Opened),
+        b"CW_CLOSED" => Some(RowKind::Closed),
+        b"CW_INTO" => Some(RowKind::Into),
+        b"CW_BACK" => Some(RowKind::Back),
+        _ => None,
     }
-    if name == b"CW_LIVE".as_slice() {
-        return live_row(fields, format);
+}
+
+/// The row of this kind whose fields stand first among these.
+fn take_as(kind: RowKind, fields: &mut Fields, format: u8) -> Option<Row>
+    ensures { TakesNamed format (kind_name kind) fields.old fields.new result }
+{
+    match kind {
+        RowKind::Memory => memory_row(fields, format),
+        RowKind::Live => live_row(fields, format),
+        RowKind::Try => try_row(fields, format),
+        RowKind::At => at_row(fields, format),
+        RowKind::Opened => opened_row(fields, format),
+        RowKind::Closed => closed_row(fields, format),
+        RowKind::Into => into_row(fields, format),
+        RowKind::Back => back_row(fields, format),
     }
-    if name == b"CW_TRY".as_slice() {
-        return try_row(fields, format);
-    }
-    if name == b"CW_AT".as_slice() {
-        return at_row(fields, format);
-    }
-    if name == b"CW_OPENED".as_slice() {
-        return opened_row(fields, format);
-    }
-    if name == b"CW_CLOSED".as_slice() {
-        return closed_row(fields, format);
-    }
-    if name == b"CW_INTO".as_slice() {
-        return into_row(fields, format);
-    }
-    if name == b"CW_BACK".as_slice() {
-        return back_row(fields, format);
-    }
-    None
 }
 
 /// A row of `CW_MEM` behind its name.
