@@ -48,7 +48,7 @@ module _ (g : Game) (p q : ℕ) where
 -- A step leads to a pair that is taken: that height tells the bound.
 
 -- of n + 1 moves one more tells what a height tells of n
-more_tells : (n h : ℕ) → 0 < h → holds_by (suc n) (h + 1) ≡ holds_by n h
+pub more_tells : (n h : ℕ) → 0 < h → holds_by (suc n) (h + 1) ≡ holds_by n h
 more_tells n h some =
     elim (cases_lt n h) [
       | inl lt ↦

@@ -1,10 +1,10 @@
 -- What stands in a list of cells, what holds at the end of a function, and where what holds is read off the moves.
 use Rattle.std.proofs.Common.{◌≡◌, ℕ, List, Bool, true, false, ◌||◌, Option, Some, refl, sym, ap, ◌∙◌, subst}
 use Rattle.std.specs.Prelude.{slice_get, slice_index, nat_eq}
-use Rattle.std.proofs.lemmas.Bool.{eq-eqb, ne_eqb}
+use Rattle.std.proofs.lemmas.Bool.{eq-eqb, ne_eqb, false≢true}
 use Rattle.cw_game.specs.declared.spots.Spot.{Spot}
 use Rattle.cw_game.specs.declared.spots.Spot.TheVariants.{Visit, Asked, Step, Branch, Label, Open, Close, Call, SplitCall, Exit}
-use Rattle.cw_game.specs.Games.{Game, bad_in}
+use Rattle.cw_game.specs.Games.{Game, bad_in, weavers_in}
 use Rattle.cw_game.specs.Pairs.{is_call_in, is_exit_in}
 use Rattle.cw_solve.specs.declared.contexts.Context.{Context}
 use Rattle.cw_solve.specs.Rounds.{slot}
@@ -24,6 +24,11 @@ main_ends f main held is = sym (ap (λ (b : Bool). b || held) (eq-eqb f main is)
 
 pub other_ends : (f main : ℕ) (held : Bool) → (f ≡ main → ⊥) → held ≡ (nat_eq f main || held)
 other_ends f main held other = sym (ap (λ (b : Bool). b || held) (ne_eqb f main other))
+
+-- where a visit stands
+pub plain_visit : (g : Game) (q : ℕ) (o : Option Spot) → weavers_in o ≡ true → (bad_in g q o ≡ false) × (is_call_in o ≡ false) × (is_exit_in o ≡ false)
+plain_visit g q (Some (Visit j i a)) w = (refl, refl, refl)
+plain_visit g q o w = absurd (false≢true w)
 
 -- where neither a label, a call nor an exit stands
 pub plain_spot : (g : Game) (q : ℕ) (o : Option Spot) (s : Spot) → Some s ≡ o

@@ -1,7 +1,8 @@
 -- The lists of what waits for pairs, and of what returns to positions, grow by one.
-use Rattle.std.proofs.Common.{◌≡◌, ℕ, ◌+◌, ◌<◌, ◌≤◌, List, [], ◌∷◌, ◌++◌, Bool, true, Option, Some, None, length, sym, ap, ◌∙◌, subst, arith, inl, inr}
-use Rattle.std.specs.Prelude.{◌⊎◌, slice_get}
+use Rattle.std.proofs.Common.{◌≡◌, ℕ, ◌+◌, ◌*◌, ◌<◌, ◌≤◌, List, [], ◌∷◌, ◌++◌, Bool, true, false, Option, Some, None, length, sym, ap, ◌∙◌, subst, arith, inl, inr}
+use Rattle.std.specs.Prelude.{◌⊎◌, slice_get, Contains, replicate}
 use Rattle.std.proofs.lemmas.Bool.{cases_lt, false≢true}
+use Rattle.std.proofs.lemmas.List.{length-replicate}
 use Rattle.std.proofs.lemmas.Option.{same_Some, none-some}
 use Rattle.cw_lemmas.proofs.Lists.{get_last, get_front}
 use Rattle.cw_core.specs.declared.ids.PosId.{PosId}
@@ -10,7 +11,8 @@ use Rattle.cw_game.specs.declared.spots.Spot.{Spot}
 use Rattle.cw_game.specs.Games.{Game}
 use Rattle.cw_game.specs.Pairs.{Called, call_in}
 use Rattle.cw_links.specs.Flat.{AreRowsOf}
-use Rattle.cw_links.specs.Lists.{Chained, with_front}
+use Rattle.cw_links.specs.Lists.{Chained, list_at, with_front}
+use Rattle.cw_links.specs.Flags.{is_flagged, number}
 use Rattle.cw_links.proofs.FlatRows.{as_many_rows, value_in, value_from}
 use Rattle.cw_links.proofs.Linking.{lists_kept, one_more, still_in, front_in}
 use Rattle.cw_product.specs.Moves.{pos_id, next_at}
@@ -21,6 +23,7 @@ use Rattle.cw_linked.specs.Returns.{AreReturns}
 use Rattle.cw_linked.specs.Steps.{IsMoveIn, Leads}
 use Rattle.cw_linked.specs.Waiting.{pair_of, list_of, HasIn, keeps_state, AreChanges}
 use Rattle.cw_linked.proofs.Adding.{push_cases}
+use Rattle.cw_linked.proofs.Soles.{none_there, only_leads, soles_more}
 
 -- a new link in front of a list
 module _ {T : Type 0} (old new : Chained T) (list : ℕ) (v : T) (lists : new.lists ≡ with_front old.lists list (length old.values)) (values : new.values ≡ old.values ++ v ∷ [])
@@ -114,22 +117,37 @@ module _ (g : Game) where
 
   -- Pairs that wait, at positions that may change the state.
   module _ (flags : List Bool) where
-    pub a_move_more : (old new : Chained Pair) (p q r x : ℕ) (by : Move) → next_at g p q by ≡ Some (r, x) → p < length g.spots → q < g.states.count → list_of g flags r x < length old.lists
-        → new.lists ≡ with_front old.lists (list_of g flags r x) (length old.values) → new.values ≡ old.values ++ pair_of p q ∷ [] → AddsMove g flags old new p q by
-    a_move_more old new p q r x by leads lp lq within lists values =
+    pub a_move_more : (old new : Chained Pair) (p q r x : ℕ) (by : Move) → keeps_state (slice_get g.spots p) ≡ false → IsMoveIn (slice_get g.spots p) by → next_at g p q by ≡ Some (r, x)
+        → p < length g.spots → q < g.states.count → is_flagged flags r ≡ true → x < g.states.count → list_of g flags r x < length old.lists
+        → new.lists ≡ with_front old.lists (list_of g flags r x) (length old.values) → new.values ≡ old.values ++ pair_of g p q ∷ [] → AddsMove g flags old new p q by
+    a_move_more old new p q r x by changing moved leads lp lq flagged lx within lists values =
         let list = list_of g flags r x in
-        let more = one_more old new list (pair_of p q) lists values within in
+        let more = one_more old new list (pair_of g p q) lists values within in
         record {
-          lists = lists_kept old new list (pair_of p q) lists values within;
+          lists = lists_kept old new list (pair_of g p q) lists values within;
           grows = omega (arith, more);
-          fine = λ are edge pair e. elim (value_cases old new list (pair_of p q) lists values within edge pair e) [
+          fine = λ are edge pair e. elim (value_cases old new list (pair_of g p q) lists values within edge pair e) [
             | inl was ↦ are edge pair was
             | inr same ↦ subst (λ (y : Pair). (y.pos.0 < length g.spots) × (y.state.0 < g.states.count)) same (lp, lq)
           ];
-          keeps = kept_in old new list (pair_of p q) lists values within;
+          keeps = kept_in old new list (pair_of g p q) lists values within;
           leads = λ s y e.
               let same : (r, x) ≡ (s, y) = same_Some (r, x) (s, y) (sym leads ∙ e) in
-              subst (λ (z : ℕ × ℕ). IsListed g flags new p q z.0 z.1) same (new_in old new list (pair_of p q) lists values within);
+              subst (λ (z : ℕ × ℕ). IsListed g flags new p q z.0 z.1) same (new_in old new list (pair_of g p q) lists values within);
+          soles = soles_more g flags old new p q r x (only_leads g p q r x by changing moved leads) flagged lx within lists values;
+        }
+
+    -- none is in yet
+    pub begun_changes : (pairs : Chained Pair) (many : ℕ) → many ≡ number flags * g.states.count → pairs.lists ≡ replicate many [] → pairs.values ≡ [] → AreChangesTo g flags pairs 0 0
+    begun_changes pairs many is lists values =
+        let none : length pairs.values ≡ 0 = ap (λ (vs : List Pair). length vs) values in
+        record {
+          lists = ap (λ (ls : List (List ℕ)). length ls) lists ∙ length-replicate {A = List ℕ} many [] ∙ is;
+          few = omega (arith, none);
+          fine = λ edge pair e. absurd (none-some pair (ap (λ (vs : List Pair). slice_get vs edge) (sym values) ∙ e));
+          leads = λ p q r x before lt changing leads. elim before [ inl less ↦ absurd (omega (arith, less)) | inr same ↦ absurd (let k = same.1 in omega (arith, k)) ];
+          soles = λ r x edge flagged lx h.
+              absurd (none_there many (list_of g flags r x) edge (subst (λ (ls : List (List ℕ)). Contains (list_at ls (list_of g flags r x)) edge) lists h));
         }
 
     pub one_move : (a b : Chained Pair) (p q : ℕ) → second_move (slice_get g.spots p) ≡ None → AddsMove g flags a b p q (first_move (slice_get g.spots p)) → AddsMoves g flags a b p q
@@ -139,6 +157,7 @@ module _ (g : Game) where
       fine = first.fine;
       keeps = first.keeps;
       leads = one_leads (IsListed g flags b p q) p q alone first.leads;
+      soles = first.soles;
     }
 
     pub two_moves : (a b c : Chained Pair) (p q : ℕ) (other : Move) → second_move (slice_get g.spots p) ≡ Some other → AddsMove g flags a b p q (first_move (slice_get g.spots p))
@@ -148,7 +167,8 @@ module _ (g : Game) where
       grows = omega (arith, first.grows, second.grows);
       fine = λ are. second.fine (first.fine are);
       keeps = λ l pair is. second.keeps l pair (first.keeps l pair is);
-      leads = two_lead (IsListed g flags c p q) p q other also (λ r x e. second.keeps (list_of g flags r x) (pair_of p q) (first.leads r x e)) second.leads;
+      leads = two_lead (IsListed g flags c p q) p q other also (λ r x e. second.keeps (list_of g flags r x) (pair_of g p q) (first.leads r x e)) second.leads;
+      soles = λ are. second.soles (first.soles are);
     }
 
     pub a_pair_more : (old new : Chained Pair) (p q : ℕ) → AreChangesTo g flags old p q → AddsMoves g flags old new p q → AreChangesTo g flags new p (q + 1)
@@ -156,7 +176,8 @@ module _ (g : Game) where
       lists = adds.lists ∙ are.lists;
       few = (let f = are.few in let h = adds.grows in omega (arith, f, h));
       fine = adds.fine are.fine;
-      leads = led_pair_more (IsListed g flags old) (IsListed g flags new) p q (λ m n r x. adds.keeps (list_of g flags r x) (pair_of m n)) are.leads adds.leads;
+      leads = led_pair_more (IsListed g flags old) (IsListed g flags new) p q (λ m n r x. adds.keeps (list_of g flags r x) (pair_of g m n)) are.leads adds.leads;
+      soles = adds.soles are.soles;
     }
 
     pub a_position_more : (pairs : Chained Pair) (p q : ℕ) → g.states.count ≡ q → AreChangesTo g flags pairs p q → AreChangesTo g flags pairs (p + 1) 0
@@ -165,6 +186,7 @@ module _ (g : Game) where
       few = (let f = are.few in omega (arith, f, e));
       fine = are.fine;
       leads = led_position_more (IsListed g flags pairs) p q e are.leads;
+      soles = are.soles;
     }
 
     pub no_pair_more : (pairs : Chained Pair) (p : ℕ) → keeps_state (slice_get g.spots p) ≡ true → AreChangesTo g flags pairs p 0 → AreChangesTo g flags pairs (p + 1) 0
@@ -173,6 +195,7 @@ module _ (g : Game) where
       few = (let f = are.few in omega (arith, f));
       fine = are.fine;
       leads = led_none_more (IsListed g flags pairs) p keeps are.leads;
+      soles = are.soles;
     }
 
     pub all_changes_in : (pairs : Chained Pair) (m : ℕ) → length g.spots ≤ m → AreReached g flags → AreChangesTo g flags pairs m 0 → AreChanges g (record { flags = flags; pairs = pairs })
@@ -181,4 +204,5 @@ module _ (g : Game) where
       flags = reached.long;
       fine = are.fine;
       leads = λ p q r x lt state changing leads. (are.leads p q r x (inl (omega (arith, lt, le))) state changing leads, reached.leads p q r x lt state changing leads);
+      soles = are.soles;
     }

@@ -31,9 +31,9 @@ module _ (g : Game) (b : Blocks) (blocks : AreBlocks g b) (at : Tabled) (there :
   block_low = let within = base_within g b.contexts.items at.number at.context there in omega (arith, is.begins, within, long, blocks.few)
 
   -- with any cell of the context that was looked at last
-  pub home_made : (pos : PosId) (state : StateId) (run : ℕ) → run ≡ positions g at.context.function
-      → IsHomeOf g b.contexts.items (record { cell = cell_of at pos state; block = block; past = block.base + block.many * count; run = run })
-  home_made pos state run is_run = record { there = there; begins = is.begins; ends = block_ends; enters = is.enters; runs = is.runs; run = is_run ∙ sym is.runs }
+  pub home_made : (pos : PosId) (state : StateId) (run : ℕ) (earlier : ℕ) → run ≡ positions g at.context.function
+      → IsHomeOf g b.contexts.items (record { cell = cell_of at pos state; block = block; past = block.base + block.many * count; run = run; earlier = earlier })
+  home_made pos state run earlier is_run = record { there = there; begins = is.begins; ends = block_ends; enters = is.enters; runs = is.runs; run = is_run ∙ sym is.runs }
 
   -- and it has each index of which the context is the owner
   pub block_has : (i index : ℕ) → at.number ≡ i → IsOwner g b.contexts.items i index → (block.base ≤ index) × (index < block.base + block.many * count)

@@ -1,15 +1,20 @@
 -- Lists grow by a context's indices.
 use Rattle.std.proofs.Common.{◌≡◌, ℕ, ◌+◌, ◌-◌, ◌*◌, ◌<◌, ◌≤◌, Bool, true, false, List, [], ◌∷◌, ◌++◌, length, replicate, refl, sym, ap, ap₂, ◌∙◌, subst, arith, inl, inr}
-use Rattle.std.specs.Prelude.{slice_get, slice_index, Some}
+use Rattle.std.specs.Prelude.{slice_get, slice_index, Option, Some}
 use Rattle.std.proofs.lemmas.Bool.{cases_lt}
 use Rattle.std.proofs.lemmas.Nat.{mul-add-lt}
 use Rattle.std.proofs.Math.Nat.{mul-le-mul}
 use Rattle.std.proofs.lemmas.List.{length-replicate, length-append, length_push, get_or-replicate, get_or_append_left, get_or-append_right, append_assoc, append-nil}
 use Rattle.std.proofs.lemmas.List.{replicate-append-replicate}
+use Rattle.std.proofs.lemmas.Option.{same_Some, none-some}
+use Rattle.cw_game.specs.declared.spots.Spot.{Spot}
+use Rattle.cw_game.specs.declared.spots.Spot.TheVariants.{Visit, Asked, Step, Branch, Label, Open, Close, Call, SplitCall, Exit}
 use Rattle.cw_game.specs.Games.{Game}
-use Rattle.cw_game.specs.Pairs.{call_in}
+use Rattle.cw_game.specs.Pairs.{Called, call_in}
 use Rattle.cw_links.specs.Flags.{is_flagged}
 use Rattle.cw_links.specs.Stores.{Stored, Pushes, PushesPlain}
+use Rattle.cw_product.specs.Routed.{IsOf}
+use Rattle.cw_solve.specs.Contexts.{size}
 use Rattle.cw_solve.specs.Rounds.{positions}
 use Rattle.cw_linked.specs.Added.{PushesIndices, FlagsState, FlagsLinks, PushesNext, ArePushed}
 use Rattle.cw_linked.specs.Founds.{class_of}
@@ -178,3 +183,44 @@ more_flagged g old mid new function y one two flagged at p x call of is class le
             ap (is_flagged new.flags) index ∙ at p call of is (subst (λ (z : ℕ). class_of g call.split z ≡ z) here class) row
       ]
     ]
+
+-- what isn't a call in a process of its own isn't split
+pub whole_call : (o : Option Spot) (s : Spot) → Some s ≡ o → ((x y z : ℕ) → s ≡ SplitCall x y z → ⊥) → (call : Called) → call_in o ≡ Some call → call.split ≡ false
+whole_call o s is split call = subst (λ (y : Option Spot). call_in y ≡ Some call → call.split ≡ false) is (by s split)
+  where
+    by : (s : Spot) → ((x y z : ℕ) → s ≡ SplitCall x y z → ⊥) → call_in (Some s) ≡ Some call → call.split ≡ false
+    by (SplitCall j f n) split calls = absurd (split j f n refl)
+    by (Call j f n) split calls = sym (ap (λ (y : Called). y.split) (same_Some (record { seam = j; function = f; back = n; split = false }) call calls))
+    by (Visit j i a) split calls = absurd (none-some call calls)
+    by (Asked j i a) split calls = absurd (none-some call calls)
+    by (Step n) split calls = absurd (none-some call calls)
+    by (Branch m n) split calls = absurd (none-some call calls)
+    by (Label j l n) split calls = absurd (none-some call calls)
+    by (Open j d n) split calls = absurd (none-some call calls)
+    by (Close j d n) split calls = absurd (none-some call calls)
+    by (Exit f) split calls = absurd (none-some call calls)
+
+-- a context has as many cells at least as its function has positions
+pub at_least : (g : Game) (function : ℕ) → 0 < g.states.count → positions g function ≤ size g function
+at_least g function some =
+    let one : 1 ≤ g.states.count = omega (arith, some) in
+    let same : positions g function ≤ positions g function = omega arith in
+    let less = mul-le-mul one same in
+    let swapped : g.states.count * positions g function ≡ positions g function * g.states.count = omega arith in
+    omega (arith, less, swapped)
+
+-- Where no call is split, all links stand at the first state.
+pub first_flagged : (g : Game) (old mid new : Stored) (function rest many : ℕ)
+    → ((p : ℕ) (call : Called) → IsOf g function p → call_in (slice_get g.spots p) ≡ Some call → call.split ≡ false)
+    → PushesIndices old mid (positions g function) → FlagsState g old.flags mid.flags function 0 (positions g function) → PushesIndices mid new rest → FlagsLinks g old.flags new.flags function many
+first_flagged g old mid new function rest many whole indices state more p x call of is class less =
+    let one = whole p call of is in
+    let zero_is : 0 ≡ x = ap (λ (s : Bool). class_of g s x) (sym one) ∙ class in
+    let own : class_of g call.split 0 ≡ 0 = ap (λ (s : Bool). class_of g s 0) one in
+    let row = p - g.entry function in
+    let inside : row < positions g function = omega (arith, of.0, of.1) in
+    let kept = more.kept (length old.flags + row) (omega (arith, indices.long, inside)) in
+    let first : row ≡ 0 * positions g function + row = omega arith in
+    let here : length old.flags + row ≡ length old.flags + (x * positions g function + row)
+    = ap (λ (k : ℕ). length old.flags + k) first ∙ ap (λ (k : ℕ). length old.flags + (k * positions g function + row)) zero_is in
+    subst (λ (k : ℕ). is_flagged new.flags k ≡ true) here (kept ∙ state p call of is own inside)

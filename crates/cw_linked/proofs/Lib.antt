@@ -46,3 +46,5 @@ pub mod Dividing
 pub mod Blocking
 pub mod Homing
 pub mod Plain
+pub mod Listing
+pub mod Soles

@@ -1,19 +1,26 @@
 -- The positions to which a move leads that may change the state are flagged, and lists stand for the pairs of these alone.
-use Rattle.std.proofs.Common.{◌≡◌, ℕ, ◌+◌, ◌*◌, ◌<◌, ◌≤◌, List, Bool, true, false, Some, None, length, get_or, set, sym, ap, ◌∙◌, subst, arith, inl, inr}
-use Rattle.std.specs.Prelude.{slice_get}
-use Rattle.std.proofs.lemmas.Bool.{cases_eq}
+use Rattle.std.proofs.Common.{◌≡◌, ℕ, zero, suc, ◌+◌, ◌*◌, ◌<◌, ◌≤◌, List, [], ◌∷◌, Bool, true, false, Option, Some, None, length, get_or, set, sym, ap, ◌∙◌, subst, arith, inl, inr}
+use Rattle.std.specs.Prelude.{◌⊎◌, slice_get, option_map, IfSome, Contains}
+use Rattle.std.proofs.lemmas.Bool.{cases_eq, cases_lt, false≢true}
 use Rattle.std.proofs.lemmas.List.{length-set, get_or-set_same, get_or-set_other}
 use Rattle.std.proofs.lemmas.Nat.{mul-add-lt}
 use Rattle.std.proofs.lemmas.Option.{same_Some}
-use Rattle.cw_certs.specs.declared.moves.Move.{Move}
-use Rattle.cw_game.specs.Games.{Game}
+use Rattle.cw_lemmas.proofs.Options.{cond_none_some as not_left}
+use Rattle.cw_lemmas.proofs.Truths.{or_middle}
+use Rattle.cw_rights.specs.declared.capabilities.Primitive.TheVariants.{Limit, Enter, Split}
+use Rattle.cw_game.specs.declared.spots.Spot.{Spot}
+use Rattle.cw_game.specs.declared.spots.Spot.TheVariants.{Visit, Asked, Step, Branch, Label, Open, Close, Call, SplitCall, Exit}
+use Rattle.cw_game.specs.Games.{Game, bad_in, leads_in}
+use Rattle.cw_game.specs.Pairs.{is_call_in, is_exit_in}
 use Rattle.cw_links.specs.Flags.{number, rank}
 use Rattle.cw_links.proofs.Ranks.{rank_below}
-use Rattle.cw_product.specs.Moves.{next_at}
-use Rattle.cw_product.specs.MovesAt.{first_move, second_move}
-use Rattle.cw_linked.specs.Edges.{IsReached, FlagsMove, FlagsMoves, AreReachedTo, AreReached}
+use Rattle.cw_positions.specs.Closed.{LeadsWithin}
+use Rattle.cw_product.specs.Moves.{pair_of, is_left_in}
+use Rattle.cw_product.specs.Routed.{targets}
+use Rattle.cw_solve.proofs.Calling.{next_target}
+use Rattle.cw_linked.specs.Edges.{first_target, second_target, FlagsTarget, AreReachedTo, AreReached}
+use Rattle.cw_linked.specs.Steps.{Leads}
 use Rattle.cw_linked.specs.Waiting.{keeps_state, list_of}
-use Rattle.cw_linked.proofs.Edging.{led_pair_more, led_position_more, led_none_more, one_leads, two_lead}
 
 -- what is flagged stays flagged
 flagged_still : (flags : List Bool) (i r : ℕ) → i < length flags → get_or flags r false ≡ true → get_or (set flags i true) r false ≡ true
@@ -23,39 +30,91 @@ flagged_still flags i r lt is =
       | inr ne ↦ get_or-set_other flags i r true false ne ∙ is
     ]
 
+pub target_flagged : (flags : List Bool) (to : Option ℕ) (n : ℕ) → to ≡ Some n → n < length flags → FlagsTarget flags (set flags n true) to
+target_flagged flags to n is inside = record {
+  long = length-set flags n true;
+  keeps = λ r flagged. flagged_still flags n r inside flagged;
+  flagged = λ r e. subst (λ (y : ℕ). get_or (set flags n true) y false ≡ true) (same_Some n r (sym is ∙ e)) (get_or-set_same flags n true false inside);
+}
+
+-- both are within the game
+pub first_within : (size functions p : ℕ) (s : Spot) → LeadsWithin size functions p s → IfSome (first_target p (Some s)) (λ r. r < size)
+first_within size functions p (Asked j i Split) leads = omega (arith, leads)
+first_within size functions p (Asked j i Enter) leads = leads
+first_within size functions p (Asked j i (Limit l)) leads = leads
+first_within size functions p (Label j l n) leads = leads
+first_within size functions p (Open j d n) leads = leads
+first_within size functions p (Close j d n) leads = leads
+first_within size functions p (Visit j i a) leads = tt
+first_within size functions p (Step n) leads = tt
+first_within size functions p (Branch m n) leads = tt
+first_within size functions p (Call j f n) leads = tt
+first_within size functions p (SplitCall j f n) leads = tt
+first_within size functions p (Exit f) leads = tt
+
+pub second_within : (size functions p : ℕ) (s : Spot) → LeadsWithin size functions p s → IfSome (second_target p (Some s)) (λ r. r < size)
+second_within size functions p (Asked j i Split) leads = leads
+second_within size functions p (Asked j i Enter) leads = tt
+second_within size functions p (Asked j i (Limit l)) leads = tt
+second_within size functions p (Label j l n) leads = tt
+second_within size functions p (Open j d n) leads = tt
+second_within size functions p (Close j d n) leads = tt
+second_within size functions p (Visit j i a) leads = tt
+second_within size functions p (Step n) leads = tt
+second_within size functions p (Branch m n) leads = tt
+second_within size functions p (Call j f n) leads = tt
+second_within size functions p (SplitCall j f n) leads = tt
+second_within size functions p (Exit f) leads = tt
+
+one_of_one : (n r : ℕ) → Contains (n ∷ []) r → n ≡ r
+one_of_one n r (zero, lt, is) = is
+one_of_one n r (suc k, lt, is) = absurd (omega (arith, lt))
+
+-- a move that may change the state leads to one of them
+one_of_both : (p r : ℕ) (o : Option Spot) → keeps_state o ≡ false → is_call_in o ≡ false → Contains (targets p o) r → (first_target p o ≡ Some r) ⊎ (second_target p o ≡ Some r)
+one_of_both p r (Some (Asked j i Split)) changing plain (zero, lt, is) = inr (ap (λ (y : ℕ). Some y) is)
+one_of_both p r (Some (Asked j i Split)) changing plain (suc zero, lt, is) = inl (ap (λ (y : ℕ). Some y) is)
+one_of_both p r (Some (Asked j i Split)) changing plain (suc (suc k), lt, is) = absurd (omega (arith, lt))
+one_of_both p r (Some (Asked j i Enter)) changing plain at = inl (ap (λ (y : ℕ). Some y) (one_of_one (p + 1) r at))
+one_of_both p r (Some (Asked j i (Limit l))) changing plain at = inl (ap (λ (y : ℕ). Some y) (one_of_one (p + 1) r at))
+one_of_both p r (Some (Label j l n)) changing plain at = inl (ap (λ (y : ℕ). Some y) (one_of_one n r at))
+one_of_both p r (Some (Open j d n)) changing plain at = inl (ap (λ (y : ℕ). Some y) (one_of_one n r at))
+one_of_both p r (Some (Close j d n)) changing plain at = inl (ap (λ (y : ℕ). Some y) (one_of_one n r at))
+one_of_both p r (Some (Visit j i a)) changing plain at = absurd (false≢true (sym changing))
+one_of_both p r (Some (Step n)) changing plain at = absurd (false≢true (sym changing))
+one_of_both p r (Some (Branch m n)) changing plain at = absurd (false≢true (sym changing))
+one_of_both p r (Some (Call j f n)) changing plain at = absurd (false≢true (sym plain))
+one_of_both p r (Some (SplitCall j f n)) changing plain at = absurd (false≢true (sym plain))
+one_of_both p r (Some (Exit f)) changing plain at = absurd (let lt = at.1 in omega (arith, lt))
+one_of_both p r None changing plain at = absurd (let lt = at.1 in omega (arith, lt))
+
 module _ (g : Game) where
-  pub a_flag_more : (flags : List Bool) (p q r x : ℕ) (by : Move) → next_at g p q by ≡ Some (r, x) → r < length flags → FlagsMove g flags (set flags r true) p q by
-  a_flag_more flags p q r x by leads inside = record {
-    long = length-set flags r true;
-    keeps = λ s is. flagged_still flags r s inside is;
-    leads = λ s y e.
-        let same : r ≡ s = ap (λ (z : ℕ × ℕ). z.0) (same_Some (r, x) (s, y) (sym leads ∙ e)) in
-        subst (λ (z : ℕ). get_or (set flags r true) z false ≡ true) same (get_or-set_same flags r true false inside);
+  leads_to_one : (p q r x : ℕ) → keeps_state (slice_get g.spots p) ≡ false → Leads g p q r x → (first_target p (slice_get g.spots p) ≡ Some r) ⊎ (second_target p (slice_get g.spots p) ≡ Some r)
+  leads_to_one p q r x changing leads =
+      let o = slice_get g.spots p in
+      let left = not_left (is_left_in g q o) (option_map pair_of (leads_in g p q [] o leads.0)) (r, x) leads.2 in
+      let plain = or_middle (bad_in g q o) (is_call_in o) (is_exit_in o) left.0 in
+      one_of_both p r o changing plain (next_target g p q o leads.0 (r, x) leads.2)
+
+  -- those of one position more
+  pub a_position_flagged : (old mid new : List Bool) (p : ℕ) (first second : Option ℕ) → AreReachedTo g old p 0 → first ≡ first_target p (slice_get g.spots p) → second ≡ second_target p (slice_get g.spots p)
+      → FlagsTarget old mid first → FlagsTarget mid new second → AreReachedTo g new (p + 1) 0
+  a_position_flagged old mid new p first second are is_first is_second one two = record {
+    long = two.long ∙ one.long ∙ are.long;
+    leads = λ m n r x before lt changing leads. elim before [
+      | inl less ↦ elim (cases_lt m p) [
+        | inl earlier ↦ two.keeps r (one.keeps r (are.leads m n r x (inl earlier) lt changing leads))
+        | inr ge ↦
+            let here : m ≡ p = omega (arith, less, ge) in
+            let changes : keeps_state (slice_get g.spots p) ≡ false = subst (λ (y : ℕ). keeps_state (slice_get g.spots y) ≡ false) here changing in
+            elim (leads_to_one p n r x changes (subst (λ (y : ℕ). Leads g y n r x) here leads)) [
+              | inl e ↦ two.keeps r (one.flagged r (is_first ∙ e))
+              | inr e ↦ two.flagged r (is_second ∙ e)
+            ]
+      ]
+      | inr same ↦ absurd (let k = same.1 in omega (arith, k))
+    ];
   }
-
-  -- all moves at a position, one or two
-  pub one_flagged : (a b : List Bool) (p q : ℕ) → second_move (slice_get g.spots p) ≡ None → FlagsMove g a b p q (first_move (slice_get g.spots p)) → FlagsMoves g a b p q
-  one_flagged a b p q alone first = record { long = first.long; keeps = first.keeps; leads = one_leads g (IsReached b p q) p q alone first.leads }
-
-  pub two_flagged : (a b c : List Bool) (p q : ℕ) (other : Move) → second_move (slice_get g.spots p) ≡ Some other → FlagsMove g a b p q (first_move (slice_get g.spots p))
-      → FlagsMove g b c p q other → FlagsMoves g a c p q
-  two_flagged a b c p q other also first second = record {
-    long = second.long ∙ first.long;
-    keeps = λ r is. second.keeps r (first.keeps r is);
-    leads = two_lead g (IsReached c p q) p q other also (λ r x e. second.keeps r (first.leads r x e)) second.leads;
-  }
-
-  pub a_pair_flagged : (old new : List Bool) (p q : ℕ) → AreReachedTo g old p q → FlagsMoves g old new p q → AreReachedTo g new p (q + 1)
-  a_pair_flagged old new p q are flags = record {
-    long = flags.long ∙ are.long;
-    leads = led_pair_more g (IsReached old) (IsReached new) p q (λ m n r x. flags.keeps r) are.leads flags.leads;
-  }
-
-  pub a_position_flagged : (flags : List Bool) (p q : ℕ) → g.states.count ≡ q → AreReachedTo g flags p q → AreReachedTo g flags (p + 1) 0
-  a_position_flagged flags p q e are = record { long = are.long; leads = led_position_more g (IsReached flags) p q e are.leads }
-
-  pub no_pair_flagged : (flags : List Bool) (p : ℕ) → keeps_state (slice_get g.spots p) ≡ true → AreReachedTo g flags p 0 → AreReachedTo g flags (p + 1) 0
-  no_pair_flagged flags p keeps are = record { long = are.long; leads = led_none_more g (IsReached flags) p keeps are.leads }
 
   pub all_flagged : (flags : List Bool) (m : ℕ) → length g.spots ≤ m → AreReachedTo g flags m 0 → AreReached g flags
   all_flagged flags m le are = record { long = are.long; leads = λ p q r x lt. are.leads p q r x (inl (omega (arith, lt, le))) }

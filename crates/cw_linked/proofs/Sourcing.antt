@@ -3,7 +3,7 @@ use Rattle.std.proofs.Common.{◌≡◌, ℕ, ◌+◌, ◌<◌, ◌≤◌, List,
 use Rattle.std.specs.Prelude.{slice_get, Contains, replicate}
 use Rattle.std.proofs.lemmas.Bool.{cases_lt, false≢true}
 use Rattle.std.proofs.lemmas.Option.{same_Some, none-some}
-use Rattle.std.proofs.lemmas.List.{length-replicate, get_or-replicate, get_or_past}
+use Rattle.std.proofs.lemmas.List.{length-replicate}
 use Rattle.cw_lemmas.proofs.Lists.{get_last, get_front}
 use Rattle.cw_certs.specs.declared.moves.Move.{Move}
 use Rattle.cw_certs.specs.declared.moves.Move.TheVariants.{Skip, Try, On, Left, Right}
@@ -20,8 +20,9 @@ use Rattle.cw_product.specs.MovesAt.{first_move, second_move}
 use Rattle.cw_linked.specs.declared.edges.Source.{Source}
 use Rattle.cw_linked.specs.Edges.{AreSteps, AddsSource, AreSourcesTo}
 use Rattle.cw_linked.specs.Steps.{Leads}
-use Rattle.cw_linked.specs.Waiting.{HasIn, keeps_state, is_step, source_at, IsStepTo, AreSources}
+use Rattle.cw_linked.specs.Waiting.{HasIn, keeps_state, is_step, source_at, IsStepTo, IsVisit, AreSources}
 use Rattle.cw_linked.proofs.Edging.{kept_in, new_in, each_move}
+use Rattle.cw_linked.proofs.Soles.{none_there}
 
 -- the same position, and the state is kept
 kept : (m q r x : ℕ) → ◌≡◌ {A = Option (ℕ × ℕ)} (Some (m, q)) (Some (r, x)) → (q ≡ x) × ◌≡◌ {A = Option (ℕ × ℕ)} (Some (m, 0)) (Some (r, 0))
@@ -45,30 +46,21 @@ step_leads g p r x (Some (Step n)) On k e = let same : (n, 0) ≡ (r, x) = same_
 step_leads g p r x (Some (Step n)) by k e = absurd (none-some (r, x) e)
 step_leads g p r x o by k e = absurd (false≢true k)
 
-empty_at : (many l : ℕ) → list_at (replicate many []) l ≡ []
-empty_at many l = elim (cases_lt l many) [
-  | inl lt ↦ get_or-replicate many l [] [] lt
-  | inr ge ↦ get_or_past (replicate many []) l [] (let e = length-replicate {A = List ℕ} many [] in omega (arith, e, ge))
-]
-
--- nothing stands in empty lists
-none_there : (many l edge : ℕ) → Contains (list_at (replicate many []) l) edge → ⊥
-none_there many l edge h = let lt = h.1 in let none = ap (λ (ys : List ℕ). length ys) (empty_at many l) in omega (arith, lt, none)
-
 module _ (g : Game) where
   -- a source that leads to a position is put in front of its list
   steps_more : (old new : Chained Source) (r : ℕ) (source : Source) → r < length old.lists → new.lists ≡ with_front old.lists r (length old.values) → new.values ≡ old.values ++ source ∷ []
-      → IsStepTo g source r → AreSteps g old → AreSteps g new
-  steps_more old new r source within lists values step are l edge h =
+      → IsStepTo g source r → IsVisit g source → AreSteps g old → AreSteps g new
+  steps_more old new r source within lists values step visit are l edge h =
       elim (Contains-with_front old.lists r (length old.values) l edge within (subst (λ (ls : List (List ℕ)). Contains (list_at ls l) edge) lists h)) [
         | inl here ↦ (
           source,
           ap (λ (vs : List Source). slice_get vs edge) values ∙ ap (slice_get (old.values ++ source ∷ [])) here.1 ∙ get_last old.values source,
           subst (λ (y : ℕ). IsStepTo g source y) (sym here.0) step,
+          visit,
         )
         | inr there ↦
             let was = are l edge there in
-            (was.0, ap (λ (vs : List Source). slice_get vs edge) values ∙ get_front old.values (source ∷ []) edge was.0 was.1, was.2)
+            (was.0, ap (λ (vs : List Source). slice_get vs edge) values ∙ get_front old.values (source ∷ []) edge was.0 was.1, was.2, was.3)
       ]
 
   -- no link is in any list
@@ -92,7 +84,7 @@ module _ (g : Game) where
     lists = lists_kept old new r (source_at g p) lists values within;
     grows = (let more = one_more old new r (source_at g p) lists values within in omega (arith, more));
     keeps = kept_in old new r (source_at g p) lists values within;
-    steps = steps_more old new r (source_at g p) within lists values (λ k. step_leads g p r x (slice_get g.spots p) by k leads);
+    steps = steps_more old new r (source_at g p) within lists values (λ k. step_leads g p r x (slice_get g.spots p) by k leads) (λ k. k);
     leads = λ s y e.
         let same : r ≡ s = ap (λ (z : ℕ × ℕ). z.0) (same_Some (r, x) (s, y) (sym leads ∙ e)) in
         subst (λ (z : ℕ). HasIn new z (source_at g p)) same (new_in old new r (source_at g p) lists values within);
@@ -146,6 +138,11 @@ module _ (g : Game) where
         let was = are.steps r v.0 v.1 in
         let same : was.0 ≡ source = same_Some was.0 source (sym was.1 ∙ v.2) in
         subst (λ (y : Source). IsStepTo g y r) same was.2 step;
+    visits = λ r source h visit.
+        let v = value_from sources rows is r source h in
+        let was = are.steps r v.0 v.1 in
+        let same : was.0 ≡ source = same_Some was.0 source (sym was.1 ∙ v.2) in
+        subst (λ (y : Source). IsVisit g y) same was.3 visit;
     leads = λ p q r x lt keeping leads.
         let h = are.leads p q r x (omega (arith, lt, le)) keeping leads in
         value_in sources rows is r h.0 (source_at g p) h.1 h.2;

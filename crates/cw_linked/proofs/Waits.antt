@@ -34,8 +34,8 @@ abbrev pub change_pairs : Changes → PairsBy
 change_pairs changes = λ edge. slice_get changes.pairs.values edge
 
 -- the pairs of a context that are left to ask for: those of the links that are left, beside those that come later
-abbrev pub AreLeft : PairsBy → (ℕ → ℕ → ℕ → Type 0) → ℕ → List ℕ → ℕ → ℕ → ℕ → Type 0
-AreLeft pairs Later j rest i p q = Later i p q ⊎ ((i ≡ j) × ((edge : ℕ) × Contains rest edge × (pairs edge ≡ Some (pair_of p q))))
+abbrev pub AreLeft : Game → PairsBy → (ℕ → ℕ → ℕ → Type 0) → ℕ → List ℕ → ℕ → ℕ → ℕ → Type 0
+AreLeft g pairs Later j rest i p q = Later i p q ⊎ ((i ≡ j) × ((edge : ℕ) × Contains rest edge × (pairs edge ≡ Some (pair_of g p q))))
 
 -- the pairs in the state of a cell that are left to ask for: those of a row from a number on, beside those that come later
 abbrev pub SourcesLeft : Game → List Source → ℕ → (j r x : ℕ) → ℕ → ℕ → ℕ → Type 0
@@ -89,7 +89,7 @@ module _ (g : Game) (contexts : List Context) where
       ]
 
   pub changes_left : (changes : Changes) (s : Found) → AreChanges g changes → (j r x : ℕ) → ((i : ℕ) (c : Context) (p q : ℕ) → IsCell g contexts i c p q → p < length g.spots)
-      → AllClosed g contexts s (ChangesFor g j r x) → AllClosed g contexts s (AreLeft (change_pairs changes) Nothing j (list_at changes.pairs.lists (list_of g changes.flags r x)))
+      → AllClosed g contexts s (ChangesFor g j r x) → AllClosed g contexts s (AreLeft g (change_pairs changes) Nothing j (list_at changes.pairs.lists (list_of g changes.flags r x)))
   changes_left changes s are j r x within all i c p q is =
       elim (all i c p q is) [
         | inl closed ↦ inl closed
@@ -109,7 +109,7 @@ module _ (g : Game) (contexts : List Context) where
     -- one fewer, where the first of them is closed or is none of the function's
     pub one_left : (s : Found) (j : ℕ) (d : Context) → slice_get contexts j ≡ Some d → (edge : ℕ) (back : List ℕ) (pair : Pair) → pairs edge ≡ Some pair
         → (IsOf g d.function pair.pos.0 → IsClosed g s j d pair.pos.0 pair.state.0)
-        → AllClosed g contexts s (AreLeft pairs Later j (edge ∷ back)) → AllClosed g contexts s (AreLeft pairs Later j back)
+        → AllClosed g contexts s (AreLeft g pairs Later j (edge ∷ back)) → AllClosed g contexts s (AreLeft g pairs Later j back)
     one_left s j d at edge back pair here closed all i c p q is =
         elim (all i c p q is) [
           | inl done ↦ inl done
@@ -117,19 +117,19 @@ module _ (g : Game) (contexts : List Context) where
           | inr (inr rest) ↦ elim (in_either edge back rest.1.0 rest.1.1) [
             | inr later ↦ inr (inr (rest.0, (rest.1.0, later, rest.1.2)))
             | inl now ↦
-                let same : pair ≡ pair_of p q = same_Some pair (pair_of p q) (sym here ∙ ap pairs now ∙ rest.1.2) in
+                let same : pair ≡ pair_of g p q = same_Some pair (pair_of g p q) (sym here ∙ ap pairs now ∙ rest.1.2) in
                 let context : d ≡ c = same_Some d c (sym at ∙ ap (slice_get contexts) (sym rest.0) ∙ is.at) in
                 inl (by i c p q is rest.0 same context)
           ]
         ]
       where
-        by : (i : ℕ) (c : Context) (p q : ℕ) → IsCell g contexts i c p q → i ≡ j → pair ≡ pair_of p q → d ≡ c → IsClosed g s i c p q
+        by : (i : ℕ) (c : Context) (p q : ℕ) → IsCell g contexts i c p q → i ≡ j → pair ≡ pair_of g p q → d ≡ c → IsClosed g s i c p q
         by i c p q is number same context =
             let of : IsOf g d.function pair.pos.0 = subst (λ (y : Pair). IsOf g d.function y.pos.0) (sym same) (subst (λ (y : Context). IsOf g y.function p) (sym context) is.of) in
             subst (λ (y : ℕ). IsClosed g s y c p q) (sym number) (subst (λ (y : Context). IsClosed g s j y p q) context (subst (λ (y : Pair). IsClosed g s j d y.pos.0 y.state.0) same (closed of)))
 
     -- and at last none
-    pub none_left : (s : Found) (j : ℕ) → AllClosed g contexts s (AreLeft pairs Later j []) → AllClosed g contexts s Later
+    pub none_left : (s : Found) (j : ℕ) → AllClosed g contexts s (AreLeft g pairs Later j []) → AllClosed g contexts s Later
     none_left s j all i c p q is =
         elim (all i c p q is) [
           | inl closed ↦ inl closed
@@ -141,10 +141,10 @@ module _ (g : Game) (contexts : List Context) where
 pub asked_left : (g : Game) (functions : ℕ) (routed : AreRouted g functions) (alike : AreAlike g) (w mid new : Work) → IsKnown g (known_of w) → LowersKeys g w mid
     → (pairs : PairsBy) (Later : ℕ → ℕ → ℕ → Type 0) (cell : Cell) → slice_get w.blocks.contexts.items cell.at.number ≡ Some cell.at.context
     → (edge : ℕ) (back : List ℕ) (pair : Pair) → pairs edge ≡ Some pair → AsksPair g mid new cell pair
-    → AllClosed g w.blocks.contexts.items (found_of g mid) (AreLeft pairs Later cell.at.number (edge ∷ back))
-    → AllClosed g w.blocks.contexts.items (found_of g new) (AreLeft pairs Later cell.at.number back)
+    → AllClosed g w.blocks.contexts.items (found_of g mid) (AreLeft g pairs Later cell.at.number (edge ∷ back))
+    → AllClosed g w.blocks.contexts.items (found_of g new) (AreLeft g pairs Later cell.at.number back)
 asked_left g functions routed alike w mid new known step pairs Later cell at edge back pair here asks all =
-    let Before = AreLeft pairs Later cell.at.number (edge ∷ back) in
+    let Before = AreLeft g pairs Later cell.at.number (edge ∷ back) in
     let unchanged : known_of w ≡ known_of mid = sym step.others.known in
     let later : AllClosed g mid.blocks.contexts.items (found_of g new) Before
     = still_closed g functions routed alike mid new (subst (IsKnown g) unchanged known) asks.step.others asks.step.lowers Before
@@ -155,7 +155,7 @@ asked_left g functions routed alike w mid new known step pairs Later cell at edg
 -- The first of the sources that are left is asked for, after some steps.
 pub asked_source_left : (g : Game) (functions : ℕ) (routed : AreRouted g functions) (alike : AreAlike g) (w mid new : Work) → IsKnown g (known_of w) → LowersKeys g w mid
     → (row : List Source) (n : ℕ) (cell : Cell) → slice_get w.blocks.contexts.items cell.at.number ≡ Some cell.at.context
-    → (source : Source) → slice_get row n ≡ Some source → AsksPair g mid new cell (pair_of source.pos.0 cell.state.0)
+    → (source : Source) → slice_get row n ≡ Some source → AsksPair g mid new cell (pair_of g source.pos.0 cell.state.0)
     → AllClosed g w.blocks.contexts.items (found_of g mid) (SourcesLeft g row n cell.at.number cell.pos.0 cell.state.0)
     → AllClosed g w.blocks.contexts.items (found_of g new) (SourcesLeft g row (n + 1) cell.at.number cell.pos.0 cell.state.0)
 asked_source_left g functions routed alike w mid new known step row n cell at source here asks all =

@@ -1,5 +1,5 @@
 -- A walk along a list of links, and along a row: what is left of it, and its next step.
-use Rattle.std.proofs.Common.{◌≡◌, ◌≢◌, ◌+◌, ◌<◌, ◌≤◌, ℕ, inl, inr, Bool, true, false, List, [], ◌∷◌, ◌++◌, eqb, Option, Some, length, refl, sym, ap, ◌∙◌, subst, arith}
+use Rattle.std.proofs.Common.{◌≡◌, ◌≢◌, ◌+◌, ◌<◌, ◌≤◌, ℕ, suc, inl, inr, Bool, true, false, List, [], ◌∷◌, ◌++◌, eqb, Option, Some, length, refl, sym, ap, ◌∙◌, subst, arith}
 use Rattle.std.specs.Prelude.{◌⊎◌, slice_get, if◌then◌else◌, Contains}
 use Rattle.std.specs.List.{concat}
 use Rattle.std.proofs.lemmas.Bool.{cases_eq, cases_lt, eq-eqb, ne_eqb, eqb-true}
@@ -71,6 +71,16 @@ pub walk_begins : (xs : List ℕ) (next : Option ℕ) → next ≡ slice_get xs 
 walk_begins xs next is =
     let whole : rest_of xs next ≡ xs = ap (rest_of xs) is ∙ rest_whole xs in
     (whole, ap (λ (ys : List ℕ). slice_get ys 0) whole ∙ sym is)
+
+-- a cell at which a walk stands is in its list
+middle_in : (front : List ℕ) (e : ℕ) (back : List ℕ) → Contains (front ++ e ∷ back) e
+middle_in [] e back = (0, omega arith, refl)
+middle_in (x ∷ front) e back = let k = middle_in front e back in (suc k.0, omega (arith, k.1), k.2)
+
+pub walk_in : (xs : List ℕ) (edge : ℕ) (now : Option ℕ) → now ≡ Some edge → slice_get (rest_of xs now) 0 ≡ now → Contains xs edge
+walk_in xs edge now here at =
+    let s = split_at xs edge (subst (λ (o : Option ℕ). slice_get (rest_of xs o) 0 ≡ o) here at) in
+    subst (λ (ys : List ℕ). Contains ys edge) (sym s.2) (middle_in s.0 edge s.1)
 
 -- a step of a walk that stands at a cell: what is left behind it, and with the next one
 pub record StepsOn (xs : List ℕ) (edge : ℕ) (now next : Option ℕ) : Type 0 where

@@ -1,7 +1,11 @@
 -- Working definitions: the lists of what waits for pairs, and of what returns to positions, while they are made.
-use Rattle.std.specs.Prelude.{◌≡◌, ◌⊎◌, ℕ, ◌+◌, ◌*◌, ◌<◌, ◌≤◌, Bool, true, false, List, Some, length, slice_get, Contains}
+use Rattle.std.specs.Prelude.{◌≡◌, ◌⊎◌, ℕ, ◌+◌, ◌*◌, ◌<◌, ◌≤◌, Bool, true, false, List, Option, Some, None, length, slice_get, Contains}
 use Rattle.cw_core.specs.declared.ids.PosId.{PosId}
 use Rattle.cw_certs.specs.declared.moves.Move.{Move}
+use Rattle.cw_rights.specs.declared.capabilities.Primitive.{Primitive}
+use Rattle.cw_rights.specs.declared.capabilities.Primitive.TheVariants.{Split}
+use Rattle.cw_game.specs.declared.spots.Spot.{Spot}
+use Rattle.cw_game.specs.declared.spots.Spot.TheVariants.{Asked, Label, Open, Close}
 use Rattle.cw_game.specs.Games.{Game}
 use Rattle.cw_game.specs.Pairs.{Called, call_in}
 use Rattle.cw_links.specs.Lists.{Chained, list_at}
@@ -10,15 +14,15 @@ use Rattle.cw_product.specs.Moves.{pos_id, next_at}
 use Rattle.cw_linked.specs.declared.edges.Pair.{Pair}
 use Rattle.cw_linked.specs.declared.edges.Source.{Source}
 use Rattle.cw_linked.specs.Steps.{Leads}
-use Rattle.cw_linked.specs.Waiting.{pair_of, HasIn, keeps_state, source_at, IsStepTo, list_of}
+use Rattle.cw_linked.specs.Waiting.{pair_of, HasIn, keeps_state, source_at, IsStepTo, IsVisit, list_of, AreSoles}
 
 -- each value is a pair of the game
 abbrev pub AreFine : Game → Chained Pair → Type 0
 AreFine g pairs = (edge : ℕ) (pair : Pair) → slice_get pairs.values edge ≡ Some pair → (pair.pos.0 < length g.spots) × (pair.state.0 < g.states.count)
 
--- each link of a list has a source, which leads there where it is a step
+-- each link of a list has a source, which leads there where it is a step, and where it is a visit one stands there
 abbrev pub AreSteps : Game → Chained Source → Type 0
-AreSteps g sources = (l edge : ℕ) → Contains (list_at sources.lists l) edge → (source : Source) × (slice_get sources.values edge ≡ Some source) × IsStepTo g source l
+AreSteps g sources = (l edge : ℕ) → Contains (list_at sources.lists l) edge → (source : Source) × (slice_get sources.values edge ≡ Some source) × IsStepTo g source l × IsVisit g source
 
 -- what was in stays in, and a position is in the list of the one to which this move leads
 pub record AddsSource (g : Game) (old new : Chained Source) (p : ℕ) (by : Move) : Type 0 where
@@ -43,17 +47,27 @@ AreLed g Is m n = (p q r x : ℕ) → (p < m) ⊎ ((p ≡ m) × (q < n)) → q <
 abbrev pub IsReached : List Bool → (p q r x : ℕ) → Type 0
 IsReached flags p q r x = is_flagged flags r ≡ true
 
--- what was flagged stays flagged, and the position to which this move leads is flagged
-pub record FlagsMove (g : Game) (old new : List Bool) (p q : ℕ) (by : Move) : Type 0 where
-  pub long : length new ≡ length old
-  pub keeps : (r : ℕ) → is_flagged old r ≡ true → is_flagged new r ≡ true
-  pub leads : (r x : ℕ) → next_at g p q by ≡ Some (r, x) → is_flagged new r ≡ true
+-- the positions to which moves may lead that may change the state, one or two
+abbrev pub first_target : ℕ → Option Spot → Option ℕ
+first_target p (Some (Asked j i a)) = Some (p + 1)
+first_target p (Some (Label j l n)) = Some n
+first_target p (Some (Open j d n)) = Some n
+first_target p (Some (Close j d n)) = Some n
+first_target p _ = None
 
--- of all moves at its position
-pub record FlagsMoves (g : Game) (old new : List Bool) (p q : ℕ) : Type 0 where
+abbrev pub second_asked : ℕ → Primitive → Option ℕ
+second_asked p Split = Some (p + 2)
+second_asked p _ = None
+
+abbrev pub second_target : ℕ → Option Spot → Option ℕ
+second_target p (Some (Asked j i a)) = second_asked p a
+second_target p _ = None
+
+-- what was flagged stays flagged, and so is this position, if there is one
+pub record FlagsTarget (old new : List Bool) (to : Option ℕ) : Type 0 where
   pub long : length new ≡ length old
   pub keeps : (r : ℕ) → is_flagged old r ≡ true → is_flagged new r ≡ true
-  pub leads : (r x : ℕ) → Leads g p q r x → is_flagged new r ≡ true
+  pub flagged : (r : ℕ) → to ≡ Some r → is_flagged new r ≡ true
 
 -- the positions to which those before this pair lead are flagged
 pub record AreReachedTo (g : Game) (flags : List Bool) (m n : ℕ) : Type 0 where
@@ -67,7 +81,7 @@ pub record AreReached (g : Game) (flags : List Bool) : Type 0 where
 
 -- the pair (p, q) is in the list of (r, x)
 abbrev pub IsListed : Game → List Bool → Chained Pair → (p q r x : ℕ) → Type 0
-IsListed g flags pairs p q r x = HasIn pairs (list_of g flags r x) (pair_of p q)
+IsListed g flags pairs p q r x = HasIn pairs (list_of g flags r x) (pair_of g p q)
 
 -- what was in stays in, and a pair is in the list of the one to which this move leads
 pub record AddsMove (g : Game) (flags : List Bool) (old new : Chained Pair) (p q : ℕ) (by : Move) : Type 0 where
@@ -76,6 +90,7 @@ pub record AddsMove (g : Game) (flags : List Bool) (old new : Chained Pair) (p q
   pub fine : AreFine g old → AreFine g new
   pub keeps : (l : ℕ) (pair : Pair) → HasIn old l pair → HasIn new l pair
   pub leads : (r x : ℕ) → next_at g p q by ≡ Some (r, x) → IsListed g flags new p q r x
+  pub soles : AreSoles g flags old → AreSoles g flags new
 
 -- of all moves at its position
 pub record AddsMoves (g : Game) (flags : List Bool) (old new : Chained Pair) (p q : ℕ) : Type 0 where
@@ -84,6 +99,7 @@ pub record AddsMoves (g : Game) (flags : List Bool) (old new : Chained Pair) (p 
   pub fine : AreFine g old → AreFine g new
   pub keeps : (l : ℕ) (pair : Pair) → HasIn old l pair → HasIn new l pair
   pub leads : (r x : ℕ) → Leads g p q r x → IsListed g flags new p q r x
+  pub soles : AreSoles g flags old → AreSoles g flags new
 
 -- the pairs before this one are in
 pub record AreChangesTo (g : Game) (flags : List Bool) (pairs : Chained Pair) (m n : ℕ) : Type 0 where
@@ -91,6 +107,7 @@ pub record AreChangesTo (g : Game) (flags : List Bool) (pairs : Chained Pair) (m
   pub few : length pairs.values ≤ (m * g.states.count + n) * 2
   pub fine : AreFine g pairs
   pub leads : AreLed g (IsListed g flags pairs) m n
+  pub soles : AreSoles g flags pairs
 
 -- the positions before this one are in
 pub record AreReturnsTo (g : Game) (returns : Chained PosId) (m : ℕ) : Type 0 where

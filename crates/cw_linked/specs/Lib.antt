@@ -18,3 +18,4 @@ pub mod Links
 pub mod Runs
 pub mod Blocks
 pub mod Homes
+pub mod Listed

@@ -162,7 +162,7 @@ fn step_bound(
 
 /// One more than the greater of the heights of the pairs to which a visit leads.
 #[inline(always)]
-fn visit_bound(
+pub(crate) fn visit_bound(
     game: &Game,
     work: &Work,
     at: &Tabled,

@@ -103,7 +103,9 @@ fn ask_linked(
     requires right { AreRight (game_of game.now) work.old.blocks.contexts.items (found_of (game_of game.now) work.old) }
     ensures { OnOk result (AsksCaller (game_of game.now) work.old work.new link (cell_of at.now pos state)) }
 {
-    let caller = cell_at(game, work, link);
+    // Where calls go down a chain, a context is added right behind that of its caller.
+    let near = at.number().saturating_sub(1);
+    let caller = cell_at(game, work, near, link);
     match class_at(game, caller.pos, state) {
         None => Ok(()),
         Some(class) => {

@@ -95,8 +95,8 @@ pub(crate) fn finish(
     if is_plain(edges, cell.pos) {
         return Ok(());
     }
-    ask_changes(game, &edges.waits.changes, work, cell, block)?;
+    ask_changes(game, &edges.waits.changes, work, cell, block, height)?;
     ask_entry(game, work, cell, block, height)?;
-    ask_returns(game, &edges.returns, work, cell, height)?;
+    ask_returns(game, &edges.returns, work, cell, block, height)?;
     Ok(())
 }

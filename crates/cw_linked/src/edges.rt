@@ -1,18 +1,19 @@
 //! What waits for a pair, and which calls return to a position, the same in all contexts.
 
-ghost use Rattle.std.specs.Prelude.{◌≡◌, ℕ, ◌<◌, ◌≤◌, ◌+◌, ◌*◌, true, Some, min, length, slice_get, OnOk, IfOk};
+ghost use Rattle.std.specs.Prelude.{◌≡◌, ℕ, ◌<◌, ◌≤◌, ◌+◌, ◌*◌, true, false, Some, min, length, slice_get, OnOk, IfOk, IfSome};
+ghost use Rattle.cw_game.specs.Games.{weavers_in};
 ghost use Rattle.cw_links.specs.Flags.{is_flagged, number};
 ghost use Rattle.cw_product.specs.Product.{game_of};
-ghost use Rattle.cw_product.specs.Moves.{IsPosition, IsState, next_at};
+ghost use Rattle.cw_product.specs.Moves.{IsPosition, IsState, next_at, numbers};
 ghost use Rattle.cw_product.specs.MovesAt.{first_move, second_move};
 ghost use Rattle.cw_product.specs.Routed.{AreRouted};
 ghost use Rattle.cw_solve.specs.Rounds.{positions};
-ghost use Rattle.cw_linked.specs.Edges.{AddsSource, FlagsMove, FlagsMoves, AddsMove, AddsMoves, AreSourcesTo, AreReached, AreReachedTo, AreChangesTo, AreReturnsTo};
+ghost use Rattle.cw_linked.specs.Edges.{AddsSource, first_target, second_asked, second_target, FlagsTarget, AddsMove, AddsMoves, AreSourcesTo, AreReached, AreReachedTo, AreChangesTo, AreReturnsTo};
 ghost use Rattle.cw_linked.specs.Plain.{IsPlain, ArePlain};
 ghost use Rattle.cw_linked.specs.Returns.{AreReturns};
 ghost use Rattle.cw_linked.specs.Runs.{AreRuns};
-ghost use Rattle.cw_linked.specs.Steps.{Leads};
-ghost use Rattle.cw_linked.specs.Waiting.{keeps_state, is_step, source_at, AreSources, AreChanges, AreWaits};
+ghost use Rattle.cw_linked.specs.Steps.{IsMoveIn, Leads};
+ghost use Rattle.cw_linked.specs.Waiting.{keeps_state, is_step, source_at, lone, next_by, pair_of, AreSources, AreChanges, AreWaits};
 
 use crate::divisor::Divisor;
 use crate::waiting::list_of;
@@ -21,21 +22,25 @@ use cw_core::{NoMemory, PosId, StateId};
 use cw_game::Spot;
 use cw_links::{Chains, Flags, Rows};
 use cw_product::{Game, Turn};
+use cw_rights::Primitive;
 use cw_solve::table::positions;
 use std::alloc::Global;
 
-/// A position and a state.
+/// A position and a state, and whether one move at most leads anywhere from there.
 #[derive(Clone, Copy, Drop)]
 pub(crate) struct Pair {
     pub pos: PosId,
     pub state: StateId,
+    pub sole: bool,
 }
 
-/// A position from which a move leads to another one, whatever the state is, and whether that is a step: then it is its one move.
+/// A position from which a move leads to another one, whatever the state is; whether that is a step: then it is its one move; and
+/// whether a visit stands there.
 #[derive(Clone, Copy, Drop)]
 pub(crate) struct Source {
     pub pos: PosId,
     pub step: bool,
+    pub visit: bool,
 }
 
 /// For each pair those at positions that may change the state, from which a move leads there. Only the positions to which such a move
@@ -87,6 +92,17 @@ fn is_step(game: &Game, pos: PosId) -> bool
     }
 }
 
+/// Whether a visit stands at a position.
+fn is_visit(game: &Game, pos: PosId) -> bool
+    requires position { IsPosition (game_of game.now) pos.0 }
+    ensures { result ≡ weavers_in (slice_get (game_of game.now).spots pos.0) }
+{
+    match game.spot(pos) {
+        Spot::Visit(_, _, _) => true,
+        _ => false,
+    }
+}
+
 /// A position as a source.
 fn as_source(game: &Game, pos: PosId) -> Source
     requires position { IsPosition (game_of game.now) pos.0 }
@@ -95,6 +111,7 @@ fn as_source(game: &Game, pos: PosId) -> Source
     Source {
         pos,
         step: is_step(game, pos),
+        visit: is_visit(game, pos),
     }
 }
 
@@ -151,57 +168,72 @@ fn make_sources(alloc: Global, game: &Game) -> Result<Rows<Source>, NoMemory>
     Ok(rows)
 }
 
-/// Flags the position to which a move leads, if it leads to one.
-fn flag_move(game: &Game, flags: &mut [bool], pos: PosId, state: StateId, by: Move)
-    requires position { IsPosition (game_of game.now) pos.0 }
-    requires state { IsState (game_of game.now) state.0 }
-    requires long { length flags.old ≡ length (game_of game.now).spots }
-    ensures { FlagsMove (game_of game.now) flags.old flags.new pos.0 state.0 by }
+/// The second position to which a primitive may lead that is asked at one: behind a call, where it splits.
+fn second_asked(pos: PosId, prim: Primitive) -> Option<u32>
+    requires { pos.0 < 1048576 }
+    ensures { result ≡ second_asked pos.0 prim }
 {
-    if let Some((to, _)) = game.next(pos, state, by) {
-        flags[to.0 as usize] = true;
+    match prim {
+        Primitive::Split => Some(pos.0 + 2),
+        Primitive::Enter | Primitive::Limit(_) => None,
     }
 }
 
-/// Flags the positions to which the moves from a pair lead.
-fn flag_moves(
-    game: &Game,
-    flags: &mut [bool],
-    pos: PosId,
-    state: StateId,
-    moves: &(Move, Option<Move>),
-)
-    requires position { IsPosition (game_of game.now) pos.0 }
-    requires state { IsState (game_of game.now) state.0 }
-    requires first { moves.now.0 ≡ first_move (slice_get (game_of game.now).spots pos.0) }
-    requires second { moves.now.1 ≡ second_move (slice_get (game_of game.now).spots pos.0) }
-    requires long { length flags.old ≡ length (game_of game.now).spots }
-    ensures { FlagsMoves (game_of game.now) flags.old flags.new pos.0 state.0 }
+/// The first position to which moves may lead from where this stands that may change the state.
+fn first_target(pos: PosId, spot: Spot) -> Option<u32>
+    requires { pos.0 < 1048576 }
+    ensures { result ≡ first_target pos.0 (Some spot) }
 {
-    flag_move(game, flags, pos, state, moves.0);
-    if let Some(by) = moves.1 {
-        flag_move(game, flags, pos, state, by);
+    match spot {
+        Spot::Asked(_, _, _) => Some(pos.0 + 1),
+        Spot::Label(_, _, next) => Some(next),
+        Spot::Open(_, _, next) => Some(next),
+        Spot::Close(_, _, next) => Some(next),
+        Spot::Visit(_, _, _) | Spot::Step(_) | Spot::Branch(_, _) => None,
+        Spot::Call(_, _, _) | Spot::SplitCall(_, _, _) | Spot::Exit(_) => None,
     }
 }
 
-/// Flags the positions to which the moves of a position lead that may change the state.
+/// And the second one.
+fn second_target(pos: PosId, spot: Spot) -> Option<u32>
+    requires { pos.0 < 1048576 }
+    ensures { result ≡ second_target pos.0 (Some spot) }
+{
+    match spot {
+        Spot::Asked(_, _, prim) => second_asked(pos, prim),
+        Spot::Label(_, _, _) | Spot::Open(_, _, _) | Spot::Close(_, _, _) => None,
+        Spot::Visit(_, _, _) | Spot::Step(_) | Spot::Branch(_, _) => None,
+        Spot::Call(_, _, _) | Spot::SplitCall(_, _, _) | Spot::Exit(_) => None,
+    }
+}
+
+/// Flags a position, if there is one.
+fn flag_target(flags: &mut [bool], to: Option<u32>)
+    requires { IfSome to (λ r. r < length flags.old) }
+    ensures { FlagsTarget flags.old flags.new to }
+{
+    if let Some(to) = to {
+        flags[to as usize] = true;
+    }
+}
+
+/// Flags the positions to which the moves of a position may lead that may change the state, whatever the state is.
 fn flag_pairs(game: &Game, flags: &mut [bool], pos: PosId)
     requires position { IsPosition (game_of game.now) pos.0 }
+    requires short { length (game_of game.now).spots ≤ 1048576 }
     requires before { AreReachedTo (game_of game.now) flags.old pos.0 0 }
     ensures { AreReachedTo (game_of game.now) flags.new (pos.0 + 1) 0 }
 {
-    if keeps(game, pos) {
-        return;
-    }
-    let moves = game.moves(pos);
-    for q in 0..game.states() {
-        flag_moves(game, flags, pos, StateId(q), &moves);
-    }
+    game.fact_is_closed();
+    let spot = game.spot(pos);
+    flag_target(flags, first_target(pos, spot));
+    flag_target(flags, second_target(pos, spot));
 }
 
 /// Flags the positions to which a move leads that may change the state.
 fn flag_all(game: &Game, flags: &mut [bool])
-    requires { length flags.old ≡ length (game_of game.now).spots }
+    requires long { length flags.old ≡ length (game_of game.now).spots }
+    requires short { length (game_of game.now).spots ≤ 1048576 }
     ensures { AreReached (game_of game.now) flags.new }
 {
     for p in 0..game.positions() {
@@ -231,27 +263,59 @@ fn make_flags(alloc: Global, game: &Game) -> Result<Flags, NoMemory>
     ranked(alloc, &reached)
 }
 
-/// Puts a pair into the list of the one to which a move leads, if there is one.
+/// Where the second move leads, if there is one.
+fn next_by(game: &Game, pos: PosId, state: StateId, by: Option<Move>) -> Option<(PosId, StateId)>
+    requires position { IsPosition (game_of game.now) pos.0 }
+    requires state { IsState (game_of game.now) state.0 }
+    ensures is { numbers result ≡ next_by (game_of game.now) pos.0 state.0 (slice_get (game_of game.now).spots pos.0) by }
+    ensures within { IfSome result (λ r. IsPosition (game_of game.now) r.0.0 × IsState (game_of game.now) r.1.0) }
+{
+    match by {
+        None => None,
+        Some(by) => game.next(pos, state, by),
+    }
+}
+
+/// Whether one at most of two moves leads anywhere.
+fn is_lone(first: Option<(PosId, StateId)>, second: Option<(PosId, StateId)>) -> bool
+    ensures { result ≡ lone (numbers first) (numbers second) }
+{
+    match first {
+        None => true,
+        Some(_) => match second {
+            None => true,
+            Some(_) => false,
+        },
+    }
+}
+
+/// Puts a pair into the list of the one to which a move leads, if it leads to one.
 fn add_move(
     game: &Game,
     flags: &Flags,
     pairs: &mut Chains<Pair>,
-    pos: PosId,
-    state: StateId,
+    pair: Pair,
+    target: Option<(PosId, StateId)>,
     by: Move,
 ) -> Result<(), NoMemory>
     requires routed { AreRouted (game_of game.now) (length game.now.graph.parts.items) }
-    requires position { IsPosition (game_of game.now) pos.0 }
-    requires state { IsState (game_of game.now) state.0 }
+    requires is_pair { pair ≡ pair_of (game_of game.now) pair.pos.0 pair.state.0 }
+    requires position { IsPosition (game_of game.now) pair.pos.0 }
+    requires state { IsState (game_of game.now) pair.state.0 }
+    requires changing { keeps_state (slice_get (game_of game.now).spots pair.pos.0) ≡ false }
+    requires moved { IsMoveIn (slice_get (game_of game.now).spots pair.pos.0) by }
+    requires leads { numbers target ≡ next_at (game_of game.now) pair.pos.0 pair.state.0 by }
+    requires within { IfSome target (λ r. IsPosition (game_of game.now) r.0.0 × IsState (game_of game.now) r.1.0) }
     requires long { length flags.now ≡ length (game_of game.now).spots }
-    requires flagged { (r x : ℕ) → next_at (game_of game.now) pos.0 state.0 by ≡ Some (r, x) → is_flagged flags.now r ≡ true }
+    requires flagged { (r x : ℕ) → next_at (game_of game.now) pair.pos.0 pair.state.0 by ≡ Some (r, x) → is_flagged flags.now r ≡ true }
     requires lists { length pairs.old.lists ≡ number flags.now * (game_of game.now).states.count }
     requires few { length pairs.old.values ≤ 16777216 }
-    ensures { OnOk result (AddsMove (game_of game.now) flags.now pairs.old pairs.new pos.0 state.0 by) }
+    ensures { OnOk result (AddsMove (game_of game.now) flags.now pairs.old pairs.new pair.pos.0 pair.state.0 by) }
 {
-    if let Some((to, then)) = game.next(pos, state, by) {
+    let _ = by;
+    if let Some((to, then)) = target {
         let list = list_of(game, flags, to, then);
-        pairs.push_front(list, Pair { pos, state })?;
+        pairs.push_front(list, pair)?;
     }
     Ok(())
 }
@@ -268,6 +332,7 @@ fn add_moves(
     requires routed { AreRouted (game_of game.now) (length game.now.graph.parts.items) }
     requires position { IsPosition (game_of game.now) pos.0 }
     requires state { IsState (game_of game.now) state.0 }
+    requires changing { keeps_state (slice_get (game_of game.now).spots pos.0) ≡ false }
     requires first { moves.now.0 ≡ first_move (slice_get (game_of game.now).spots pos.0) }
     requires second { moves.now.1 ≡ second_move (slice_get (game_of game.now).spots pos.0) }
     requires long { length flags.now ≡ length (game_of game.now).spots }
@@ -276,11 +341,15 @@ fn add_moves(
     requires few { length pairs.old.values ≤ 16777200 }
     ensures { OnOk result (AddsMoves (game_of game.now) flags.now pairs.old pairs.new pos.0 state.0) }
 {
-    add_move(game, flags, pairs, pos, state, moves.0)?;
+    let first = game.next(pos, state, moves.0);
+    let second = next_by(game, pos, state, moves.1);
+    let sole = is_lone(first, second);
+    let pair = Pair { pos, state, sole };
+    add_move(game, flags, pairs, pair, first, moves.0)?;
     match moves.1 {
         None => Ok(()),
         Some(by) => {
-            add_move(game, flags, pairs, pos, state, by)?;
+            add_move(game, flags, pairs, pair, second, by)?;
             Ok(())
         }
     }

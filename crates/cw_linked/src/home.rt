@@ -19,13 +19,15 @@ use cw_product::Game;
 use cw_solve::table::{Blocks, numbered};
 
 /// Where the cells of a context stand: the cell that was looked at last, the block of its context, where the block ends, and what
-/// divides its rows. It ends at 0 where no context is known; the cell's is then one to look at first.
+/// divides its rows. It ends at 0 where no context is known; the cell's is then one to look at first. The number of the context that was
+/// near before tells which one to look at first where another one comes next.
 #[derive(Drop)]
 pub(crate) struct Home {
     pub cell: Cell,
     pub block: Block,
     pub past: u32,
     pub run: Divisor,
+    pub earlier: usize,
 }
 
 /// No context is near yet. That of `main` is looked at first.
@@ -48,7 +50,19 @@ pub(crate) fn no_home(game: &Game, blocks: &Blocks) -> Home
         },
         past: 0,
         run: Divisor::of(1),
+        earlier: 0,
     }
+}
+
+/// The number of a context to look at first, where the one near doesn't have an index. Cells of one height are mostly taken context by
+/// context, up or down by the same step, so the next one is as far from the one near as that is from the one before.
+#[inline(always)]
+fn likely(home: &Home) -> usize {
+    let near = home.cell.at.number();
+    if home.past == 0 {
+        return near;
+    }
+    near.wrapping_add(near).wrapping_sub(home.earlier)
 }
 
 /// Whether an index is among those of the context's cells.
@@ -62,9 +76,16 @@ fn is_home(home: &Home, index: usize) -> bool
     index < home.past as usize
 }
 
-/// Where the cells of the context stand that has an index. A context is looked at first.
+/// Where the cells of the context stand that has an index. A context is looked at first, and another one was near before.
 #[inline(always)]
-fn home_of(game: &Game, runs: &[Divisor], blocks: &Blocks, near: usize, index: usize) -> Home
+fn home_of(
+    game: &Game,
+    runs: &[Divisor],
+    blocks: &Blocks,
+    first: usize,
+    earlier: usize,
+    index: usize,
+) -> Home
     requires routed { AreRouted (game_of game.now) (length game.now.graph.parts.items) }
     requires runs { AreRuns (game_of game.now) (length game.now.graph.parts.items) runs.now }
     requires blocks { AreBlocks (game_of game.now) blocks.now }
@@ -73,7 +94,7 @@ fn home_of(game: &Game, runs: &[Divisor], blocks: &Blocks, near: usize, index: u
     ensures from { result.block.base ≤ index }
     ensures before { index < result.past }
 {
-    let at = numbered(game, blocks, owner_near(game, blocks, near, index));
+    let at = numbered(game, blocks, owner_near(game, blocks, first, index));
     let block = block_by(game, runs, blocks, &at);
     let run = &runs[at.function() as usize];
     let past = block.base + block.many * game.states() as u32;
@@ -86,6 +107,7 @@ fn home_of(game: &Game, runs: &[Divisor], blocks: &Blocks, near: usize, index: u
         block,
         past,
         run: run.again(),
+        earlier,
     }
 }
 
@@ -100,7 +122,9 @@ fn change_home(game: &Game, runs: &[Divisor], blocks: &Blocks, home: &mut Home, 
     ensures from { home.new.block.base ≤ index }
     ensures before { index < home.new.past }
 {
-    *home = home_of(game, runs, blocks, home.cell.at.number(), index);
+    let first = likely(home);
+    let earlier = home.cell.at.number();
+    *home = home_of(game, runs, blocks, first, earlier, index);
 }
 
 /// Has the context near that has an index.

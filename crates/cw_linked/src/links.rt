@@ -7,6 +7,7 @@ ghost use Rattle.cw_product.specs.Routed.{AreRouted};
 ghost use Rattle.cw_solve.specs.Tables.{AreTabled};
 ghost use Rattle.cw_linked.specs.Added.{IsOpen, AddsContext};
 ghost use Rattle.cw_linked.specs.Links.{NumbersContext, TakesLink};
+ghost use Rattle.cw_linked.specs.Listed.{HasListed};
 ghost use Rattle.cw_linked.specs.Tied.{IsFirm, IsFreed};
 
 use crate::added::add;
@@ -27,7 +28,7 @@ pub(crate) enum Stepped {
     TooMany(Context),
 }
 
-/// Adds a context, to the indices too.
+/// Adds a context, to the lists of the indices too.
 fn add_indexed(
     alloc: Global,
     game: &Game,
@@ -38,7 +39,9 @@ fn add_indexed(
     requires routed { AreRouted (game_of game.now) (length game.now.graph.parts.items) }
     requires kept { IsOpen (game_of game.now) work.old }
     requires contexts { AreTabled (game_of game.now) (work.old.blocks.contexts.items ++ context ∷ []) }
-    ensures { OnOk result (AddsContext (game_of game.now) work.old work.new context) }
+    requires listed { HasListed indices.old work.old.blocks.contexts.items }
+    ensures adds { OnOk result (AddsContext (game_of game.now) work.old work.new context) }
+    ensures listed { OnOk result (HasListed indices.new work.new.blocks.contexts.items) }
 {
     let function = context.function;
     add(alloc, game, work, context)?;
@@ -46,7 +49,8 @@ fn add_indexed(
     Ok(())
 }
 
-/// The number of a context, which is added if it isn't there; none where its cells are too many.
+/// The number of a context, which is added if it isn't there; none where its cells are too many. The indices have all contexts, so it is
+/// looked for among those of its function alone.
 fn number_of(
     alloc: Global,
     game: &Game,
@@ -57,10 +61,12 @@ fn number_of(
     requires routed { AreRouted (game_of game.now) (length game.now.graph.parts.items) }
     requires firm { IsFirm (game_of game.now) work.old }
     requires needed { IsNeeded (game_of game.now) context.now }
-    ensures { IfOk result (λ number. NumbersContext (game_of game.now) work.old work.new context.now number) }
+    requires listed { HasListed indices.old work.old.blocks.contexts.items }
+    ensures number { IfOk result (λ number. NumbersContext (game_of game.now) work.old work.new context.now number) }
+    ensures listed { OnOk result (HasListed indices.new work.new.blocks.contexts.items) }
 {
-    match indices.index_of(&work.blocks.contexts, context.function, &context.promise) {
-        Some(number) => Ok(Some(number)),
+    match indices.find(&work.blocks.contexts, context.function, &context.promise) {
+        Some(number) => Ok(Some(number as usize)),
         None => {
             let number = work.blocks.contexts.len();
             if work.store.indices() as u32 + size(game, context.function) > CELLS as u32 {
@@ -72,7 +78,7 @@ fn number_of(
     }
 }
 
-/// Takes the link at an index, for so many moves.
+/// Takes the link at an index, for so many moves. The indices have each context that is added.
 pub(crate) fn take_link(
     alloc: Global,
     game: &Game,
@@ -85,7 +91,9 @@ pub(crate) fn take_link(
     requires routed { AreRouted (game_of game.now) (length game.now.graph.parts.items) }
     requires freed { IsFreed (game_of game.now) work.old link.now index moves }
     requires some { 0 < slice_index work.old.store.to index → 0 < moves }
-    ensures { IfOk result (λ stepped. TakesLink (game_of game.now) work.old work.new stepped) }
+    requires listed { HasListed indices.old work.old.blocks.contexts.items }
+    ensures takes { IfOk result (λ stepped. TakesLink (game_of game.now) work.old work.new stepped) }
+    ensures listed { OnOk result (HasListed indices.new work.new.blocks.contexts.items) }
 {
     let Turn::Call {
         callee,

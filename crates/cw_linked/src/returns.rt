@@ -5,19 +5,20 @@ ghost use Rattle.cw_product.specs.Product.{game_of};
 ghost use Rattle.cw_product.specs.Moves.{IsPosition};
 ghost use Rattle.cw_product.specs.Routed.{AreRouted, IsOf};
 ghost use Rattle.cw_solve.specs.Tables.{HasCell};
+ghost use Rattle.cw_linked.specs.Blocks.{IsBlock};
 ghost use Rattle.cw_linked.specs.Founds.{AreRight, AllStanding};
 ghost use Rattle.cw_linked.specs.Queues.{found_of, AreFlagged, AreLong, AreHigh};
 ghost use Rattle.cw_linked.specs.Returns.{AreReturns, AreFew, IsPromised, Returns, AsksReturn, AsksReturns};
 ghost use Rattle.cw_linked.specs.Steps.{ReturnsThere};
 ghost use Rattle.cw_linked.specs.Works.{known_of, IsKnown, heights_of, cell_of};
 
+use crate::block::{Block, index_in, is_in};
 use crate::calls::class_at;
-use crate::waiting::is_of;
 use crate::work::{Cell, Work, ask_link};
 use cw_core::{NoMemory, PosId, StateId};
 use cw_links::Rows;
 use cw_product::{Game, Turn};
-use cw_solve::table::{Tabled, slot};
+use cw_solve::table::Tabled;
 
 /// Whether the link at an index goes to a context whose promise has the state.
 fn is_promised(work: &Work, link: usize, state: StateId) -> bool
@@ -54,6 +55,7 @@ fn ask_own(
     game: &Game,
     work: &mut Work,
     at: &Tabled,
+    block: &Block,
     back: PosId,
     state: StateId,
     height: u32,
@@ -62,6 +64,7 @@ fn ask_own(
     requires routed { AreRouted (game_of game.now) (length game.now.graph.parts.items) }
     requires known { IsKnown (game_of game.now) (known_of work.old) }
     requires cell { HasCell (game_of game.now) work.old.blocks at.now back.0 state.0 }
+    requires block { IsBlock (game_of game.now) work.old.blocks at.now block.now }
     requires taken { heights_of (game_of game.now) (known_of work.old) at.now.number back.0 state.0 ≡ height }
     requires some { 0 < height }
     requires position { IsPosition (game_of game.now) pos.0 }
@@ -77,7 +80,7 @@ fn ask_own(
     match class_at(game, pos, state) {
         None => Ok(()),
         Some(class) => {
-            let link = slot(game, &work.blocks, at, pos, class);
+            let link = index_in(game, &work.blocks, at, block, pos, class);
             if is_promised(work, link, state) {
                 ask_link(work, link, 2 * height + 1)?;
                 Ok(())
@@ -93,6 +96,7 @@ pub(crate) fn ask_return(
     game: &Game,
     work: &mut Work,
     at: &Tabled,
+    block: &Block,
     back: PosId,
     state: StateId,
     height: u32,
@@ -101,6 +105,7 @@ pub(crate) fn ask_return(
     requires routed { AreRouted (game_of game.now) (length game.now.graph.parts.items) }
     requires known { IsKnown (game_of game.now) (known_of work.old) }
     requires cell { HasCell (game_of game.now) work.old.blocks at.now back.0 state.0 }
+    requires block { IsBlock (game_of game.now) work.old.blocks at.now block.now }
     requires taken { heights_of (game_of game.now) (known_of work.old) at.now.number back.0 state.0 ≡ height }
     requires some { 0 < height }
     requires position { IsPosition (game_of game.now) pos.0 }
@@ -111,13 +116,13 @@ pub(crate) fn ask_return(
     requires right { AreRight (game_of game.now) work.old.blocks.contexts.items (found_of (game_of game.now) work.old) }
     ensures { OnOk result (AsksReturn (game_of game.now) work.old work.new (cell_of at.now back state) pos.0) }
 {
-    if !is_of(game, at, pos) {
+    if !is_in(game, &work.blocks, at, block, pos) {
         return Ok(());
     }
     if !returns_to(game, pos, back) {
         return Ok(());
     }
-    ask_own(game, work, at, back, state, height, pos)?;
+    ask_own(game, work, at, block, back, state, height, pos)?;
     Ok(())
 }
 
@@ -128,12 +133,14 @@ pub(crate) fn ask_returns(
     returns: &Rows<PosId>,
     work: &mut Work,
     cell: &Cell,
+    block: &Block,
     height: u32,
 ) -> Result<(), NoMemory>
     requires routed { AreRouted (game_of game.now) (length game.now.graph.parts.items) }
     requires returns { AreReturns (game_of game.now) returns.now }
     requires known { IsKnown (game_of game.now) (known_of work.old) }
     requires cell { HasCell (game_of game.now) work.old.blocks cell.now.at cell.now.pos.0 cell.now.state.0 }
+    requires block { IsBlock (game_of game.now) work.old.blocks cell.now.at block.now }
     requires taken { heights_of (game_of game.now) (known_of work.old) cell.now.at.number cell.now.pos.0 cell.now.state.0 ≡ height }
     requires some { 0 < height }
     requires few { AreFew work.old }
@@ -147,7 +154,9 @@ pub(crate) fn ask_returns(
 {
     let row = returns.row(cell.pos.0);
     for pos in row {
-        ask_return(game, work, &cell.at, cell.pos, cell.state, height, *pos)?;
+        ask_return(
+            game, work, &cell.at, block, cell.pos, cell.state, height, *pos,
+        )?;
     }
     Ok(())
 }

@@ -12,10 +12,11 @@ ghost use Rattle.cw_linked.specs.Founds.{class_of};
 
 use crate::calls::{class_at, is_call};
 use cw_core::{NoMemory, PosId, StateId};
+use cw_game::Spot;
 use cw_links::Store;
 use cw_product::Game;
 use cw_solve::Context;
-use cw_solve::table::{Blocks, size};
+use cw_solve::table::{Blocks, positions, size};
 
 /// Whether a link stands at a position and a state: a call, and the state that stands for those that are alike there.
 fn is_link(game: &Game, pos: PosId, state: StateId) -> bool
@@ -84,6 +85,31 @@ fn has_calls(game: &Game, function: u16) -> bool
     false
 }
 
+/// Whether a call in a process of its own stands at a position.
+fn is_split(game: &Game, pos: PosId) -> bool
+    requires { IsPosition (game_of game.now) pos.0 }
+    ensures { result ≡ false → (call : Called) → call_in (slice_get (game_of game.now).spots pos.0) ≡ Some call → call.split ≡ false }
+{
+    match game.spot(pos) {
+        Spot::SplitCall(_, _, _) => true,
+        _ => false,
+    }
+}
+
+/// Whether one stands at a position of a function.
+fn has_splits(game: &Game, function: u16) -> bool
+    requires routed { AreRouted (game_of game.now) (length game.now.graph.parts.items) }
+    requires there { IsThere (game_of game.now) (length game.now.graph.parts.items) function }
+    ensures { result ≡ false → (p : ℕ) (call : Called) → IsOf (game_of game.now) function p → call_in (slice_get (game_of game.now).spots p) ≡ Some call → call.split ≡ false }
+{
+    for p in game.entry(function).0..game.exit(function).0 + 1 {
+        if is_split(game, PosId(p)) {
+            return true;
+        }
+    }
+    false
+}
+
 /// Adds the indices of a function without calls, of which nothing waits and none is a link.
 fn push_plain(game: &Game, store: &mut Store, function: u16) -> Result<(), NoMemory>
     requires routed { AreRouted (game_of game.now) (length game.now.graph.parts.items) }
@@ -112,6 +138,37 @@ fn push_states(game: &Game, store: &mut Store, function: u16) -> Result<(), NoMe
     Ok(())
 }
 
+/// Adds the indices of a function of which no call is split, and of which nothing waits. All states are alike at its calls, so its
+/// links stand at the first one.
+fn push_first(game: &Game, store: &mut Store, function: u16) -> Result<(), NoMemory>
+    requires routed { AreRouted (game_of game.now) (length game.now.graph.parts.items) }
+    requires there { IsThere (game_of game.now) (length game.now.graph.parts.items) function }
+    requires few { length store.old.flags + size (game_of game.now) function ≤ 4194304 }
+    requires whole { (p : ℕ) (call : Called) → IsOf (game_of game.now) function p → call_in (slice_get (game_of game.now).spots p) ≡ Some call → call.split ≡ false }
+    ensures indices { OnOk result (PushesIndices store.old store.new (size (game_of game.now) function)) }
+    ensures flagged { OnOk result (FlagsLinks (game_of game.now) store.old.flags store.new.flags function (size (game_of game.now) function)) }
+{
+    push_state(game, store, function, StateId(0))?;
+    let all = size(game, function);
+    let run = positions(game, function);
+    store.push_plain(all - run)?;
+    Ok(())
+}
+
+/// Adds the indices of a function with calls, of which nothing waits.
+fn push_called(game: &Game, store: &mut Store, function: u16) -> Result<(), NoMemory>
+    requires routed { AreRouted (game_of game.now) (length game.now.graph.parts.items) }
+    requires there { IsThere (game_of game.now) (length game.now.graph.parts.items) function }
+    requires few { length store.old.flags + size (game_of game.now) function ≤ 4194304 }
+    ensures indices { OnOk result (PushesIndices store.old store.new (size (game_of game.now) function)) }
+    ensures flagged { OnOk result (FlagsLinks (game_of game.now) store.old.flags store.new.flags function (size (game_of game.now) function)) }
+{
+    if has_splits(game, function) {
+        return push_states(game, store, function);
+    }
+    push_first(game, store, function)
+}
+
 /// Adds the indices of a function, of which nothing waits.
 pub(crate) fn push_indices(game: &Game, store: &mut Store, function: u16) -> Result<(), NoMemory>
     requires routed { AreRouted (game_of game.now) (length game.now.graph.parts.items) }
@@ -121,7 +178,7 @@ pub(crate) fn push_indices(game: &Game, store: &mut Store, function: u16) -> Res
     ensures flagged { OnOk result (FlagsLinks (game_of game.now) store.old.flags store.new.flags function (size (game_of game.now) function)) }
 {
     if has_calls(game, function) {
-        return push_states(game, store, function);
+        return push_called(game, store, function);
     }
     push_plain(game, store, function)
 }

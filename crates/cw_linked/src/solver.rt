@@ -2,13 +2,15 @@
 
 ghost use Rattle.std.specs.Prelude.{◌≡◌, ◌<◌, ◌≤◌, ◌++◌, ◌∷◌, [], min, length, slice_index, OnOk, IfOk, IfErr};
 ghost use Rattle.cw_product.specs.Product.{game_of};
-ghost use Rattle.cw_solve.specs.Contexts.{cells_of, AreTheNeeded};
+ghost use Rattle.cw_game.specs.Pairs.{all_states};
+ghost use Rattle.cw_solve.specs.Contexts.{cells_of, context, AreTheNeeded};
 ghost use Rattle.cw_product.specs.Made.{IsMade};
 ghost use Rattle.cw_product.specs.Routed.{AreRouted};
 ghost use Rattle.cw_solve.specs.Solved.{IsCause};
 ghost use Rattle.cw_solve.specs.Tables.{IsTable, IsDone};
 ghost use Rattle.cw_linked.specs.Homes.{IsHome};
 ghost use Rattle.cw_linked.specs.Links.{TakesLink};
+ghost use Rattle.cw_linked.specs.Listed.{HasListed};
 ghost use Rattle.cw_linked.specs.Plain.{ArePlain};
 ghost use Rattle.cw_linked.specs.Popped.{IsWork, IsTakenAt, Finishes};
 ghost use Rattle.cw_linked.specs.Returns.{AreReturns};
@@ -80,7 +82,9 @@ fn tie_at(
     requires within { index < length work.old.store.heights }
     requires freed { IsFreedAt (game_of game.now) work.old index moves }
     requires some { 0 < slice_index work.old.store.to index → 0 < moves }
+    requires listed { HasListed indices.old work.old.blocks.contexts.items }
     ensures takes { IfOk result (λ stepped. TakesLink (game_of game.now) work.old work.new stepped) }
+    ensures listed { OnOk result (HasListed indices.new work.new.blocks.contexts.items) }
     ensures home { home.new.past ≡ 0 }
 {
     let link = cell_by(game, &edges.runs, work, home.cell.at.number(), index);
@@ -105,6 +109,7 @@ fn steps(
     requires plain { ArePlain (game_of game.now) (min (length game.now.graph.parts.items) 65536) (length (game_of game.now).spots) edges.now.plain.items }
     requires runs { AreRuns (game_of game.now) (length game.now.graph.parts.items) edges.now.runs.items }
     requires work { IsWork (game_of game.now) work.old }
+    requires listed { HasListed indices.old work.old.blocks.contexts.items }
     ensures { IfOk result (λ more. Ends (game_of game.now) (known_of work.new) more) }
 {
     let mut home = no_home(game, &work.blocks);
@@ -141,7 +146,8 @@ fn blank(alloc: Global) -> Result<Work, NoMemory>
 /// `main` with all states alone, and what is known of it.
 fn begun(alloc: Global, game: &Game) -> Result<Work, NoMemory>
     requires routed { AreRouted (game_of game.now) (length game.now.graph.parts.items) }
-    ensures { IfOk result (λ work. IsWork (game_of game.now) work) }
+    ensures work { IfOk result (λ work. IsWork (game_of game.now) work) }
+    ensures alone { IfOk result (λ work. work.blocks.contexts.items ≡ context (game_of game.now).main (all_states (game_of game.now)) ∷ []) }
 {
     let mut work = blank(alloc)?;
     add(alloc, game, &mut work, main_context(game))?;
@@ -155,6 +161,7 @@ fn solve_work(
     indices: &mut Indices,
 ) -> Result<(Work, Option<Context>), NoMemory>
     requires routed { AreRouted (game_of game.now) (length game.now.graph.parts.items) }
+    requires listed { HasListed indices.old [] }
     ensures { IfOk result (λ end. Ends (game_of game.now) (known_of end.0) end.1) }
 {
     let edges = Edges::make(alloc, game)?;
@@ -189,6 +196,7 @@ fn table_of(work: Work) -> Table
 /// The table of a game.
 fn solve_table(alloc: Global, game: &Game, indices: &mut Indices) -> Result<Table, SolveFault>
     requires routed { AreRouted (game_of game.now) (length game.now.graph.parts.items) }
+    requires listed { HasListed indices.old [] }
     ensures table { IfOk result (λ t. IsTable (game_of game.now) t) }
     ensures done { IfOk result (λ t. IsDone (game_of game.now) t) }
     ensures cause { IfErr result (λ fault. IsCause (game_of game.now) fault) }

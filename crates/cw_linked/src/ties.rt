@@ -10,6 +10,7 @@ ghost use Rattle.cw_product.specs.Routed.{AreRouted, IsOf};
 ghost use Rattle.cw_solve.specs.Contexts.{IsSetOf};
 ghost use Rattle.cw_solve.specs.Rounds.{holds_by};
 ghost use Rattle.cw_solve.specs.Tables.{IsTabled, HasCell};
+ghost use Rattle.cw_linked.specs.Blocks.{IsBlock};
 ghost use Rattle.cw_linked.specs.Calls.{AreCallers, AsksCaller};
 ghost use Rattle.cw_linked.specs.Founds.{AreRight, AllCalled, AllStanding, IsTied};
 ghost use Rattle.cw_linked.specs.Popped.{Finishes};
@@ -19,33 +20,33 @@ ghost use Rattle.cw_linked.specs.Steps.{CallsBy, IsIt};
 ghost use Rattle.cw_linked.specs.Tied.{IsTieable, TiesLink, AsksCalls, AsksAgain};
 ghost use Rattle.cw_linked.specs.Works.{known_of, IsKnown, heights_of, cell_of};
 
+use crate::block::{Block, block_of};
+use crate::bounds::height_in;
 use crate::calls::ask_call;
 use crate::returns::ask_return;
 use crate::work::{Cell, Work};
 use cw_core::{NoMemory, PosId, StateId, StateSet};
 use cw_product::Game;
-use cw_solve::table::{Tabled, slot};
-
-/// The height that is taken of a cell, 0 where none is.
-fn height_at(game: &Game, work: &Work, at: &Tabled, pos: PosId, state: StateId) -> u32
-    requires routed { AreRouted (game_of game.now) (length game.now.graph.parts.items) }
-    requires known { IsKnown (game_of game.now) (known_of work.now) }
-    requires long { AreLong work.now }
-    requires cell { HasCell (game_of game.now) work.now.blocks at.now pos.0 state.0 }
-    ensures { result ≡ heights_of (game_of game.now) (known_of work.now) at.now.number pos.0 state.0 }
-{
-    work.store.height(slot(game, &work.blocks, at, pos, state))
-}
+use cw_solve::table::Tabled;
 
 /// Whether the taken heights tell of a cell that it holds for so many moves.
-fn stays(game: &Game, work: &Work, at: &Tabled, pos: PosId, state: StateId, moves: u32) -> bool
+fn stays(
+    game: &Game,
+    work: &Work,
+    at: &Tabled,
+    block: &Block,
+    pos: PosId,
+    state: StateId,
+    moves: u32,
+) -> bool
     requires routed { AreRouted (game_of game.now) (length game.now.graph.parts.items) }
     requires known { IsKnown (game_of game.now) (known_of work.now) }
     requires long { AreLong work.now }
     requires cell { HasCell (game_of game.now) work.now.blocks at.now pos.0 state.0 }
+    requires block { IsBlock (game_of game.now) work.now.blocks at.now block.now }
     ensures { result ≡ holds_by moves (heights_of (game_of game.now) (known_of work.now) at.now.number pos.0 state.0) }
 {
-    let height = height_at(game, work, at, pos, state);
+    let height = height_in(game, work, at, block, pos, state);
     height == 0 || moves < height
 }
 
@@ -65,11 +66,12 @@ pub(crate) fn promise_of(
     ensures { IsSetOf (game_of game.now) result (λ x. holds_by moves
         (heights_of (game_of game.now) (known_of work.now) link.now.at.number back.0 (returned (game_of game.now).states (kept_at split link.now.state.0) x))) }
 {
+    let block = block_of(game, &work.blocks, &link.at);
     let mut set = StateSet::empty();
     for x in 0..game.states() {
         let exit = StateId(x);
         let then = game.returned(link.state, exit, split);
-        if stays(game, work, &link.at, back, then, moves) {
+        if stays(game, work, &link.at, &block, back, then, moves) {
             set.insert(exit);
         }
     }
@@ -95,6 +97,7 @@ fn ask_lost(
     game: &Game,
     work: &mut Work,
     at: &Tabled,
+    block: &Block,
     pos: PosId,
     state: StateId,
     index: usize,
@@ -102,6 +105,7 @@ fn ask_lost(
     requires routed { AreRouted (game_of game.now) (length game.now.graph.parts.items) }
     requires known { IsKnown (game_of game.now) (known_of work.old) }
     requires cell { HasCell (game_of game.now) work.old.blocks at.now pos.0 state.0 }
+    requires block { IsBlock (game_of game.now) work.old.blocks at.now block.now }
     requires entry { pos.0 ≡ (game_of game.now).entry at.now.context.function }
     requires within { index < length work.old.store.heights }
     requires long { AreLong work.old }
@@ -109,7 +113,7 @@ fn ask_lost(
     requires right { AreRight (game_of game.now) work.old.blocks.contexts.items (found_of (game_of game.now) work.old) }
     ensures { OnOk result (AsksCaller (game_of game.now) work.old work.new index (cell_of at.now pos state)) }
 {
-    let height = height_at(game, work, at, pos, state);
+    let height = height_in(game, work, at, block, pos, state);
     if height == 0 {
         return Ok(());
     }
@@ -137,9 +141,10 @@ fn ask_calls(
         (CallsBy (game_of game.now) link.now.at.number link.now.pos.0 link.now.state.0) }
     ensures { OnOk result (AsksCalls (game_of game.now) work.old work.new) }
 {
+    let block = block_of(game, &work.blocks, callee);
     let entry = game.entry(callee.function());
     for q in 0..game.states() {
-        ask_lost(game, work, callee, entry, StateId(q), index)?;
+        ask_lost(game, work, callee, &block, entry, StateId(q), index)?;
     }
     Ok(())
 }
@@ -149,6 +154,7 @@ fn ask_back(
     game: &Game,
     work: &mut Work,
     at: &Tabled,
+    block: &Block,
     back: PosId,
     state: StateId,
     pos: PosId,
@@ -156,6 +162,7 @@ fn ask_back(
     requires routed { AreRouted (game_of game.now) (length game.now.graph.parts.items) }
     requires known { IsKnown (game_of game.now) (known_of work.old) }
     requires cell { HasCell (game_of game.now) work.old.blocks at.now back.0 state.0 }
+    requires block { IsBlock (game_of game.now) work.old.blocks at.now block.now }
     requires position { IsPosition (game_of game.now) pos.0 }
     requires few { AreFew work.old }
     requires flagged { AreFlagged (game_of game.now) work.old }
@@ -164,11 +171,11 @@ fn ask_back(
     requires right { AreRight (game_of game.now) work.old.blocks.contexts.items (found_of (game_of game.now) work.old) }
     ensures { OnOk result (AsksReturn (game_of game.now) work.old work.new (cell_of at.now back state) pos.0) }
 {
-    let height = height_at(game, work, at, back, state);
+    let height = height_in(game, work, at, block, back, state);
     if height == 0 {
         return Ok(());
     }
-    ask_return(game, work, at, back, state, height, pos)?;
+    ask_return(game, work, at, block, back, state, height, pos)?;
     Ok(())
 }
 
@@ -189,8 +196,9 @@ fn ask_again(game: &Game, work: &mut Work, link: &Cell, back: PosId) -> Result<(
         (IsIt link.now.at.number link.now.pos.0 link.now.state.0) }
     ensures { OnOk result (AsksAgain (game_of game.now) work.old work.new) }
 {
+    let block = block_of(game, &work.blocks, &link.at);
     for q in 0..game.states() {
-        ask_back(game, work, &link.at, back, StateId(q), link.pos)?;
+        ask_back(game, work, &link.at, &block, back, StateId(q), link.pos)?;
     }
     Ok(())
 }

@@ -1,26 +1,25 @@
 //! Pairs that wait for a cell are asked for.
 
-ghost use Rattle.std.specs.Prelude.{◌≡◌, ◌<◌, ◌*◌, ◌↔◌, IsTrue, true, length, OnOk};
+ghost use Rattle.std.specs.Prelude.{◌≡◌, ◌<◌, ◌*◌, true, length, OnOk};
 ghost use Rattle.cw_links.specs.Flags.{is_flagged, number};
 ghost use Rattle.cw_product.specs.Product.{game_of};
 ghost use Rattle.cw_product.specs.Moves.{IsState};
-ghost use Rattle.cw_product.specs.Routed.{AreRouted, IsOf};
+ghost use Rattle.cw_product.specs.Routed.{AreRouted};
 ghost use Rattle.cw_solve.specs.Tables.{HasCell};
 ghost use Rattle.cw_linked.specs.Blocks.{IsBlock};
 ghost use Rattle.cw_linked.specs.Founds.{AreRight, AllClosed};
 ghost use Rattle.cw_linked.specs.Queues.{found_of, AreLong, AreHigh, AsksPair, AsksWaiting};
 ghost use Rattle.cw_linked.specs.Steps.{WaitsFor};
 ghost use Rattle.cw_linked.specs.Works.{known_of, IsKnown, heights_of};
-ghost use Rattle.cw_linked.specs.Waiting.{pair_of, list_of, IsStepTo, AreSources, AreChanges, ChangesFor, AsksSources};
+ghost use Rattle.cw_linked.specs.Waiting.{pair_of, list_of, IsSoleTo, IsStepTo, IsVisit, AreSources, AreChanges, ChangesFor, AsksSources};
 
 use crate::block::{Block, is_in};
 use crate::edges::{Changes, Pair, Source};
-use crate::implied::{ask_before, ask_implied};
+use crate::implied::{ask_before, ask_change};
 use crate::work::{Cell, Work};
 use cw_core::{NoMemory, PosId, StateId};
 use cw_links::{Flags, Rows};
 use cw_product::Game;
-use cw_solve::table::Tabled;
 
 /// The number of the list of a pair whose position is flagged.
 pub(crate) fn list_of(game: &Game, flags: &Flags, pos: PosId, state: StateId) -> u32
@@ -34,42 +33,39 @@ pub(crate) fn list_of(game: &Game, flags: &Flags, pos: PosId, state: StateId) ->
     flags.rank(pos.0 as usize) * u32::from(game.states()) + u32::from(state.0)
 }
 
-/// Whether the position is one of the context's function.
-pub(crate) fn is_of(game: &Game, at: &Tabled, pos: PosId) -> bool
-    requires { at.now.context.function < length game.now.graph.parts.items }
-    ensures { IsTrue result ↔ IsOf (game_of game.now) at.now.context.function pos.0 }
-{
-    let function = at.function();
-    game.entry(function).0 <= pos.0 && pos.0 <= game.exit(function).0
-}
-
-/// Asks for a pair, where it is one of the cell's function.
+/// Asks for a pair from which a move leads to the cell, which has this height now, where it is one of the cell's function.
 fn ask_pair(
     game: &Game,
     work: &mut Work,
     cell: &Cell,
     block: &Block,
     pair: Pair,
+    height: u32,
 ) -> Result<(), NoMemory>
     requires routed { AreRouted (game_of game.now) (length game.now.graph.parts.items) }
     requires known { IsKnown (game_of game.now) (known_of work.old) }
     requires cell { HasCell (game_of game.now) work.old.blocks cell.now.at cell.now.pos.0 cell.now.state.0 }
     requires block { IsBlock (game_of game.now) work.old.blocks cell.now.at block.now }
     requires state { IsState (game_of game.now) pair.state.0 }
+    requires sole { IsSoleTo (game_of game.now) pair cell.now.pos.0 cell.now.state.0 }
     requires long { AreLong work.old }
     requires high { AreHigh work.old }
     requires right { AreRight (game_of game.now) work.old.blocks.contexts.items (found_of (game_of game.now) work.old) }
+    requires taken { heights_of (game_of game.now) (known_of work.old) cell.now.at.number cell.now.pos.0 cell.now.state.0 ≡ height }
+    requires some { 0 < height }
     ensures { OnOk result (AsksPair (game_of game.now) work.old work.new cell.now pair) }
 {
     if is_in(game, &work.blocks, &cell.at, block, pair.pos) {
-        ask_implied(game, work, &cell.at, block, pair.pos, pair.state)?;
+        ask_change(
+            game, work, &cell.at, block, pair, cell.pos, cell.state, height,
+        )?;
         Ok(())
     } else {
         Ok(())
     }
 }
 
-/// The same as `ask_pair`, of the pair of a source in the state of the cell, which has this height now.
+/// The same as `ask_pair`, of the pair of a source in the state of the cell.
 #[inline(always)]
 fn ask_source(
     game: &Game,
@@ -84,12 +80,13 @@ fn ask_source(
     requires cell { HasCell (game_of game.now) work.old.blocks cell.now.at cell.now.pos.0 cell.now.state.0 }
     requires block { IsBlock (game_of game.now) work.old.blocks cell.now.at block.now }
     requires step { IsStepTo (game_of game.now) source cell.now.pos.0 }
+    requires visit { IsVisit (game_of game.now) source }
     requires long { AreLong work.old }
     requires high { AreHigh work.old }
     requires right { AreRight (game_of game.now) work.old.blocks.contexts.items (found_of (game_of game.now) work.old) }
     requires taken { heights_of (game_of game.now) (known_of work.old) cell.now.at.number cell.now.pos.0 cell.now.state.0 ≡ height }
     requires some { 0 < height }
-    ensures { OnOk result (AsksPair (game_of game.now) work.old work.new cell.now (pair_of source.pos.0 cell.now.state.0)) }
+    ensures { OnOk result (AsksPair (game_of game.now) work.old work.new cell.now (pair_of (game_of game.now) source.pos.0 cell.now.state.0)) }
 {
     if is_in(game, &work.blocks, &cell.at, block, source.pos) {
         ask_before(
@@ -131,7 +128,7 @@ pub(crate) fn ask_sources(
     Ok(())
 }
 
-/// Asks for the pairs of the same context that lead to a cell and may change the state.
+/// Asks for the pairs of the same context that lead to a cell, which has this height now, and may change the state.
 #[inline(never)]
 pub(crate) fn ask_changes(
     game: &Game,
@@ -139,6 +136,7 @@ pub(crate) fn ask_changes(
     work: &mut Work,
     cell: &Cell,
     block: &Block,
+    height: u32,
 ) -> Result<(), NoMemory>
     requires routed { AreRouted (game_of game.now) (length game.now.graph.parts.items) }
     requires changes { AreChanges (game_of game.now) changes.now }
@@ -148,6 +146,8 @@ pub(crate) fn ask_changes(
     requires long { AreLong work.old }
     requires high { AreHigh work.old }
     requires right { AreRight (game_of game.now) work.old.blocks.contexts.items (found_of (game_of game.now) work.old) }
+    requires taken { heights_of (game_of game.now) (known_of work.old) cell.now.at.number cell.now.pos.0 cell.now.state.0 ≡ height }
+    requires some { 0 < height }
     requires closed { AllClosed (game_of game.now) work.old.blocks.contexts.items (found_of (game_of game.now) work.old)
         (ChangesFor (game_of game.now) cell.now.at.number cell.now.pos.0 cell.now.state.0) }
     ensures { OnOk result (AsksWaiting (game_of game.now) work.old work.new) }
@@ -158,7 +158,7 @@ pub(crate) fn ask_changes(
     let list = list_of(game, &changes.flags, cell.pos, cell.state);
     let mut next = changes.pairs.first(list);
     'walk: while let Some(edge) = next {
-        ask_pair(game, work, cell, block, *changes.pairs.get(edge))?;
+        ask_pair(game, work, cell, block, *changes.pairs.get(edge), height)?;
         next = changes.pairs.next(edge);
     }
     Ok(())

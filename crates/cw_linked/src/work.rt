@@ -101,14 +101,18 @@ fn cell_in(game: &Game, work: &Work, index: usize, at: Tabled, run: &Divisor) ->
     }
 }
 
-/// The cell at an index.
-pub(crate) fn cell_at(game: &Game, work: &Work, index: usize) -> Cell
+/// The cell at an index, where maybe a context is known that has it.
+pub(crate) fn cell_at(game: &Game, work: &Work, near: usize, index: usize) -> Cell
     requires routed { AreRouted (game_of game.now) (length game.now.graph.parts.items) }
     requires known { IsKnown (game_of game.now) (known_of work.now) }
     requires within { index < length work.now.store.heights }
     ensures { IsCellAt (game_of game.now) work.now index result }
 {
-    let at = numbered(game, &work.blocks, owner(game, &work.blocks, index));
+    let at = numbered(
+        game,
+        &work.blocks,
+        owner_near(game, &work.blocks, near, index),
+    );
     let run = Divisor::of(positions(game, at.function()));
     cell_in(game, work, index, at, &run)
 }

@@ -70,6 +70,8 @@ ask_changes-requires c =
       long = first.step.long;
       high = first.step.high;
       right = next_right g functions c.requires.routed (alike c.args.game.now) w one t.known first.step;
+      taken = next_height g functions c.requires.routed (alike c.args.game.now) w one t.known first.step cell c.args.height t.taken;
+      some = t.some;
       closed = subst (λ (t : Known). AllClosed g t.blocks.contexts.items (found_of g one) (ChangesFor g cell.at.number cell.pos.0 cell.state.0)) (sym first.step.others.known) first.closed;
     }
 
@@ -114,6 +116,7 @@ ask_returns-requires c =
       returns = c.requires.returns;
       known = two_known g functions c.requires.routed (alike c.args.game.now) w one two two cell c.args.height t waiting callers;
       cell = next_cell g functions c.requires.routed (alike c.args.game.now) w two t.known step cell t.there;
+      block = subst (λ (t : Known). IsBlock g t.blocks cell.at c.args.block.now) (sym step.others.known) c.requires.block;
       taken = next_height g functions c.requires.routed (alike c.args.game.now) w two t.known step cell c.args.height t.taken;
       some = t.some;
       few = two_few g functions c.requires.routed (alike c.args.game.now) w one two two cell c.args.height t waiting callers;

@@ -10,6 +10,9 @@ pub add_moves-requires-clause-flagged : goal.add_moves-requires-clause-flagged
 add_moves-requires-clause-flagged c r x =
     c.requires.flagged.leads c.args.pos.0 c.loop-q.q r x c.requires.position (omega (arith, c.states-q-end.ensures, c.loop-q-test.true)) c.if-keeps.ensures
 
+pub add_moves-requires-clause-changing : goal.add_moves-requires-clause-changing
+add_moves-requires-clause-changing c = c.if-keeps.ensures
+
 pub loop-q-preserved : goal.loop-q-preserved
 loop-q-preserved c =
     a_pair_more (game_of c.args.game.now) c.args.flags.now c.loop-q.pairs c.add_moves.new.pairs c.args.pos.0 c.loop-q.q c.loop-q.invariant c.in_ok-add_moves.ensures

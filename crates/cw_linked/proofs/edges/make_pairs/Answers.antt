@@ -1,8 +1,9 @@
-use Rattle.std.proofs.Common.{◌≤◌, arith}
+use Rattle.std.proofs.Common.{◌≡◌, ◌≤◌, ◌*◌, ◌∙◌, ℕ, ap, arith}
 use Rattle.std.proofs.lemmas.Nat.{mul-le}
+use Rattle.cw_links.specs.Flags.{number}
 use Rattle.cw_links.proofs.Ranks.{number-le}
 use Rattle.cw_product.specs.Product.{game_of}
-use Rattle.cw_linked.proofs.Edging.{all_changes_in}
+use Rattle.cw_linked.proofs.Edging.{all_changes_in, begun_changes}
 use Rattle.cw_linked.proofs.edges.make_pairs.Goals as goal
 
 pub overflow_mul-lists : goal.overflow_mul-lists
@@ -14,3 +15,11 @@ overflow_mul-lists c =
 pub returns : goal.returns
 returns c =
     all_changes_in (game_of c.args.game.now) c.args.flags.now c.loop-p.pairs c.loop-p.p (omega (arith, c.positions-p-end.ensures, c.loop-p-test.false)) c.requires.flagged c.loop-p.invariant
+
+pub loop-p-init : goal.loop-p-init
+loop-p-init c =
+    let g = game_of c.args.game.now in
+    let flags = c.args.flags.now in
+    let states : c.from.result ≡ g.states.count = omega arith in
+    begun_changes g flags c.in_ok-pairs.pairs (c.flagged.result * c.from.result)
+    (ap (λ (y : ℕ). y * c.from.result) c.flagged.ensures ∙ ap (λ (y : ℕ). number flags * y) states) c.in_ok-pairs.ensures.lists c.in_ok-pairs.ensures.values

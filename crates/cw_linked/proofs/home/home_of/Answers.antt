@@ -31,7 +31,7 @@ returns-clause-home c =
     let there = there_at g (length c.args.game.now.graph.parts.items) c.requires.routed c.args.blocks.now c.requires.blocks at.number at.context c.numbered-at.ensures.there in
     let lt = c.requires.runs.all c.function.result (subst (λ (f : ℕ). f < length c.args.game.now.graph.parts.items) (sym c.function.ensures) there.below) c.function.type_inv in
     home_made g c.args.blocks.now c.requires.blocks at c.numbered-at.ensures.there c.block_by-block.result c.block_by-block.ensures c.states.result c.states.ensures (record { 0 = 0 })
-    (record { 0 = 0 }) c.again.result
+    (record { 0 = 0 }) c.again.result c.args.earlier
     (c.again.ensures ∙ c.index-runs-function.is ∙ get_or_default c.args.runs.now c.function.result c.index-runs-function.result 0 lt ∙ c.requires.runs.are c.function.result lt
     ∙ ap (positions g) c.function.ensures)
 

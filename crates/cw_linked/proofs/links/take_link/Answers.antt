@@ -6,8 +6,10 @@ use Rattle.cw_solve.specs.Tabled.{Tabled}
 use Rattle.cw_solve.specs.Contexts.{context}
 use Rattle.cw_solve.proofs.Tabling.{same_tabled}
 use Rattle.cw_linked.specs.Links.{IsNumbered, NumbersContext}
+use Rattle.cw_linked.specs.Listed.{HasListed}
 use Rattle.cw_linked.specs.Popped.{Finishes}
 use Rattle.cw_linked.specs.Tied.{IsTieable}
+use Rattle.cw_linked.specs.Works.{Known}
 use Rattle.cw_linked.proofs.Takings.{few_number}
 use Rattle.cw_linked.proofs.Targets.{call_here, back_here, read_here, is_needed, is_tieable, is_less}
 use Rattle.cw_linked.proofs.links.take_link.Goals as goal
@@ -43,7 +45,7 @@ numbered-to-requires c =
     let to : Context = context c.in-Call.callee c.promise_of.result in
     let read = read_here g functions c.requires.routed w link c.args.index c.args.moves c.requires.freed call.0 c.in-Call.split c.in-Call.back.0 c.promise_of.result call.2
     call.4 c.promise_of.ensures in
-    let numbered : IsNumbered g w c.number_of.new.work to c.in-Some.number = subst (λ (o : Option ℕ). NumbersContext g w c.number_of.new.work to o) c.in-Some.is c.in_ok-number.ensures in
+    let numbered : IsNumbered g w c.number_of.new.work to c.in-Some.number = subst (λ (o : Option ℕ). NumbersContext g w c.number_of.new.work to o) c.in-Some.is c.in_ok-number.ensures.number in
     let tieable = is_tieable g functions c.requires.routed w link c.args.index c.args.moves c.requires.freed call.0 call.1 to call.3 read c.number_of.new.work c.in-Some.number numbered in
     record {
       routed = c.requires.routed;
@@ -61,14 +63,14 @@ tie_link-requires-clause-tieable c =
     let to : Context = context c.in-Call.callee c.promise_of.result in
     let read = read_here g functions c.requires.routed w link c.args.index c.args.moves c.requires.freed call.0 c.in-Call.split c.in-Call.back.0 c.promise_of.result call.2
     call.4 c.promise_of.ensures in
-    let numbered : IsNumbered g w c.number_of.new.work to c.in-Some.number = subst (λ (o : Option ℕ). NumbersContext g w c.number_of.new.work to o) c.in-Some.is c.in_ok-number.ensures in
+    let numbered : IsNumbered g w c.number_of.new.work to c.in-Some.number = subst (λ (o : Option ℕ). NumbersContext g w c.number_of.new.work to o) c.in-Some.is c.in_ok-number.ensures.number in
     let same = same_tabled c.number_of.new.work.blocks c.numbered-to.result c.in-Some.number to c.numbered-to.ensures.number c.numbered-to.ensures.there numbered.there in
     subst (λ (a : Tabled). IsTieable g c.number_of.new.work link c.args.index c.args.moves a.number c.in-Call.back.0 a.context) (sym same)
     (subst (λ (b : ℕ). IsTieable g c.number_of.new.work link c.args.index c.args.moves c.in-Some.number b to) call.4
     (is_tieable g functions c.requires.routed w link c.args.index c.args.moves c.requires.freed call.0 call.1 to call.3 read c.number_of.new.work c.in-Some.number numbered))
 
-pub returns : goal.returns
-returns c =
+pub returns-clause-takes : goal.returns-clause-takes
+returns-clause-takes c =
     let g = game_of c.args.game.now in
     let functions = length c.args.game.now.graph.parts.items in
     let w = c.args.work.now in
@@ -77,7 +79,7 @@ returns c =
     let to : Context = context c.in-Call.callee c.promise_of.result in
     let read = read_here g functions c.requires.routed w link c.args.index c.args.moves c.requires.freed call.0 c.in-Call.split c.in-Call.back.0 c.promise_of.result call.2
     call.4 c.promise_of.ensures in
-    let numbered : IsNumbered g w c.number_of.new.work to c.in-Some.number = subst (λ (o : Option ℕ). NumbersContext g w c.number_of.new.work to o) c.in-Some.is c.in_ok-number.ensures in
+    let numbered : IsNumbered g w c.number_of.new.work to c.in-Some.number = subst (λ (o : Option ℕ). NumbersContext g w c.number_of.new.work to o) c.in-Some.is c.in_ok-number.ensures.number in
     let to_number : ℕ → List ℕ = λ n. slice_set c.number_of.new.work.store.to c.args.index (n + 1) in
     let finishes = subst (λ (n : ℕ). Finishes g c.number_of.new.work c.tie_link.new.work (to_number n)) c.numbered-to.ensures.number c.in_ok-tie_link.ensures in (
       finishes.kept,
@@ -85,3 +87,6 @@ returns c =
           c.requires.some c.tie_link.new.work
           finishes,
     )
+
+pub returns-clause-listed : goal.returns-clause-listed
+returns-clause-listed c = subst (λ (t : Known). HasListed c.number_of.new.indices t.blocks.contexts.items) (sym c.in_ok-tie_link.ensures.known) c.in_ok-number.ensures.listed

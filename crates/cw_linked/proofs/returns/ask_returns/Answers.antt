@@ -5,7 +5,9 @@ use Rattle.std.proofs.lemmas.Option.{slice_get-get_or}
 use Rattle.cw_core.specs.declared.ids.PosId.{PosId}
 use Rattle.cw_product.specs.Product.{game_of}
 use Rattle.cw_solve.proofs.Calling.{cell_within}
+use Rattle.cw_linked.specs.Blocks.{IsBlock}
 use Rattle.cw_linked.specs.Founds.{AllStanding}
+use Rattle.cw_linked.specs.Works.{Known}
 use Rattle.cw_linked.specs.Queues.{found_of}
 use Rattle.cw_linked.proofs.Alike.{alike}
 use Rattle.cw_linked.proofs.Backs.{ReturnsLeft, all_returns, no_returns}
@@ -41,6 +43,10 @@ ask_return-requires-clause-position c =
     let pos : PosId = get_or row n (record { 0 = 0 }) in
     let lt : n < length row = c.loop-pos-test.true in
     c.requires.returns.fine c.args.cell.now.pos.0 pos (subst (λ (xs : List PosId). Contains xs pos) c.row-row.ensures (Contains-get_or row n (record { 0 = 0 }) lt))
+
+pub ask_return-requires-clause-block : goal.ask_return-requires-clause-block
+ask_return-requires-clause-block c =
+    subst (λ (t : Known). IsBlock (game_of c.args.game.now) t.blocks c.args.cell.now.at c.args.block.now) (sym c.loop-pos.invariant.step.others.known) c.requires.block
 
 pub ask_return-requires-clause-flagged : goal.ask_return-requires-clause-flagged
 ask_return-requires-clause-flagged c =

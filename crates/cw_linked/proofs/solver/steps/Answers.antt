@@ -6,6 +6,7 @@ use Rattle.cw_linked.specs.declared.links.Stepped.{Stepped}
 use Rattle.cw_linked.specs.declared.work.Work.{Work}
 use Rattle.cw_linked.specs.Homes.{IsHome}
 use Rattle.cw_linked.specs.Links.{TakesLink}
+use Rattle.cw_linked.specs.Listed.{HasListed}
 use Rattle.cw_linked.specs.Solving.{Ends}
 use Rattle.cw_linked.specs.Works.{Known, known_of}
 use Rattle.cw_linked.proofs.Alike.{alike}
@@ -38,13 +39,15 @@ pub no_home-home-requires-clause-blocks : goal.no_home-home-requires-clause-bloc
 no_home-home-requires-clause-blocks c = c.requires.work.known.blocks
 
 pub steps-init : goal.steps-init
-steps-init c = record { work = c.requires.work; home = λ lt. absurd (omega (arith, lt, c.no_home-home.ensures)) }
+steps-init c = record { work = c.requires.work; listed = c.requires.listed; home = λ lt. absurd (omega (arith, lt, c.no_home-home.ensures)) }
 
 pub steps-preserved-in-Continue-1 : goal.steps-preserved-in-Continue-1
 steps-preserved-in-Continue-1 c =
     let ends = c.in_ok-finish_at-in-Cell.ensures.finishes in
     record {
       work = ends.kept;
+      listed = subst (λ (t : Known). HasListed c.steps.indices t.blocks.contexts.items) (sym ends.known)
+          (subst (λ (b : Blocks). HasListed c.steps.indices b.contexts.items) (sym c.in-Cell.ensures.blocks) c.steps.invariant.listed);
       home = subst (λ (t : Known). IsHome (game_of c.args.game.now) t.blocks.contexts.items c.finish_at.new.home) (sym ends.known) c.finish_at.ensures.home;
     }
 
@@ -63,11 +66,14 @@ tie_at-requires-clause-freed c link at =
     is_freed (game_of c.args.game.now) (length c.args.game.now.graph.parts.items) c.requires.routed
     (alike c.args.game.now) c.steps.work c.pop.new.work c.steps.invariant.work c.in-Link.index c.in-Link.moves c.in-Link.ensures link at
 
+pub tie_at-requires-clause-listed : goal.tie_at-requires-clause-listed
+tie_at-requires-clause-listed c = subst (λ (t : Known). HasListed c.steps.indices t.blocks.contexts.items) (sym c.in-Link.ensures.others.known) c.steps.invariant.listed
+
 pub steps-preserved : goal.steps-preserved
 steps-preserved c =
     let g = game_of c.args.game.now in
     let takes = subst (λ (s : Stepped). TakesLink g c.pop.new.work c.tie_at.new.work s) c.in-More.is c.in_ok-tie_at-in-Link.ensures.takes in
-    record { work = takes.0; home = λ lt. absurd (omega (arith, lt, c.tie_at.ensures.home)) }
+    record { work = takes.0; listed = c.in_ok-tie_at-in-Link.ensures.listed; home = λ lt. absurd (omega (arith, lt, c.tie_at.ensures.home)) }
 
 pub steps-smaller : goal.steps-smaller
 steps-smaller c =

@@ -1,11 +1,17 @@
-use Rattle.std.proofs.Common.{length, refl, arith}
+use Rattle.std.proofs.Common.{length, refl, subst, sym, arith}
 use Rattle.cw_product.specs.Product.{game_of}
 use Rattle.cw_linked.specs.declared.work.Cell.{Cell}
+use Rattle.cw_linked.specs.Blocks.{IsBlock}
+use Rattle.cw_linked.specs.Works.{Known}
 use Rattle.cw_linked.proofs.Alike.{alike}
 use Rattle.cw_linked.proofs.Finishing.{next_flagged}
 use Rattle.cw_linked.proofs.Telling.{two_steps}
 use Rattle.cw_linked.proofs.Tieing.{one_again, others_again, all_again}
 use Rattle.cw_linked.proofs.ties.ask_again.Goals as goal
+
+pub ask_back-requires-clause-block : goal.ask_back-requires-clause-block
+ask_back-requires-clause-block c =
+    subst (λ (t : Known). IsBlock (game_of c.args.game.now) t.blocks c.args.link.now.at c.block_of-block.result) (sym c.loop-q.invariant.step.others.known) c.block_of-block.ensures
 
 pub ask_back-requires-clause-flagged : goal.ask_back-requires-clause-flagged
 ask_back-requires-clause-flagged c =

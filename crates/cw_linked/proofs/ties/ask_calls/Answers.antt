@@ -2,6 +2,7 @@ use Rattle.std.proofs.Common.{◌≡◌, ◌∙◌, Some, length, subst, sym, ap
 use Rattle.std.specs.Prelude.{slice_get}
 use Rattle.cw_product.specs.Product.{game_of}
 use Rattle.cw_solve.proofs.Tabling.{there_at}
+use Rattle.cw_linked.specs.Blocks.{IsBlock}
 use Rattle.cw_linked.specs.Queues.{found_of}
 use Rattle.cw_linked.specs.Works.{Known}
 use Rattle.cw_linked.proofs.Alike.{alike}
@@ -38,6 +39,10 @@ ask_lost-requires-clause-cell c =
       of = (omega (arith, entry), omega (arith, begins, entry));
       state = omega (arith, c.loop-q-test.true, c.states-q-end.ensures);
     }
+
+pub ask_lost-requires-clause-block : goal.ask_lost-requires-clause-block
+ask_lost-requires-clause-block c =
+    subst (λ (t : Known). IsBlock (game_of c.args.game.now) t.blocks c.args.callee.now c.block_of-block.result) (sym c.loop-q.invariant.step.others.known) c.block_of-block.ensures
 
 pub ask_lost-requires-clause-entry : goal.ask_lost-requires-clause-entry
 ask_lost-requires-clause-entry c = c.entry-entry.ensures.is ∙ ap (game_of c.args.game.now).entry c.function.ensures

@@ -6,5 +6,5 @@ use Rattle.cw_linked.proofs.ties.stays.Goals as goal
 
 pub returns-else-height-eq0 : goal.returns-else-height-eq0
 returns-else-height-eq0 c =
-    let k = c.height_at-height.result in
-    sym (ap (λ (b : Bool). b || nat_lt c.args.moves k) (ne_eqb k 0 c.if-height-eq0.false)) ∙ ap (holds_by c.args.moves) c.height_at-height.ensures
+    let k = c.height_in-height.result in
+    sym (ap (λ (b : Bool). b || nat_lt c.args.moves k) (ne_eqb k 0 c.if-height-eq0.false)) ∙ ap (holds_by c.args.moves) c.height_in-height.ensures.is

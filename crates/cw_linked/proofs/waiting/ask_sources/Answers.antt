@@ -38,9 +38,18 @@ ask_source-requires-clause-step c =
     let row = c.row-row.result.now in
     let n = c.loop-source.source-index in
     let lt : n < length row = c.loop-source-test.true in
-    let source : Source = get_or row n (record { pos = record { 0 = 0 }; step = false }) in
+    let source : Source = get_or row n (record { pos = record { 0 = 0 }; step = false; visit = false }) in
     c.requires.sources.steps c.args.cell.now.pos.0 source
-    (subst (λ (xs : List Source). Contains xs source) c.row-row.ensures (Contains-get_or row n (record { pos = record { 0 = 0 }; step = false }) lt))
+    (subst (λ (xs : List Source). Contains xs source) c.row-row.ensures (Contains-get_or row n (record { pos = record { 0 = 0 }; step = false; visit = false }) lt))
+
+pub ask_source-requires-clause-visit : goal.ask_source-requires-clause-visit
+ask_source-requires-clause-visit c =
+    let row = c.row-row.result.now in
+    let n = c.loop-source.source-index in
+    let lt : n < length row = c.loop-source-test.true in
+    let source : Source = get_or row n (record { pos = record { 0 = 0 }; step = false; visit = false }) in
+    c.requires.sources.visits c.args.cell.now.pos.0 source
+    (subst (λ (xs : List Source). Contains xs source) c.row-row.ensures (Contains-get_or row n (record { pos = record { 0 = 0 }; step = false; visit = false }) lt))
 
 pub ask_source-requires-clause-taken : goal.ask_source-requires-clause-taken
 ask_source-requires-clause-taken c =
@@ -59,8 +68,8 @@ loop-source-preserved c =
     let cell = c.args.cell.now in
     let row = c.row-row.result.now in
     let n = c.loop-source.source-index in
-    let source : Source = get_or row n (record { pos = record { 0 = 0 }; step = false }) in
-    let here : slice_get row n ≡ Some source = slice_get-get_or row n (record { pos = record { 0 = 0 }; step = false }) c.loop-source-test.true in
+    let source : Source = get_or row n (record { pos = record { 0 = 0 }; step = false; visit = false }) in
+    let here : slice_get row n ≡ Some source = slice_get-get_or row n (record { pos = record { 0 = 0 }; step = false; visit = false }) c.loop-source-test.true in
     record {
       step = two_steps g w c.loop-source.work c.ask_source.new.work c.loop-source.invariant.step c.in_ok-ask_source.ensures.step;
       left = asked_source_left g functions c.requires.routed (alike c.args.game.now) w c.loop-source.work c.ask_source.new.work c.requires.known c.loop-source.invariant.step row n cell

@@ -8,11 +8,11 @@ pub positions-requires-clause-there : goal.positions-requires-clause-there
 positions-requires-clause-there c =
     let g = game_of c.args.game.now in
     rw c.function.ensures (function_there g (length c.args.game.now.graph.parts.items) c.requires.routed c.args.work.now c.requires.known
-    c.args.index c.owner.result c.numbered-at.result c.owner.ensures c.numbered-at.ensures.number c.numbered-at.ensures.there)
+    c.args.index c.owner_near.result c.numbered-at.result c.owner_near.ensures c.numbered-at.ensures.number c.numbered-at.ensures.there)
 
 pub of-run-requires-clause-few : goal.of-run-requires-clause-few
 of-run-requires-clause-few c =
     let g = game_of c.args.game.now in
     few_run g (length c.args.game.now.graph.parts.items) c.requires.routed c.args.work.now c.requires.known
-    c.args.index c.owner.result c.numbered-at.result c.owner.ensures c.numbered-at.ensures.number c.numbered-at.ensures.there
+    c.args.index c.owner_near.result c.numbered-at.result c.owner_near.ensures c.numbered-at.ensures.number c.numbered-at.ensures.there
     c.positions.result (c.positions.ensures.is ∙ ap (positions g) c.function.ensures)

@@ -6,8 +6,9 @@ use Rattle.cw_linked.specs.Steps.{IsBound}
 use Rattle.cw_linked.specs.Works.{known_of, heights_of}
 use Rattle.cw_linked.proofs.Alike.{alike}
 use Rattle.std.proofs.lemmas.Bool.{false_from_ne_true as false_of}
+use Rattle.cw_linked.proofs.Takings.{few_written}
 use Rattle.cw_linked.proofs.Telling.{implied_none, implied_asked}
-use Rattle.cw_linked.proofs.implied.ask_bound.Goals as goal
+use Rattle.cw_linked.proofs.implied.ask_within.Goals as goal
 
 pub returns-then-within-eq0 : goal.returns-then-within-eq0
 returns-then-within-eq0 c =
@@ -17,7 +18,7 @@ returns-then-within-eq0 c =
     let p = c.args.pos.0 in
     let q = c.args.state.0 in
     implied_none g (length c.args.game.now.graph.parts.items) c.requires.routed (alike c.args.game.now) w c.requires.known c.requires.long c.requires.high c.requires.right at p q
-    (λ plain. subst (λ (y : ℕ). IsBound g (heights_of g (known_of w)) at.number p q at.context.promise y) c.if-within-eq0.true (c.bound-within.ensures.implied plain))
+    (λ plain. subst (λ (y : ℕ). IsBound g (heights_of g (known_of w)) at.number p q at.context.promise y) c.if-within-eq0.true (c.requires.implied plain))
 
 pub returns : goal.returns
 returns c =
@@ -26,8 +27,15 @@ returns c =
     let at = c.args.at.now in
     let p = c.args.pos.0 in
     let q = c.args.state.0 in
-    let plain : is_call_in (slice_get g.spots p) ≡ false = false_of (is_call_in (slice_get g.spots p)) (λ y. c.if-within-eq0.false (c.bound-within.ensures.call y)) in
-    let some : 0 < c.bound-within.result = omega (arith, c.if-within-eq0.false) in
+    let plain : is_call_in (slice_get g.spots p) ≡ false = false_of (is_call_in (slice_get g.spots p)) (λ y. c.if-within-eq0.false (c.requires.call y)) in
+    let some : 0 < c.args.within = omega (arith, c.if-within-eq0.false) in
     implied_asked g (length c.args.game.now.graph.parts.items) c.requires.routed (alike c.args.game.now) w c.ask_cell.new.work c.requires.known c.requires.long c.requires.high c.requires.right
-    at p q c.requires.cell c.bound-within.result c.index_in-index.result (c.bound-within.ensures.implied plain) plain some (c.bound-within.ensures.high w.written c.requires.high.heights)
+    at p q c.requires.cell c.args.within c.index_in-index.result (c.requires.implied plain) plain some (c.requires.most w.written c.requires.high.heights)
     c.index_in-index.ensures.is c.in_ok-ask_cell.ensures
+
+pub ask_cell-requires-clause-few : goal.ask_cell-requires-clause-few
+ask_cell-requires-clause-few c =
+    let w = c.args.work.now in
+    let few = few_written (game_of c.args.game.now) (known_of w) c.requires.known in
+    let up = c.requires.most w.written c.requires.high.heights in
+    omega (arith, up, few)
