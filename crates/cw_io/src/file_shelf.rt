@@ -41,9 +41,14 @@ impl<R: Files + Drop> FileShelf<R> {
     }
 }
 
-/// One read, of at most one byte more than `room`, which is appended to `all`. It answers how many bytes came,
-/// and 0 only at the end.
-fn read_some<F: Read>(file: &mut F, all: &mut Vec<u8>, room: usize) -> Result<usize, ReadFault>
+/// One read into `chunk`, of at most one byte more than `room`, which is appended to `all`. It answers how many bytes
+/// came, and 0 only at the end.
+fn read_some<F: Read>(
+    file: &mut F,
+    chunk: &mut [u8; CHUNK],
+    all: &mut Vec<u8>,
+    room: usize,
+) -> Result<usize, ReadFault>
     ensures bound { IfOk result (λ count. count ≤ room + 1) }
     ensures front { OnOk result (take (vec_len all.old) all.new.items ≡ all.old.items) }
     ensures count { IfOk result (λ count. vec_len all.new ≡ vec_len all.old + count) }
@@ -52,7 +57,6 @@ fn read_some<F: Read>(file: &mut F, all: &mut Vec<u8>, room: usize) -> Result<us
     ensures end { IfOk result (λ count. count ≡ 0 → IsAtEnd (F.remaining file.new)) }
     ensures any_length { IsErrOf result ReadFault.TooLong → ⊥ }
 {
-    let mut chunk = [0u8; CHUNK];
     let asked = &mut chunk[..room.min(CHUNK - 1) + 1];
     let Ok(count) = file.read(asked) else {
         return Err(ReadFault::Failed);
@@ -71,9 +75,10 @@ fn read_all<F: Read>(alloc: Global, file: &mut F, max: usize) -> Result<Vec<u8>,
         → IfSome (F.remaining file.old) (λ left. max < length left) }
 {
     let mut all = Vec::new(alloc);
+    let mut chunk = [0u8; CHUNK];
     while all.len() <= max {
         let room = max - all.len();
-        if read_some(file, &mut all, room)? == 0 {
+        if read_some(file, &mut chunk, &mut all, room)? == 0 {
             return Ok(all);
         }
     }
