@@ -241,7 +241,7 @@ module _ (s : Found) (D : Option ℕ) where
             function = m.function;
             entered = m.entered;
             reach = m.reach;
-            row_key = here.0;
+            row_index = here.0;
             row = row;
             stands = subst (λ rows. slice_get rows here.0 ≡ Some row) (sym m.rows_are) here.1;
             pos = refl;

@@ -156,7 +156,7 @@ module _ (s : Found) where
           function = ap (λ (k : RowKey). k.0) z.same;
           entered = ap (λ (k : RowKey). k.1) z.same;
           reach = same_Some z.group.reach r (sym right.reach ∙ ap (λ (k : RowKey). s.reach k.0 k.1) z.same ∙ w.0);
-          row_key = z.number;
+          row_index = z.number;
           row = z.row;
           stands = z.stands;
           pos = ap (λ (k : RowKey). k.2) z.same;

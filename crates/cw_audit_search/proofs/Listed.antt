@@ -44,7 +44,7 @@ module _ (g : Game) (functions : ℕ) (fair : IsFair g functions) (s : Found) (s
       record {
         listed = z;
         group = group_there t.groups z.index z.group f q l.groups.groups_ascend z.there z.function z.entered;
-        inside = row_there z.group.rows z.row_key z.row p x (l.groups.rows_ascend z.index z.group z.there) z.stands z.pos z.state ∙ ap (λ n. Some n) z.inside;
+        inside = row_there z.group.rows z.row_index z.row p x (l.groups.rows_ascend z.index z.group z.there) z.stands z.pos z.state ∙ ap (λ n. Some n) z.inside;
       }
 
   row_of : (i n : ℕ) (grp : PlainGroup) (r : PlainRow) → slice_get t.groups i ≡ Some grp → slice_get grp.rows n ≡ Some r

@@ -15,9 +15,9 @@ pub record IsListed (groups : List PlainGroup) (f q r p x a : ℕ) : Type 0 wher
   pub function : group.function ≡ f
   pub entered : group.entered ≡ q
   pub reach : group.reach ≡ r
-  pub row_key : ℕ
+  pub row_index : ℕ
   pub row : PlainRow
-  pub stands : slice_get group.rows row_key ≡ Some row
+  pub stands : slice_get group.rows row_index ≡ Some row
   pub pos : row.pos ≡ p
   pub state : row.state ≡ x
   pub inside : row.inside ≡ a
