@@ -238,16 +238,16 @@ not_over None (g ∷ groups) = refl
 not_over (Some T) (g ∷ groups) = refl
 
 -- an audit where the text stops behind its end; else the line behind which it does
-abbrev IsTold : List TextLine → List ℕ → Stage → Result Audit AuditTextFault → Type 0
-IsTold ls rest stage (Ok t) = (is_over stage ≡ true) × (rest ≡ []) × (ls ≡ lines_of t ++ End ∷ [])
-IsTold ls rest stage (Err f) = (is_over stage ≡ true → rest ≢ []) × (f ≡ Line (length ls + 1))
+abbrev IsAnsweredAt : List TextLine → List ℕ → Stage → Result Audit AuditTextFault → Type 0
+IsAnsweredAt ls rest stage (Ok t) = (is_over stage ≡ true) × (rest ≡ []) × (ls ≡ lines_of t ++ End ∷ [])
+IsAnsweredAt ls rest stage (Err f) = (is_over stage ≡ true → rest ≢ []) × (f ≡ Line (length ls + 1))
 
 record StopOf (text : List ℕ) (answer : Result Audit AuditTextFault) : Type 0 where
   ls : List TextLine
   rest : List ℕ
   stage : Stage
   stops : Stops text ls rest stage
-  told : IsTold ls rest stage answer
+  answered : IsAnsweredAt ls rest stage answer
 
 only_head : (l : TextLine) (next : Stage) → step at_head l ≡ Some next → l ≡ Head
 only_head Head next e = refl
@@ -289,7 +289,7 @@ stop_of_fault text f (no_head none) = record {
     stands = refl;
     stuck = λ l next more e s. none more (subst (λ k. StartsWith text k more) (only_head l next e) s);
   };
-  told = ((λ over. absurd (false≢true over)), refl);
+  answered = ((λ over. absurd (false≢true over)), refl);
 }
 stop_of_fault text f (no_states rest s none) = record {
   ls = Head ∷ [];
@@ -301,7 +301,7 @@ stop_of_fault text f (no_states rest s none) = record {
     stands = refl;
     stuck = λ l next more e h. let is = only_states l next e in none is.states more (subst (λ k. StartsWith rest k more) is.same h);
   };
-  told = ((λ over. absurd (false≢true over)), refl);
+  answered = ((λ over. absurd (false≢true over)), refl);
 }
 stop_of_fault text f (no_verdict states between rest s h none) = record {
   ls = Head ∷ States states ∷ [];
@@ -313,7 +313,7 @@ stop_of_fault text f (no_verdict states between rest s h none) = record {
     stands = refl;
     stuck = λ l next more e k. let is = only_verdict l next e in none is.distance more (subst (λ m. StartsWith rest m more) is.same k);
   };
-  told = ((λ over. absurd (false≢true over)), refl);
+  answered = ((λ over. absurd (false≢true over)), refl);
 }
 stop_of_fault text f (no_line t rest begins over none) = record {
   ls = lines_of t;
@@ -328,7 +328,7 @@ stop_of_fault text f (no_line t rest begins over none) = record {
       | inr may ↦ none l more may s
     ];
   };
-  told = (
+  answered = (
     (λ over. absurd (false≢true (sym (not_over t.distance t.groups) ∙ over))),
     ap Line (omega arith),
   );
@@ -343,7 +343,7 @@ stop_of_fault text f (no_end t rest more begins s some) = record {
     stands = ended_stands t begins.fits;
     stuck = λ l next more e k. absurd (none-some next (sym (nothing_behind l) ∙ e));
   };
-  told = (
+  answered = (
     (λ over. some),
     ap Line (let n = length-append (lines_of t) (End ∷ []) in omega (arith, n)),
   );
@@ -362,7 +362,7 @@ stop_of text (Ok t) h = record {
     stands = ended_stands t h.fits;
     stuck = λ l next more e k. absurd (none-some next (sym (nothing_behind l) ∙ e));
   };
-  told = (refl, refl, refl);
+  answered = (refl, refl, refl);
 }
 
 -- ---- the lines of an audit are its own
@@ -486,19 +486,19 @@ audit_back t =
 
 -- ---- the law
 
-one_told : (xs ys : List TextLine) (rest more : List ℕ) (p q : Stage) (a b : Result Audit AuditTextFault) → xs ≡ ys → rest ≡ more → p ≡ q → IsTold xs rest p a
-    → IsTold ys more q b → a ≡ b
-one_told xs ys rest more p q (Ok t) (Ok u) lines texts places h k = ap Ok (sym (audit_back t) ∙ ap audit_in (sym h.2 ∙ lines ∙ k.2) ∙ audit_back u)
-one_told xs ys rest more p q (Ok t) (Err f) lines texts places h k = absurd (k.0 (ap is_over (sym places) ∙ h.0) (sym texts ∙ h.1))
-one_told xs ys rest more p q (Err f) (Ok u) lines texts places h k = absurd (h.0 (ap is_over places ∙ k.0) (texts ∙ k.1))
-one_told xs ys rest more p q (Err f) (Err g) lines texts places h k = ap Err (h.1 ∙ ap (λ ls. Line (length ls + 1)) lines ∙ sym k.1)
+one_answered : (xs ys : List TextLine) (rest more : List ℕ) (p q : Stage) (a b : Result Audit AuditTextFault) → xs ≡ ys → rest ≡ more → p ≡ q → IsAnsweredAt xs rest p a
+    → IsAnsweredAt ys more q b → a ≡ b
+one_answered xs ys rest more p q (Ok t) (Ok u) lines texts stages h k = ap Ok (sym (audit_back t) ∙ ap audit_in (sym h.2 ∙ lines ∙ k.2) ∙ audit_back u)
+one_answered xs ys rest more p q (Ok t) (Err f) lines texts stages h k = absurd (k.0 (ap is_over (sym stages) ∙ h.0) (sym texts ∙ h.1))
+one_answered xs ys rest more p q (Err f) (Ok u) lines texts stages h k = absurd (h.0 (ap is_over stages ∙ k.0) (texts ∙ k.1))
+one_answered xs ys rest more p q (Err f) (Err g) lines texts stages h k = ap Err (h.1 ∙ ap (λ ls. Line (length ls + 1)) lines ∙ sym k.1)
 
 pub one_answer : (text : List ℕ) (a b : Result Audit AuditTextFault) → IsAnswer text a → IsAnswer text b → a ≡ b
 one_answer text a b is also =
     let s = stop_of text a is in
     let t = stop_of text b also in
     let same = one_stop text s.ls t.ls s.rest t.rest s.stage t.stage s.stops t.stops in
-    one_told s.ls t.ls s.rest t.rest s.stage t.stage a b same.0 same.1 same.2 s.told t.told
+    one_answered s.ls t.ls s.rest t.rest s.stage t.stage a b same.0 same.1 same.2 s.answered t.answered
 
 -- ---- what is printed is read again
 
