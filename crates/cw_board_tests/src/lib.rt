@@ -5,8 +5,8 @@
 #[cfg(test)]
 mod paths;
 #[cfg(test)]
+mod played;
+#[cfg(test)]
 mod plays;
 #[cfg(test)]
 mod policies;
-#[cfg(test)]
-mod told;

@@ -1,7 +1,7 @@
 //! Plays of sources, written out by hand.
 
+use crate::played::are_played;
 use crate::policies::{LABELS, ONE, ONE_GRANTING, ONE_REFUSABLE, ONE_STOPPING, TWO};
-use crate::told::are_told;
 
 const SPLIT: &str = "int g(void){close(x);}int main(void){x=open();g();a:;}";
 
@@ -11,7 +11,7 @@ const BELOW: &str = "int g(void){a:;}int main(void){x=open();g();}";
 
 #[test]
 fn loops_are_left_and_gone_on_with(rt: HostRuntime) {
-    are_told(
+    are_played(
         &rt,
         rt.alloc(),
         &[(
@@ -24,7 +24,7 @@ fn loops_are_left_and_gone_on_with(rt: HostRuntime) {
 
 #[test]
 fn a_split_call_gives_back_what_its_caller_held(rt: HostRuntime) {
-    are_told(
+    are_played(
         &rt,
         rt.alloc(),
         &[
@@ -51,7 +51,7 @@ fn a_split_call_gives_back_what_its_caller_held(rt: HostRuntime) {
 
 #[test]
 fn a_recursion_unwinds(rt: HostRuntime) {
-    are_told(
+    are_played(
         &rt,
         rt.alloc(),
         &[(
@@ -64,7 +64,7 @@ fn a_recursion_unwinds(rt: HostRuntime) {
 
 #[test]
 fn a_limit_past_the_rights_held_is_refused(rt: HostRuntime) {
-    are_told(
+    are_played(
         &rt,
         rt.alloc(),
         &[(
@@ -77,7 +77,7 @@ fn a_limit_past_the_rights_held_is_refused(rt: HostRuntime) {
 
 #[test]
 fn a_word_of_two_labels_is_judged(rt: HostRuntime) {
-    are_told(
+    are_played(
         &rt,
         rt.alloc(),
         &[
@@ -95,7 +95,7 @@ fn a_word_of_two_labels_is_judged(rt: HostRuntime) {
 
 #[test]
 fn a_refusal_is_gone_on_from_or_stopped_at(rt: HostRuntime) {
-    are_told(
+    are_played(
         &rt,
         rt.alloc(),
         &[

@@ -91,7 +91,7 @@ fn has_play(alloc: Global, policy: &Policy, source: &str, play: &str) -> bool
 }
 
 /// The same, under a policy by its text.
-fn is_told(alloc: Global, policy: &str, source: &str, play: &str) -> bool {
+fn is_played(alloc: Global, policy: &str, source: &str, play: &str) -> bool {
     match read_policy(alloc, policy.as_bytes()) {
         Ok(policy) => has_play(alloc, &policy, source, play),
         Err(_) => false,
@@ -99,8 +99,8 @@ fn is_told(alloc: Global, policy: &str, source: &str, play: &str) -> bool {
 }
 
 /// Asserts that each source has its play.
-pub fn are_told(rt: &impl Abort, alloc: Global, rows: &[Row]) {
+pub fn are_played(rt: &impl Abort, alloc: Global, rows: &[Row]) {
     for (policy, source, play) in rows {
-        assert!(rt; is_told(alloc, policy, source, play), "{play}");
+        assert!(rt; is_played(alloc, policy, source, play), "{play}");
     }
 }
