@@ -32,7 +32,7 @@ pub has-number_of : (ws : List ℕ) (j : ℕ) → AreLimbs ws → has (number_of
 unfolding has
 has-number_of ws j fit = ap (λ (b : ℕ). eqb b 1) (bit_at-number_of ws j fit)
 
--- a limb of its own for the place s, which changes bit s alone
+-- a limb of its own for the number s, which changes bit s alone
 record ChangesBit (ws : List ℕ) (s v bit : ℕ) : Type 0 where
   fits : v < 2 ^ 64
   here : bit_at v (s % 64) ≡ bit

@@ -234,7 +234,7 @@ mask_put old first second whole n count prefix odd rest all =
     ∙ append_assoc old (codes "0x") (map digit_char (lowest_digits count n))
     ∙ ap (λ (z : List ℕ). old ++ (codes "0x" ++ z)) (sym all)
 
--- digits that were written from a place on
+-- digits that were written from an index on
 pub number_put : (old new : List ℕ) (at from end n : ℕ) → at ≡ from → from + length (decimal n) ≡ end → drop at new ≡ decimal n ++ drop end old → take at new ≡ take at old
     → take end new ≡ take from old ++ decimal n
 number_put old new at from end n same sum written before =

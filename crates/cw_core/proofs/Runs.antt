@@ -5,7 +5,7 @@ use Rattle.std.proofs.lemmas.Bool.{cases_eq, ne_eqb, eq-eqb}
 use Rattle.cw_core.specs.StateSet.{has, IsBelow}
 use Rattle.cw_core.specs.Ranges.{Run, in_front, runs_of, members, runs_text, ranges, Ascend, IsIn}
 
--- the maximal runs of the members among so many numbers from a place on
+-- the maximal runs of the members among so many numbers from one on
 pub runs_from : (set at count : ℕ) → List Run
 runs_from set at count = runs_of (filter (has set) (range_with_len at count))
 

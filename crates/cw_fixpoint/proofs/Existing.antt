@@ -50,7 +50,7 @@ put_by Equal x y ys more = y ∷ ys
 put_by Greater x y ys more = y ∷ more
 
 module _ {K : Type 0} (cmp : K → K → Ordering) (total : IsTotalOrder cmp) (exact : IsAntisymmetric cmp) where
-  -- into its place of an ascending list
+  -- into an ascending list, where it belongs by the order
   put : K → List K → List K
   put x [] = x ∷ []
   put x (y ∷ ys) = put_by (cmp x y) x y ys (put x ys)

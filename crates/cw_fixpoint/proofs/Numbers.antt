@@ -46,7 +46,7 @@ module _ {A : Type 0} (cmp : A → A → Ordering) (total : IsTotalOrder cmp) (e
           let n : number_in cmp ys x + 1 ≡ suc (number_in cmp ys x) = omega arith in
           ap (λ b. slice_get (y ∷ ys) (cond b 0 (number_in cmp ys x + 1))) f ∙ ap (slice_get (y ∷ ys)) n ∙ rec (i, omega (arith, lt), e)
 
-  -- where an item has a place this is its number
+  -- where an item has an index this is its number
   pub number_at : (xs : List A) (i : ℕ) (x : A) → IsStrictlySortedBy cmp xs → slice_get xs i ≡ Some x → number xs x ≡ i
   number_at xs i x s e =
       let n = number xs x in

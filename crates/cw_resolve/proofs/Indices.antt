@@ -33,7 +33,7 @@ seeks_found q xs i x l e f s =
     let t : nat_lt i (length xs) ≡ true = grind (arith, nat_tests) in
     sym (ap (λ k. cond (nat_lt k (length xs)) (Some k) None) (sym n) ∙ ap (λ b. cond b (Some i) None) t)
 
--- by whatever stands in for a place past the end
+-- by whatever stands in for an index past the end
 pub seeks_here : {X : Type 0} (q : X → Bool) (xs : List X) (i : ℕ) (d : X) → i < length xs → q (get_or xs i d) ≡ true → Seeks q xs i → Some i ≡ position q xs
 seeks_here q xs i d l t s = seeks_found q xs i (get_or xs i d) l (get_or_default xs i d (get_or xs i d) l) t s
 

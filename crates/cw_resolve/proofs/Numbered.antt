@@ -50,6 +50,6 @@ module _ {X : Type 0} (p : X → Bool) where
       by true h = refl
       by false h = h
 
-  -- a place is found where some item passes
+  -- an index is found where some item passes
   pub some_index : (xs : List X) → is_some (position p xs) ≡ list_any p xs
   some_index xs = ap is_some (position_from-zero p xs) ∙ some_from 0 xs

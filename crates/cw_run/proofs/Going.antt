@@ -87,7 +87,7 @@ module _ (names : Names) (g : Game) (t : Table) (plan : Plan) (right : AreStates
     sits = start_sits;
   }
 
-  -- the label of the place where the run comes to rest
+  -- the label of the landing where the run comes to rest
   label_here : (to here : Here) → here ≡ at_pos here.pos to → own (label_at names g.policy (held to.state) (slice_get g.spots here.pos)) ≡ label here
   label_here to here e = ap (λ (q : ℕ). own (label_at names g.policy (held q) (slice_get g.spots here.pos))) (sym (ap (λ (h : Here). h.state) e))
 
@@ -133,7 +133,7 @@ module _ (names : Names) (g : Game) (t : Table) (plan : Plan) (right : AreStates
   landed from entries text lines old mid new n waits (Some to) None em l k = absurd l
   landed from entries text lines old mid new n waits None (Some here) em l k = absurd l
 
-  -- what stands at the place of a run
+  -- what stands at the landing of a run
   pub spot_of : (s : State) (h : Here) (waits : List Wait) → Sits plan g s h waits → (spot : Spot) × (slice_get g.spots h.pos ≡ Some spot)
   spot_of s h waits sits = on s.board.stack s.board.kept s.board.caps s.board.word s.board.phase sits.stands
     where

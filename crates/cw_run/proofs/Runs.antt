@@ -328,7 +328,7 @@ module _ (names : Names) (g : Game) (t : Table) (plan : Plan) (right : AreStates
       let three = without_entry all ((text ++ line) ++ halt) k.then.next k.refusal.first Stop (ap turn_of k.refusal.is_refused) two in
       record { state = k.then.next; run = subst (λ l. Has all l k.then.next) (append_assoc text line halt) three; over = k.then.over }
 
-  -- What the next place is told of: the run goes on there, or is over.
+  -- What holds at the next landing: the run goes on there, or is over.
   abbrev pub LeadsTo : List Move → List ℕ → List ℕ → Next → Option Here → List Wait → Type 0
   LeadsTo entries text lines n (Some to) waits = IsRun entries (text ++ (own lines ++ (stop_lines own n ++ label to))) to waits
   LeadsTo entries text lines n None waits = IsOver names g t plan from own entries (text ++ (own lines ++ stop_lines own n))

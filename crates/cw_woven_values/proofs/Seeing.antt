@@ -1,4 +1,4 @@
--- What a state is where something stands at its place of the game.
+-- What a state is where something stands at its landing in the game.
 use Rattle.std.proofs.Common.{◌≡◌, ℕ, List, [], ◌∷◌, ◌++◌, map, false, Some, None, refl, sym, ap, ◌∙◌, subst}
 use Rattle.std.specs.Prelude.{slice_get}
 use Rattle.std.proofs.lemmas.Option.{same_Some}
@@ -80,7 +80,7 @@ asked_seen _ _ _ sees_split k = absurd k
 asked_seen _ _ _ sees_end k = absurd k
 
 module _ (h : Held) (s : Source) (t : Table) (w : IsWoven h s t) where
-  -- what stands at the place of a state
+  -- what stands at the landing of a state
   pub record Seen (st : State) (here : Here) : Type 0 where
     pub frame : Frame
     pub frames : List Frame
@@ -102,7 +102,7 @@ module _ (h : Held) (s : Source) (t : Table) (w : IsWoven h s t) where
   pub sees_at : (st : State) (here : Here) (k : Seen st here) (spot : Spot) → slice_get (g h s t w).spots here.pos ≡ Some spot → Sees k.frame st.board.phase spot
   sees_at st here k spot e = subst (λ z. Sees k.frame st.board.phase z) (same_Some k.spot spot (sym k.at ∙ e)) k.sees
 
-  -- the board of a place isn't in Refused
+  -- the board of a landing isn't in Refused
   pub never_refused : (st : State) (here : Here) (waits : List Wait) → Sits (p h s t w).plan (g h s t w) st here waits → is_refused st.board.phase ≡ false
   never_refused st here waits sits =
       unrefused (Least (g h s t w)) (g h s t w) (p h s t w).plan (is_game h s t w).states (is_game h s t w).laid (is_game h s t w).routines st.board (config_of here waits) sits.stands

@@ -187,7 +187,7 @@ module _ (h : Held) (s : Source) (t : Table) (w : IsWoven h s t) where
       pub goes_on : (spot : Spot) (n : Next) → slice_get (g h s t w).spots here.pos ≡ Some spot → next_of (g h s t w) t here waits spot (move_of way) ≡ Some n → Led (landing_of n) (waits_after n waits)
       goes_on spot n es e = led n (found h s t w run.woven here waits on.sits spot (move_of way) n es (at_spot spot es) e)
 
-    -- the point and the place together
+    -- the point and the landing together
     never_empty : (plain2 : Going) (m : HeldMachine) (to : Here) (waits2 : List Wait) (way : Way) (stands : StandsAt (policy h s t) s None m plain2) (passes : Passes (policy h s t) s way plain plain2)
         (now : Going) → Landed way plain2 m None stands passes to waits2 now → ⊥
     never_empty plain2 m to waits2 way stands passes now k =

@@ -11,7 +11,7 @@ use Rattle.cw_least_strategy.specs.Strategies.{backs_in}
 use Rattle.cw_least_strategy.proofs.Finding.{sum_past}
 use Rattle.cw_least_strategy.proofs.rows.hows_within.Goals as goal
 
--- the key at a place of the loop
+-- the key at an index of the loop
 abbrev key_at : List SmallKey → ℕ → SmallKey
 key_at keys i = get_or keys i (record { height = 0; pos = 0; state = 0; aim = 0 })
 

@@ -7,7 +7,7 @@ use Rattle.cw_lemmas.proofs.Lists.{get_contains}
 use Rattle.cw_least_strategy.proofs.Parts.{as_long, row_of_number}
 use Rattle.cw_least_strategy.proofs.strategy.LeastStrategy.row.Goals as goal
 
--- what is read at a place stands there
+-- what is read at an index stands there
 read : {A : Type 0} (xs : List A) (i : ℕ) (x : A) → i < length xs → x ≡ get_or xs i x → slice_get xs i ≡ Some x
 read {A} xs i x lt is = slice_get-get_or xs i x lt ∙ ap (λ (y : A). Some y) (sym is)
 
