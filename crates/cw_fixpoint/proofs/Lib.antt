@@ -5,7 +5,7 @@ pub mod Reach
 pub mod Descending
 pub mod Numbers
 mod Holding
-pub mod Places
+pub mod Indices
 pub mod Hints
 mod Orders
 mod Ending
