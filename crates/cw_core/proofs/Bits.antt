@@ -121,8 +121,8 @@ has-complement n ws vs top p q each i =
     rw (has-number_of vs i q.0, has-number_of ws i p.0)
     (elim (cases_lt (i / 64) 16) [
       | inl lt ↦
-          let place : 64 * (i / 64) + i % 64 ≡ i = omega arith in
-          rw (each (i / 64) lt) (rw place at (bit_at_other_bits n (64 * (i / 64)) (get_or ws (i / 64) 0) (i % 64) (AreLimbs-at ws (i / 64) p.0) (omega arith)))
+          let parts : 64 * (i / 64) + i % 64 ≡ i = omega arith in
+          rw (each (i / 64) lt) (rw parts at (bit_at_other_bits n (64 * (i / 64)) (get_or ws (i / 64) 0) (i % 64) (AreLimbs-at ws (i / 64) p.0) (omega arith)))
       | inr le ↦
           rw (get_or_past vs (i / 64) 0 (omega (arith, q.1)), bit_at-zero (i % 64), le-ltb i n (omega arith)) refl
     ])

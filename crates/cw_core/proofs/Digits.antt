@@ -109,14 +109,14 @@ unfolding are_pairs
 PAIRS_at b below = pairs_below 256 b tt below
 
 -- the highest two of the lowest digits are those of a byte
-pub two_more : (n place byte : ℕ) → byte ≡ n / 2 ^ (8 * place) % 2 ^ 8 → lowest_digits (2 * (place + 1)) n ≡ byte / 16 ∷ byte % 16 ∷ lowest_digits (2 * place) n
+pub two_more : (n index byte : ℕ) → byte ≡ n / 2 ^ (8 * index) % 2 ^ 8 → lowest_digits (2 * (index + 1)) n ≡ byte / 16 ∷ byte % 16 ∷ lowest_digits (2 * index) n
 unfolding lowest_digits
-two_more n place byte is =
-    let e : 2 * (place + 1) ≡ suc (suc (2 * place)) = omega arith in
-    let low : 4 * (2 * place) ≡ 8 * place = omega arith in
-    let high : n / 2 ^ (4 * suc (2 * place)) ≡ n / 2 ^ (8 * place) / 16 = let f : 8 * place + 4 ≡ 4 * suc (2 * place) = omega arith in sym (shr-shr n (8 * place) 4 ∙ ap (λ (k : ℕ). n / 2 ^ k) f) in
-    let first : n / 2 ^ (4 * suc (2 * place)) % 2 ^ 4 ≡ byte / 16 = rw (high, is) (omega arith) in
-    let second : n / 2 ^ (4 * (2 * place)) % 2 ^ 4 ≡ byte % 16 = rw (low, is) (omega arith) in
+two_more n index byte is =
+    let e : 2 * (index + 1) ≡ suc (suc (2 * index)) = omega arith in
+    let low : 4 * (2 * index) ≡ 8 * index = omega arith in
+    let high : n / 2 ^ (4 * suc (2 * index)) ≡ n / 2 ^ (8 * index) / 16 = let f : 8 * index + 4 ≡ 4 * suc (2 * index) = omega arith in sym (shr-shr n (8 * index) 4 ∙ ap (λ (k : ℕ). n / 2 ^ k) f) in
+    let first : n / 2 ^ (4 * suc (2 * index)) % 2 ^ 4 ≡ byte / 16 = rw (high, is) (omega arith) in
+    let second : n / 2 ^ (4 * (2 * index)) % 2 ^ 4 ≡ byte % 16 = rw (low, is) (omega arith) in
     rw (e, first, second) refl
 
 -- an odd number of digits is one, and two a byte
@@ -149,13 +149,13 @@ take_two xs i x y within =
     ∙ append_assoc (take i xs) (x ∷ []) (y ∷ []))
 
 -- what is written and what is left to write are the same whole after one byte more
-pub pair_put : (done after whole : List ℕ) (n left place byte x y : ℕ) → left ≡ place + 1 → byte ≡ n / 2 ^ (8 * place) % 2 ^ 8 → x ≡ digit_char (byte / 16) → y ≡ digit_char (byte % 16)
-    → after ≡ done ++ (x ∷ y ∷ []) → done ++ map digit_char (lowest_digits (2 * left) n) ≡ whole → after ++ map digit_char (lowest_digits (2 * place) n) ≡ whole
-pair_put done after whole n left place byte x y more is first second put so_far =
-    let rest = map digit_char (lowest_digits (2 * place) n) in
+pub pair_put : (done after whole : List ℕ) (n left index byte x y : ℕ) → left ≡ index + 1 → byte ≡ n / 2 ^ (8 * index) % 2 ^ 8 → x ≡ digit_char (byte / 16) → y ≡ digit_char (byte % 16)
+    → after ≡ done ++ (x ∷ y ∷ []) → done ++ map digit_char (lowest_digits (2 * left) n) ≡ whole → after ++ map digit_char (lowest_digits (2 * index) n) ≡ whole
+pair_put done after whole n left index byte x y more is first second put so_far =
+    let rest = map digit_char (lowest_digits (2 * index) n) in
     ap (λ (z : List ℕ). z ++ rest) put
     ∙ append_assoc done (x ∷ y ∷ []) rest
-    ∙ rw (first, second) (ap (λ (z : List ℕ). done ++ map digit_char z) (sym (two_more n place byte is)))
+    ∙ rw (first, second) (ap (λ (z : List ℕ). done ++ map digit_char z) (sym (two_more n index byte is)))
     ∙ (rw more at so_far)
 
 -- the lowest digits of a number are those of its upper part and those below
@@ -200,16 +200,16 @@ pub length-lowest_glyphs : (count n : ℕ) → length (map digit_char (lowest_di
 length-lowest_glyphs count n = length-map (lowest_digits count n) digit_char ∙ length-lowest_digits count n
 
 -- what is written and what is left to write are the same whole after one limb more
-pub limb_put : (done after digits whole : List ℕ) (n left place limb : ℕ) → left ≡ place + 8 → place % 8 ≡ 0 → limb ≡ n / 2 ^ (64 * (place / 8)) % 2 ^ 64
+pub limb_put : (done after digits whole : List ℕ) (n left index limb : ℕ) → left ≡ index + 8 → index % 8 ≡ 0 → limb ≡ n / 2 ^ (64 * (index / 8)) % 2 ^ 64
     → digits ≡ map digit_char (lowest_digits 16 limb) → after ≡ done ++ digits → done ++ map digit_char (lowest_digits (2 * left) n) ≡ whole
-    → after ++ map digit_char (lowest_digits (2 * place) n) ≡ whole
-limb_put done after digits whole n left place limb more even is spelled put so_far =
-    let below = lowest_digits (2 * place) n in
-    let e : 2 * left ≡ 16 + 2 * place = omega (arith, more) in
-    let f : 64 * (place / 8) ≡ 4 * (2 * place) = omega (arith, even) in
-    let same : limb ≡ n / 2 ^ (4 * (2 * place)) % 2 ^ 64 = is ∙ ap (λ (k : ℕ). n / 2 ^ k % 2 ^ 64) f in
+    → after ++ map digit_char (lowest_digits (2 * index) n) ≡ whole
+limb_put done after digits whole n left index limb more even is spelled put so_far =
+    let below = lowest_digits (2 * index) n in
+    let e : 2 * left ≡ 16 + 2 * index = omega (arith, more) in
+    let f : 64 * (index / 8) ≡ 4 * (2 * index) = omega (arith, even) in
+    let same : limb ≡ n / 2 ^ (4 * (2 * index)) % 2 ^ 64 = is ∙ ap (λ (k : ℕ). n / 2 ^ k % 2 ^ 64) f in
     let split : lowest_digits (2 * left) n ≡ lowest_digits 16 limb ++ below =
-    ap (λ (k : ℕ). lowest_digits k n) e ∙ lowest_split 16 (2 * place) n (omega arith) ∙ ap (λ (z : ℕ). lowest_digits 16 z ++ below) (sym same) in
+    ap (λ (k : ℕ). lowest_digits k n) e ∙ lowest_split 16 (2 * index) n (omega arith) ∙ ap (λ (z : ℕ). lowest_digits 16 z ++ below) (sym same) in
     ap (λ (z : List ℕ). z ++ map digit_char below) put
     ∙ append_assoc done digits (map digit_char below)
     ∙ ap (λ (z : List ℕ). done ++ (z ++ map digit_char below)) spelled

@@ -174,14 +174,14 @@ list_all-drop zero ds all = all
 list_all-drop (suc i) [] all = all
 list_all-drop (suc i) (d ∷ ds) all = list_all-drop i ds (both_from_and (is_hexadecimal_digit d) (list_all is_hexadecimal_digit ds) all).1
 
-pub sum_below : (ds : List ℕ) (place : ℕ) → list_all is_hexadecimal_digit ds ≡ true → place ≤ length ds → digits_value 16 (drop (length ds - place) ds) < 2 ^ (4 * place)
-sum_below ds place all le =
-    let e : length (drop (length ds - place) ds) ≡ place = length-drop (length ds - place) ds ∙ omega (arith, le) in
-    rw e at (digits_value-lt_pow (drop (length ds - place) ds) (list_all-drop (length ds - place) ds all))
+pub sum_below : (ds : List ℕ) (index : ℕ) → list_all is_hexadecimal_digit ds ≡ true → index ≤ length ds → digits_value 16 (drop (length ds - index) ds) < 2 ^ (4 * index)
+sum_below ds index all le =
+    let e : length (drop (length ds - index) ds) ≡ index = length-drop (length ds - index) ds ∙ omega (arith, le) in
+    rw e at (digits_value-lt_pow (drop (length ds - index) ds) (list_all-drop (length ds - index) ds all))
 
-pub sum_step : (ds : List ℕ) (place set more digit : ℕ) → place < length ds → set ≡ digits_value 16 (drop (length ds - place) ds) → digit ≡ digit_value (get_or ds (length ds - 1 - place) 0) → more ≡ set + digit * 2 ^ (4 * place) → more ≡ digits_value 16 (drop (length ds - (place + 1)) ds)
-sum_step ds place set more digit lt so_far is e =
-    let at : length ds - 1 - place ≡ length ds - (place + 1) = omega arith in
-    let few : length ds - (length ds - place) ≡ place = omega (arith, lt) in
-    let step = one_digit_more ds (length ds - (place + 1)) (length ds - place) (omega (arith, lt)) (omega (arith, lt)) in
+pub sum_step : (ds : List ℕ) (index set more digit : ℕ) → index < length ds → set ≡ digits_value 16 (drop (length ds - index) ds) → digit ≡ digit_value (get_or ds (length ds - 1 - index) 0) → more ≡ set + digit * 2 ^ (4 * index) → more ≡ digits_value 16 (drop (length ds - (index + 1)) ds)
+sum_step ds index set more digit lt so_far is e =
+    let at : length ds - 1 - index ≡ length ds - (index + 1) = omega arith in
+    let few : length ds - (length ds - index) ≡ index = omega (arith, lt) in
+    let step = one_digit_more ds (length ds - (index + 1)) (length ds - index) (omega (arith, lt)) (omega (arith, lt)) in
     e ∙ rw (so_far, is, at) (rw few at (sym step))

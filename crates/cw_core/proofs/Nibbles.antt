@@ -100,33 +100,33 @@ number_of-add (w ∷ ws) (suc k) x lt =
     let rest = number_of-add ws k x (omega (arith, lt)) in
     rw q (omega (arith, rest))
 
-place_pow : (place : ℕ) → 2 ^ (4 * (place % 16)) * 2 ^ (64 * (place / 16)) ≡ 2 ^ (4 * place)
-place_pow place =
-    let e : 4 * (place % 16) + 64 * (place / 16) ≡ 4 * place = omega arith in
-    sym (pow-add 2 (4 * (place % 16)) (64 * (place / 16))) ∙ ap (λ (z : ℕ). 2 ^ z) e
+index_pow : (index : ℕ) → 2 ^ (4 * (index % 16)) * 2 ^ (64 * (index / 16)) ≡ 2 ^ (4 * index)
+index_pow index =
+    let e : 4 * (index % 16) + 64 * (index / 16) ≡ 4 * index = omega arith in
+    sym (pow-add 2 (4 * (index % 16)) (64 * (index / 16))) ∙ ap (λ (z : ℕ). 2 ^ z) e
 
-limb_below : (ws : List ℕ) (place : ℕ) → number_of ws < 2 ^ (4 * place) → get_or ws (place / 16) 0 < 2 ^ (4 * (place % 16))
-limb_below ws place lt =
-    elim (cases_lt (get_or ws (place / 16) 0) (2 ^ (4 * (place % 16)))) [
+limb_below : (ws : List ℕ) (index : ℕ) → number_of ws < 2 ^ (4 * index) → get_or ws (index / 16) 0 < 2 ^ (4 * (index % 16))
+limb_below ws index lt =
+    elim (cases_lt (get_or ws (index / 16) 0) (2 ^ (4 * (index % 16)))) [
       | inl below ↦ below
       | inr le ↦
-          let p = mul-le-mul_right (2 ^ (64 * (place / 16))) le in
-          let q = limb-le ws (place / 16) in
-          absurd (omega (arith, p, q, place_pow place, lt))
+          let p = mul-le-mul_right (2 ^ (64 * (index / 16))) le in
+          let q = limb-le ws (index / 16) in
+          absurd (omega (arith, p, q, index_pow index, lt))
     ]
 
 abbrev pub with_nibble : List ℕ → ℕ → ℕ → ℕ
-with_nibble ws place digit = bit_or (get_or ws (place / 16) 0) (digit * 2 ^ (4 * (place % 16)) % 2 ^ 64)
+with_nibble ws index digit = bit_or (get_or ws (index / 16) 0) (digit * 2 ^ (4 * (index % 16)) % 2 ^ 64)
 
-pub with_nibble-lt : (ws : List ℕ) (place digit : ℕ) → AreLimbs ws → with_nibble ws place digit < 2 ^ 64
-with_nibble-lt ws place digit fit = or_lt 64 (get_or ws (place / 16) 0) (digit * 2 ^ (4 * (place % 16)) % 2 ^ 64) (AreLimbs-at ws (place / 16) fit) (omega arith)
+pub with_nibble-lt : (ws : List ℕ) (index digit : ℕ) → AreLimbs ws → with_nibble ws index digit < 2 ^ 64
+with_nibble-lt ws index digit fit = or_lt 64 (get_or ws (index / 16) 0) (digit * 2 ^ (4 * (index % 16)) % 2 ^ 64) (AreLimbs-at ws (index / 16) fit) (omega arith)
 
-pub number_of-with_nibble : (ws : List ℕ) (place digit : ℕ) → place / 16 < length ws → digit < 16 → number_of ws < 2 ^ (4 * place) → number_of (set ws (place / 16) (with_nibble ws place digit)) ≡ number_of ws + digit * 2 ^ (4 * place)
-number_of-with_nibble ws place digit within small above =
-    let w = get_or ws (place / 16) 0 in
-    let r = 4 * (place % 16) in
+pub number_of-with_nibble : (ws : List ℕ) (index digit : ℕ) → index / 16 < length ws → digit < 16 → number_of ws < 2 ^ (4 * index) → number_of (set ws (index / 16) (with_nibble ws index digit)) ≡ number_of ws + digit * 2 ^ (4 * index)
+number_of-with_nibble ws index digit within small above =
+    let w = get_or ws (index / 16) 0 in
+    let r = 4 * (index % 16) in
     let whole : digit * 2 ^ r % 2 ^ 64 ≡ digit * 2 ^ r = nat.shl_whole digit 4 r 64 small (omega arith) in
-    let sum : with_nibble ws place digit ≡ w + digit * 2 ^ r = ap (bit_or w) whole ∙ or_shifted_r digit r w (limb_below ws place above) ∙ add_comm (digit * 2 ^ r) w in
-    ap (λ (z : ℕ). number_of (set ws (place / 16) z)) sum
-    ∙ number_of-add ws (place / 16) (digit * 2 ^ r) within
-    ∙ ap (λ (z : ℕ). number_of ws + z) (mul_assoc digit (2 ^ r) (2 ^ (64 * (place / 16))) ∙ ap (λ (z : ℕ). digit * z) (place_pow place))
+    let sum : with_nibble ws index digit ≡ w + digit * 2 ^ r = ap (bit_or w) whole ∙ or_shifted_r digit r w (limb_below ws index above) ∙ add_comm (digit * 2 ^ r) w in
+    ap (λ (z : ℕ). number_of (set ws (index / 16) z)) sum
+    ∙ number_of-add ws (index / 16) (digit * 2 ^ r) within
+    ∙ ap (λ (z : ℕ). number_of ws + z) (mul_assoc digit (2 ^ r) (2 ^ (64 * (index / 16))) ∙ ap (λ (z : ℕ). digit * z) (index_pow index))

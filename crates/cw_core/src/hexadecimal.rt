@@ -114,9 +114,9 @@ fn sum_of(digits: &[u8]) -> StateSet
     ensures sum { result ≡ digits_value 16 digits.now }
 {
     let mut set = StateSet::empty();
-    for place in 0..digits.len() {
-        let digit = digits[digits.len() - 1 - place];
-        set.add_nibble(place, value_of(digit));
+    for index in 0..digits.len() {
+        let digit = digits[digits.len() - 1 - index];
+        set.add_nibble(index, value_of(digit));
     }
     set
 }
