@@ -42,7 +42,7 @@ pub(crate) fn row_at<R: Keyed>(rows: &[R], key: &R::Key) -> Option<R>
     ensures { result ≡ find (λ r. is_eq (R.Key.cmp (R.key_of r) key.now)) rows.now }
 {
     match rows.binary_search_by_key(key, |row| row.key()) {
-        Ok(place) => Some(rows[place]),
+        Ok(index) => Some(rows[index]),
         Err(_) => None,
     }
 }
