@@ -97,8 +97,8 @@ module _ (g : Game) where
       one_of_both p r o changing plain (next_target g p q o leads.0 (r, x) leads.2)
 
   -- those of one position more
-  pub a_position_flagged : (old mid new : List Bool) (p : ℕ) (first second : Option ℕ) → AreReachedTo g old p 0 → first ≡ first_target p (slice_get g.spots p) → second ≡ second_target p (slice_get g.spots p)
-      → FlagsTarget old mid first → FlagsTarget mid new second → AreReachedTo g new (p + 1) 0
+  pub a_position_flagged : (old mid new : List Bool) (p : ℕ) (first second : Option ℕ) → AreReachedTo g old p 0 → first ≡ first_target p (slice_get g.spots p)
+      → second ≡ second_target p (slice_get g.spots p) → FlagsTarget old mid first → FlagsTarget mid new second → AreReachedTo g new (p + 1) 0
   a_position_flagged old mid new p first second are is_first is_second one two = record {
     long = two.long ∙ one.long ∙ are.long;
     leads = λ m n r x before lt changing leads. elim before [

@@ -15,7 +15,8 @@ invariant-walk l = record {
   step : LowersKeys (game_of l.game) l.fn.work l.work;
   at : slice_get (rest_of (list_at l.changes.pairs.lists (list_of (game_of l.game) l.changes.flags l.cell.pos.0 l.cell.state.0)) l.next) 0 ≡ l.next;
   left : AllClosed (game_of l.game) l.fn.work.blocks.contexts.items (found_of (game_of l.game) l.work)
-      (AreLeft (game_of l.game) (change_pairs l.changes) Nothing l.cell.at.number (rest_of (list_at l.changes.pairs.lists (list_of (game_of l.game) l.changes.flags l.cell.pos.0 l.cell.state.0)) l.next));
+      (AreLeft (game_of l.game) (change_pairs l.changes) Nothing l.cell.at.number
+      (rest_of (list_at l.changes.pairs.lists (list_of (game_of l.game) l.changes.flags l.cell.pos.0 l.cell.state.0)) l.next));
 }
 
 abbrev pub decreases-walk : goal.decreases-walk
