@@ -1,6 +1,5 @@
 //! What a row does, by its field.
 
-ghost use Rattle.std.specs.Prelude.{◌≡◌};
 ghost use Rattle.cw_text.specs.Lines.{Reads};
 ghost use Rattle.cw_strategy_text.specs.Fields.{kind_field, FitsKind};
 

@@ -1,9 +1,9 @@
 //! A row read from its line.
 
-ghost use Rattle.std.specs.Prelude.{◌≡◌, ◌≢◌, ℕ, ◌^◌, ◌<◌, ◌∷◌, [], List, map, option_map, IfOk, IfSome, IfNone};
+ghost use Rattle.std.specs.Prelude.{◌≡◌, ◌≢◌, ℕ, ◌^◌, ◌<◌, ◌∷◌, List, map, option_map, IfOk, IfSome, IfNone};
 ghost use Rattle.std.specs.Fmt.{decimal};
 ghost use Rattle.cw_certs.specs.Strategies.{how_of, row_of};
-ghost use Rattle.cw_text.specs.Lines.{joined, set_text, IsSetIn, Reads};
+ghost use Rattle.cw_text.specs.Lines.{set_text, IsSetIn, Reads};
 ghost use Rattle.cw_text.specs.Moves.{IsEnvironments};
 ghost use Rattle.cw_strategy_text.specs.StrategyText.{back_field, how_fields, AreBacks, FitsHow};
 ghost use Rattle.cw_strategy_text.specs.Fields.{backs_of, rest_fields, row_text, FitsBack, FitsKind, FitsNamed, IsOf};
