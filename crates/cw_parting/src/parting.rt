@@ -52,13 +52,9 @@ fn told<O: Sink>(alloc: Global, reading: &Reading, out: &mut O) -> Result<Text<O
         Answers whole source (WhereFits (AfterGame (IsParted whole source file)) source whole file) result }
     ensures puts { StartsText O.taken O.faults O.refused out.old out.new result }
 {
-    match judged(alloc, reading, out) {
-        Ok(verdict) => {
-            let Verdict { text, .. } = verdict;
-            Ok(text)
-        }
-        Err(stop) => Err(stop),
-    }
+    let verdict = judged(alloc, reading, out)?;
+    let Verdict { text, .. } = verdict;
+    Ok(text)
 }
 
 /// What is due for a form, which is read as each form is: only want of memory can keep the reader from it.
