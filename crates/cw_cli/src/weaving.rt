@@ -71,13 +71,9 @@ fn woven<O: Sink>(
         Answers whole source.now (WithSource (λ file. AfterPair (IsVerdict whole source.now file) source.now whole file) source.now whole) result }
     ensures puts { StartsText O.taken O.faults O.refused out.old out.new result }
 {
-    match weave(alloc, policy, source, out) {
-        Ok(verdict) => {
-            let Verdict { text, .. } = verdict;
-            Ok(text)
-        }
-        Err(stop) => Err(stop),
-    }
+    let verdict = weave(alloc, policy, source, out)?;
+    let Verdict { text, .. } = verdict;
+    Ok(text)
 }
 
 /// What is due for `weave`, by the bytes of a policy and of a source.
