@@ -11,7 +11,7 @@ use Rattle.cw_certs.specs.declared.moves.Move.TheVariants.{Skip, Try, Grant, Ref
 use Rattle.cw_rights.specs.Valid.{is_name, is_name_start, is_name_byte}
 use Rattle.cw_text.specs.Lines.{IsFree, joined, fields_by}
 use Rattle.cw_text.specs.Moves.{move_name}
-use Rattle.cw_text.proofs.Names.{move_of, told}
+use Rattle.cw_text.proofs.Names.{move_of, named_back}
 use Rattle.cw_text.proofs.Cuts.{joined-fields}
 use Rattle.cw_text.proofs.Free.{free_from_test}
 use Rattle.cw_text_lines.specs.Lines.{StartsWith, Tell, AreDecided}
@@ -96,7 +96,7 @@ line_back : (l : AnswerLine) → FitsLine l → line_from (line_fields l) ≡ l
 unfolding line_from line_by
 line_back line.Head fits = refl
 line_back (line.Name name value) fits = ap (λ z. line.Name name z) (value_back value fits.1)
-line_back (line.Try by) fits = ap (λ m. line.Try m) (told by)
+line_back (line.Try by) fits = ap (λ m. line.Try m) (named_back by)
 line_back (line.Call value) fits = ap (λ z. line.Call z) (value_back value fits)
 line_back line.End fits = refl
 

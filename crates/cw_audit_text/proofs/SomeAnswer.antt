@@ -12,7 +12,7 @@ use Rattle.cw_certs.specs.declared.moves.Move.{Move}
 use Rattle.cw_certs.specs.declared.moves.Move.TheVariants.{Skip, Try, Grant, Refuse, On, Left, Right, Opened, Failed, Stop}
 use Rattle.cw_text.specs.Lines.{states_line}
 use Rattle.cw_text.specs.Moves.{IsEnvironments}
-use Rattle.cw_text.proofs.Names.{move_of, told}
+use Rattle.cw_text.proofs.Names.{move_of, named_back}
 use Rattle.cw_audit_table.specs.Tables.{PlainRow, PlainGroup, Audit}
 use Rattle.cw_text_lines.proofs.Starts.{first_line, line_end}
 use Rattle.cw_audit_text.specs.declared.text_line.TextLine.{TextLine}
@@ -68,7 +68,7 @@ at_decided text = below _ (λ p. below _ (λ x. below _ (λ a. same_text (line_t
 
 move_is : (by : Move) → move_of (line_text (Go by)) ≡ by
 unfolding line_text
-move_is by = told by
+move_is by = named_back by
 
 moves_fit : (by : Move) → Decided (IsEnvironments by)
 moves_fit Grant = inl tt

@@ -13,7 +13,7 @@ use Rattle.cw_text.specs.declared.fault.TextFault.{TextFault}
 use Rattle.cw_text.specs.declared.fault.TextFault.TheVariants.{Line, Order, Limit}
 use Rattle.cw_text.specs.Lines.{IsFree, fields_by, set_text, IsSetIn, Reads, states_line, end_line}
 use Rattle.cw_text.specs.Moves.{move_name, IsEnvironments}
-use Rattle.cw_text.proofs.Names.{move_of, told}
+use Rattle.cw_text.proofs.Names.{move_of, named_back}
 use Rattle.cw_text_lines.proofs.Starts.{first_line}
 use Rattle.cw_strategy_text.specs.declared.kind.RowKind.{RowKind}
 use Rattle.cw_strategy_text.specs.declared.kind.RowKind.TheVariants as kind
@@ -164,7 +164,7 @@ move_readable field =
     ]
   where
     one : (by : Move) → move_name by ≡ field → by ≡ move_of field
-    one by is = sym (told by) ∙ ap move_of is
+    one by is = sym (named_back by) ∙ ap move_of is
 
 kind_readable : (field : List ℕ) → Readable FitsKind kind_field field
 kind_readable field =

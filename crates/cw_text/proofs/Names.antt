@@ -1,4 +1,4 @@
--- Names tell their moves.
+-- The move of a name is the one that has the name.
 use Rattle.std.proofs.Common.{◌≡◌, ℕ, cond, List, refl}
 use Rattle.std.specs.Prelude.{codes}
 use Rattle.std.specs.Str.{bytes_eq}
@@ -13,15 +13,15 @@ move_of w =
     (cond (bytes_eq w (codes "refuse")) Refuse (cond (bytes_eq w (codes "on")) On (cond (bytes_eq w (codes "left")) Left
     (cond (bytes_eq w (codes "right")) Right (cond (bytes_eq w (codes "opened")) Opened (cond (bytes_eq w (codes "failed")) Failed Stop))))))))
 
-pub told : (by : Move) → move_of (move_name by) ≡ by
+pub named_back : (by : Move) → move_of (move_name by) ≡ by
 unfolding move_of
-told Skip = refl
-told Try = refl
-told Grant = refl
-told Refuse = refl
-told On = refl
-told Left = refl
-told Right = refl
-told Opened = refl
-told Failed = refl
-told Stop = refl
+named_back Skip = refl
+named_back Try = refl
+named_back Grant = refl
+named_back Refuse = refl
+named_back On = refl
+named_back Left = refl
+named_back Right = refl
+named_back Opened = refl
+named_back Failed = refl
+named_back Stop = refl

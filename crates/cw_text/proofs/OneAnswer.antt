@@ -7,16 +7,16 @@ use Rattle.std.proofs.lemmas.List.Elements.{All-head, All-tail, Contains-append_
 use Rattle.cw_certs.specs.declared.moves.Move.{Move}
 use Rattle.cw_text.specs.declared.fault.TextFault.TheVariants as fault
 use Rattle.cw_text.specs.Moves.{move_name}
-use Rattle.cw_text.proofs.Names.{move_of, told}
+use Rattle.cw_text.proofs.Names.{move_of, named_back}
 use Rattle.cw_text.specs.Tapes.{fields, lines, IsIn, AreNames, IsTape, IsOther, IsFirstOther, OneAnswer}
 
-all_told : (moves : List Move) → map move_of (map move_name moves) ≡ moves
-all_told [] = refl
-all_told (by ∷ moves) = ap₂ (λ (x : Move) (xs : List Move). x ∷ xs) (told by) (all_told moves)
+all_named_back : (moves : List Move) → map move_of (map move_name moves) ≡ moves
+all_named_back [] = refl
+all_named_back (by ∷ moves) = ap₂ (λ (x : Move) (xs : List Move). x ∷ xs) (named_back by) (all_named_back moves)
 
 module _ (play : Bool) where
   one_tape : (names : List (List ℕ)) (xs ys : List Move) → AreNames play names xs → AreNames play names ys → xs ≡ ys
-  one_tape names xs ys h k = sym (all_told xs) ∙ ap (map move_of) (sym h.named ∙ k.named) ∙ all_told ys
+  one_tape names xs ys h k = sym (all_named_back xs) ∙ ap (map move_of) (sym h.named ∙ k.named) ∙ all_named_back ys
 
   -- a field among names names a move
   named_in : (moves : List Move) (field : List ℕ) → Contains (map move_name moves) field → All (IsIn play) moves → (by : Move) × IsIn play by × (move_name by ≡ field)

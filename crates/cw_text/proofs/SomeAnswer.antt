@@ -14,7 +14,7 @@ use Rattle.cw_text.specs.declared.fault.TextFault.{TextFault}
 use Rattle.cw_text.specs.declared.fault.TextFault.TheVariants as fault
 use Rattle.cw_text.specs.Moves.{move_name, IsWeavers, IsEnvironments}
 use Rattle.cw_text.specs.Tapes.{fields, lines, IsIn, AreNames, IsOther, IsAnswer}
-use Rattle.cw_text.proofs.Names.{move_of, told}
+use Rattle.cw_text.proofs.Names.{move_of, named_back}
 
 weavers_or_not : (by : Move) → IsWeavers by ⊎ (IsWeavers by → ⊥)
 weavers_or_not Skip = inl tt
@@ -44,7 +44,7 @@ module _ (play : Bool) where
     where
       -- a move with this name is the one that the field gives
       only : (by : Move) → move_name by ≡ field → move_of field ≡ by
-      only by e = ap move_of (sym e) ∙ told by
+      only by e = ap move_of (sym e) ∙ named_back by
 
       go : IsIn play (move_of field) ⊎ (IsIn play (move_of field) → ⊥) → (b : Bool) → bytes_eq (move_name (move_of field)) field ≡ b → Named field ⊎ IsOther play field
       go (inl may) true e = inl (move_of field, may, (bytes_eq-Decides (move_name (move_of field)) field).0 e)
