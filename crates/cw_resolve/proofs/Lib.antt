@@ -1,4 +1,4 @@
--- What expressions do, the forms of statements, names by their places.
+-- What expressions do, the forms of statements, names by their indices.
 pub mod Acting
 pub mod Shapes
 pub mod Bounds
