@@ -1,5 +1,5 @@
 -- Working definitions, which only the contracts of the reader's parts and proofs use: a table in the making.
-use Rattle.std.specs.Prelude.{◌≡◌, ◌≢◌, ℕ, ◌-◌, ◌==◌, ◌&&◌, Bool, true, false, Option, None, Some, IfSome, IfNone, cond, codes, List, [], ◌∷◌, ◌++◌, map, length, slice_get, Result, Ok, Err, ◌+◌, ◌^◌, ◌<◌, ◌≤◌}
+use Rattle.std.specs.Prelude.{◌≡◌, ◌≢◌, ℕ, ◌-◌, ◌==◌, ◌&&◌, Bool, true, false, Option, None, Some, IfSome, IfNone, codes, List, [], ◌∷◌, ◌++◌, map, length, slice_get, Result, Ok, Err, ◌+◌, ◌^◌, ◌<◌, ◌≤◌}
 use Rattle.std.specs.declared.cmp.Ordering.{Ordering}
 use Rattle.std.specs.Ordering.{is_lt}
 use Rattle.cw_core.specs.declared.ids.MemId.{MemId}
@@ -7,7 +7,6 @@ use Rattle.cw_certs.specs.Ascending.{mem_cmp, live_cmp, try_cmp, at_cmp, open_cm
 use Rattle.cw_certs.specs.Tables.{Table, table_with}
 use Rattle.std.specs.List.{AllByRecursion}
 use Rattle.std.specs.Fmt.{decimal}
-use Rattle.std.specs.Str.{bytes_eq}
 use Rattle.cw_rights.specs.Policies.{PlainPolicy}
 use Rattle.cw_certs.specs.Ascending.{Ascends}
 use Rattle.cw_text.specs.Lines.{line, IsFree}
@@ -96,10 +95,6 @@ abbrev pub row_names : List (List ℕ × RowKind)
 row_names =
     (codes "CW_MEM", kind.Memory) ∷ (codes "CW_LIVE", kind.Live) ∷ (codes "CW_TRY", kind.Try) ∷ (codes "CW_AT", kind.At)
     ∷ (codes "CW_OPENED", kind.Opened) ∷ (codes "CW_CLOSED", kind.Closed) ∷ (codes "CW_INTO", kind.Into) ∷ (codes "CW_BACK", kind.Back) ∷ []
-
-abbrev pub kind_by : List (List ℕ × RowKind) → List ℕ → Option RowKind
-kind_by [] name = None
-kind_by (k ∷ rest) name = cond (bytes_eq name k.0) (Some k.1) (kind_by rest name)
 
 -- a name before `(`, and what stands from there to a `)` at the end
 pub record IsCalled (line : List ℕ) (result : Option (List ℕ × List ℕ)) : Type 0 where
