@@ -1,41 +1,24 @@
 -- A line's kind by the word of its first field.
-use Rattle.std.proofs.Common.{◌≡◌, ◌≢◌, refl, ap, sym, ◌∙◌, subst, ℕ, List, [], ◌∷◌, length, Bool, true, false, cond, Option, Some, None}
-use Rattle.std.specs.Str.{bytes_eq}
-use Rattle.std.proofs.lemmas.Option.{none-some, same_Some}
-use Rattle.std.proofs.lemmas.Slice.Eq.{HasBytesAt, text_from_reads, bytes_eq-Decides}
+use Rattle.std.proofs.Common.{◌≡◌, ◌≢◌, refl, ap, sym, ◌∙◌, ℕ, List, Some, None}
+use Rattle.std.specs.List.{AllByRecursion}
+use Rattle.std.proofs.lemmas.Option.{none-some}
 use Rattle.cw_certs.specs.declared.moves.Move.{Move}
 use Rattle.cw_text.specs.Lines.{Reads}
 use Rattle.cw_text.specs.Moves.{move_name, IsEnvironments}
+use Rattle.cw_text.specs.Kinds.{kind_by}
+use Rattle.cw_text.proofs.Kinds.{kind_found}
 use Rattle.cw_audit_text.specs.declared.text_line.LineKind.{LineKind}
 use Rattle.cw_audit_text.specs.declared.text_line.LineKind.TheVariants as kind
-use Rattle.cw_audit_text.specs.Kinds.{kind_field, word_kinds, kind_by, FitsKind}
-
--- a field that was read byte by byte
-pub kind_read : (field read : List ℕ) → length field ≡ length read → HasBytesAt field 0 read → kind_by word_kinds read ≡ kind_by word_kinds field
-kind_read field read len bytes = ap (kind_by word_kinds) (sym (text_from_reads field read len bytes))
+use Rattle.cw_audit_text.specs.Kinds.{kind_field, word_kinds, FitsKind}
 
 abbrev IsKindOf : List ℕ → LineKind → Type 0
 IsKindOf field k = FitsKind k × (kind_field k ≡ field)
 
-abbrev AllKinds : List (List ℕ × LineKind) → Type 0
-AllKinds [] = Unit {0}
-AllKinds (r ∷ rest) = IsKindOf r.0 r.1 × AllKinds rest
-
-kind_cond : (b : Bool) (field word : List ℕ) (m k : LineKind) (o : Option LineKind) → (b ≡ true → field ≡ word) → IsKindOf word m → (o ≡ Some k → IsKindOf field k)
-    → cond b (Some m) o ≡ Some k → IsKindOf field k
-kind_cond true field word m k o same is h e = subst (IsKindOf field) (same_Some m k e) (is.0, is.1 ∙ sym (same refl))
-kind_cond false field word m k o same is h e = h e
-
-kind_found : (rs : List (List ℕ × LineKind)) (field : List ℕ) (k : LineKind) → AllKinds rs → kind_by rs field ≡ Some k → IsKindOf field k
-kind_found [] field k all e = absurd (none-some k e)
-kind_found (r ∷ rest) field k all e =
-    kind_cond (bytes_eq field r.0) field r.0 r.1 k (kind_by rest field) ((bytes_eq-Decides field r.0).0) all.0 (kind_found rest field k all.1) e
-
-all_kinds : AllKinds word_kinds
+all_kinds : AllByRecursion (λ (r : List ℕ × LineKind). IsKindOf r.0 r.1) word_kinds
 all_kinds = ((tt, refl), ((tt, refl), ((tt, refl), ((tt, refl), ((tt, refl), ((tt, refl), ((tt, refl), tt)))))))
 
 pub word_kind : (field : List ℕ) (k : LineKind) → Some k ≡ kind_by word_kinds field → Reads FitsKind kind_field field (Some k)
-word_kind field k e = record { some = kind_found word_kinds field k all_kinds (sym e); none = tt }
+word_kind field k e = record { some = kind_found IsKindOf word_kinds field k all_kinds (sym e); none = tt }
 
 pub move_kind : (field : List ℕ) (by : Move) → IsEnvironments by → move_name by ≡ field → Reads FitsKind kind_field field (Some (kind.Go by))
 move_kind field by fits e = record { some = (fits, e); none = tt }

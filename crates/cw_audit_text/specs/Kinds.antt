@@ -1,6 +1,5 @@
 -- Working definitions: a line by its first field.
-use Rattle.std.specs.Prelude.{◌≡◌, ℕ, List, [], ◌∷◌, codes, Option, Some, None, cond}
-use Rattle.std.specs.Str.{bytes_eq}
+use Rattle.std.specs.Prelude.{◌≡◌, ℕ, List, [], ◌∷◌, codes}
 use Rattle.std.specs.Fmt.{decimal}
 use Rattle.cw_text.specs.Moves.{move_name, IsEnvironments}
 use Rattle.cw_audit_text.specs.declared.text_line.TextLine.{TextLine}
@@ -34,10 +33,6 @@ abbrev pub word_kinds : List (List ℕ × LineKind)
 word_kinds =
     (codes "in", kind.In) ∷ (codes "at", kind.At) ∷ (codes "capweave", kind.Head) ∷ (codes "states", kind.States)
     ∷ (codes "meets", kind.Meets) ∷ (codes "violates", kind.Violates) ∷ (codes "end", kind.End) ∷ []
-
-abbrev pub kind_by : List (List ℕ × LineKind) → List ℕ → Option LineKind
-kind_by [] field = None
-kind_by (k ∷ rest) field = cond (bytes_eq field k.0) (Some k.1) (kind_by rest field)
 
 abbrev pub rest_fields : TextLine → List (List ℕ)
 rest_fields Head = codes "audit" ∷ codes "1" ∷ []
