@@ -67,13 +67,7 @@ parts p t = simp picked-append
 
 pub mems_in : Row → Option (StateId × ℕ)
 mems_in (Memory n x) = Some x
-mems_in (Live x) = None
-mems_in (Try x) = None
-mems_in (At x) = None
-mems_in (Opened x) = None
-mems_in (Closed x) = None
-mems_in (Into x) = None
-mems_in (Back x) = None
+mems_in _ = None
 
 pub mems_are : (t : Table) → picked mems_in (rows_of t) ≡ t.mems
 unfolding mems_in
@@ -89,14 +83,8 @@ mems_are t = parts mems_in t ∙ rw (
 ) (append-nil t.mems)
 
 pub live_in : Row → Option (PosId × MemId)
-live_in (Memory n x) = None
 live_in (Live x) = Some x
-live_in (Try x) = None
-live_in (At x) = None
-live_in (Opened x) = None
-live_in (Closed x) = None
-live_in (Into x) = None
-live_in (Back x) = None
+live_in _ = None
 
 pub live_are : (t : Table) → picked live_in (rows_of t) ≡ t.live
 unfolding live_in
@@ -112,14 +100,8 @@ live_are t = parts live_in t ∙ rw (
 ) (append-nil t.live)
 
 pub tries_in : Row → Option (TryRow)
-tries_in (Memory n x) = None
-tries_in (Live x) = None
 tries_in (Try x) = Some x
-tries_in (At x) = None
-tries_in (Opened x) = None
-tries_in (Closed x) = None
-tries_in (Into x) = None
-tries_in (Back x) = None
+tries_in _ = None
 
 pub tries_are : (t : Table) → picked tries_in (rows_of t) ≡ t.tries
 unfolding tries_in
@@ -135,14 +117,8 @@ tries_are t = parts tries_in t ∙ rw (
 ) (append-nil t.tries)
 
 pub ats_in : Row → Option (AtRow)
-ats_in (Memory n x) = None
-ats_in (Live x) = None
-ats_in (Try x) = None
 ats_in (At x) = Some x
-ats_in (Opened x) = None
-ats_in (Closed x) = None
-ats_in (Into x) = None
-ats_in (Back x) = None
+ats_in _ = None
 
 pub ats_are : (t : Table) → picked ats_in (rows_of t) ≡ t.ats
 unfolding ats_in
@@ -158,14 +134,8 @@ ats_are t = parts ats_in t ∙ rw (
 ) (append-nil t.ats)
 
 pub opened_in : Row → Option (OpenRow)
-opened_in (Memory n x) = None
-opened_in (Live x) = None
-opened_in (Try x) = None
-opened_in (At x) = None
 opened_in (Opened x) = Some x
-opened_in (Closed x) = None
-opened_in (Into x) = None
-opened_in (Back x) = None
+opened_in _ = None
 
 pub opened_are : (t : Table) → picked opened_in (rows_of t) ≡ t.opened
 unfolding opened_in
@@ -181,14 +151,8 @@ opened_are t = parts opened_in t ∙ rw (
 ) (append-nil t.opened)
 
 pub closed_in : Row → Option (AtRow)
-closed_in (Memory n x) = None
-closed_in (Live x) = None
-closed_in (Try x) = None
-closed_in (At x) = None
-closed_in (Opened x) = None
 closed_in (Closed x) = Some x
-closed_in (Into x) = None
-closed_in (Back x) = None
+closed_in _ = None
 
 pub closed_are : (t : Table) → picked closed_in (rows_of t) ≡ t.closed
 unfolding closed_in
@@ -204,14 +168,8 @@ closed_are t = parts closed_in t ∙ rw (
 ) (append-nil t.closed)
 
 pub into_in : Row → Option (IntoRow)
-into_in (Memory n x) = None
-into_in (Live x) = None
-into_in (Try x) = None
-into_in (At x) = None
-into_in (Opened x) = None
-into_in (Closed x) = None
 into_in (Into x) = Some x
-into_in (Back x) = None
+into_in _ = None
 
 pub into_are : (t : Table) → picked into_in (rows_of t) ≡ t.into
 unfolding into_in
@@ -227,14 +185,8 @@ into_are t = parts into_in t ∙ rw (
 ) (append-nil t.into)
 
 pub back_in : Row → Option (BackRow)
-back_in (Memory n x) = None
-back_in (Live x) = None
-back_in (Try x) = None
-back_in (At x) = None
-back_in (Opened x) = None
-back_in (Closed x) = None
-back_in (Into x) = None
 back_in (Back x) = Some x
+back_in _ = None
 
 pub back_are : (t : Table) → picked back_in (rows_of t) ≡ t.back
 unfolding back_in
@@ -251,13 +203,7 @@ back_are t = parts back_in t ∙ rw (
 
 numbers_in : Row → Option ℕ
 numbers_in (Memory n x) = Some n
-numbers_in (Live x) = None
-numbers_in (Try x) = None
-numbers_in (At x) = None
-numbers_in (Opened x) = None
-numbers_in (Closed x) = None
-numbers_in (Into x) = None
-numbers_in (Back x) = None
+numbers_in _ = None
 
 -- numbers from k on, one for each memory
 abbrev counted : ℕ → List (StateId × ℕ) → List ℕ
