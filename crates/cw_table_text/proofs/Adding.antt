@@ -286,80 +286,38 @@ none_picked p k h (x ∷ xs) all = rw (h x all.0) (none_picked p k h xs all.1)
 
 live_absent : (k : ℕ) → k < 1 → (x : Row) → kind x ≤ k → live_in x ≡ None
 unfolding kind live_in
-live_absent k low (Memory n x) le = refl
 live_absent k low (Live x) le = absurd (omega (arith, low, le))
-live_absent k low (Try x) le = refl
-live_absent k low (At x) le = refl
-live_absent k low (Opened x) le = refl
-live_absent k low (Closed x) le = refl
-live_absent k low (Into x) le = refl
-live_absent k low (Back x) le = refl
+live_absent k low _ le = refl
 
 tries_absent : (k : ℕ) → k < 2 → (x : Row) → kind x ≤ k → tries_in x ≡ None
 unfolding kind tries_in
-tries_absent k low (Memory n x) le = refl
-tries_absent k low (Live x) le = refl
 tries_absent k low (Try x) le = absurd (omega (arith, low, le))
-tries_absent k low (At x) le = refl
-tries_absent k low (Opened x) le = refl
-tries_absent k low (Closed x) le = refl
-tries_absent k low (Into x) le = refl
-tries_absent k low (Back x) le = refl
+tries_absent k low _ le = refl
 
 ats_absent : (k : ℕ) → k < 3 → (x : Row) → kind x ≤ k → ats_in x ≡ None
 unfolding kind ats_in
-ats_absent k low (Memory n x) le = refl
-ats_absent k low (Live x) le = refl
-ats_absent k low (Try x) le = refl
 ats_absent k low (At x) le = absurd (omega (arith, low, le))
-ats_absent k low (Opened x) le = refl
-ats_absent k low (Closed x) le = refl
-ats_absent k low (Into x) le = refl
-ats_absent k low (Back x) le = refl
+ats_absent k low _ le = refl
 
 opened_absent : (k : ℕ) → k < 4 → (x : Row) → kind x ≤ k → opened_in x ≡ None
 unfolding kind opened_in
-opened_absent k low (Memory n x) le = refl
-opened_absent k low (Live x) le = refl
-opened_absent k low (Try x) le = refl
-opened_absent k low (At x) le = refl
 opened_absent k low (Opened x) le = absurd (omega (arith, low, le))
-opened_absent k low (Closed x) le = refl
-opened_absent k low (Into x) le = refl
-opened_absent k low (Back x) le = refl
+opened_absent k low _ le = refl
 
 closed_absent : (k : ℕ) → k < 5 → (x : Row) → kind x ≤ k → closed_in x ≡ None
 unfolding kind closed_in
-closed_absent k low (Memory n x) le = refl
-closed_absent k low (Live x) le = refl
-closed_absent k low (Try x) le = refl
-closed_absent k low (At x) le = refl
-closed_absent k low (Opened x) le = refl
 closed_absent k low (Closed x) le = absurd (omega (arith, low, le))
-closed_absent k low (Into x) le = refl
-closed_absent k low (Back x) le = refl
+closed_absent k low _ le = refl
 
 into_absent : (k : ℕ) → k < 6 → (x : Row) → kind x ≤ k → into_in x ≡ None
 unfolding kind into_in
-into_absent k low (Memory n x) le = refl
-into_absent k low (Live x) le = refl
-into_absent k low (Try x) le = refl
-into_absent k low (At x) le = refl
-into_absent k low (Opened x) le = refl
-into_absent k low (Closed x) le = refl
 into_absent k low (Into x) le = absurd (omega (arith, low, le))
-into_absent k low (Back x) le = refl
+into_absent k low _ le = refl
 
 back_absent : (k : ℕ) → k < 7 → (x : Row) → kind x ≤ k → back_in x ≡ None
 unfolding kind back_in
-back_absent k low (Memory n x) le = refl
-back_absent k low (Live x) le = refl
-back_absent k low (Try x) le = refl
-back_absent k low (At x) le = refl
-back_absent k low (Opened x) le = refl
-back_absent k low (Closed x) le = refl
-back_absent k low (Into x) le = refl
 back_absent k low (Back x) le = absurd (omega (arith, low, le))
+back_absent k low _ le = refl
 
 -- ---- the row that stands next
 
