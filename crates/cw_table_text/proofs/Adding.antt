@@ -332,25 +332,28 @@ is_nil_then (x ∷ xs) e = let no_more = eqb-true (length (x ∷ xs)) 0 e in abs
 abbrev UpTo : ℕ → Table → Type 0
 UpTo k t = AllByRecursion (λ x. kind x ≤ k) (rows_of t)
 
+none_listed : {A : Type 0} (p : Row → Option A) (k : ℕ) → ((x : Row) → kind x ≤ k → p x ≡ None) → (t : Table) (xs : List A) → picked p (rows_of t) ≡ xs → UpTo k t → is_nil xs ≡ true
+none_listed p k absent t xs are up = nil_is xs (sym are ∙ none_picked p k absent (rows_of t) up)
+
 no_into : (k : ℕ) → k < 6 → (t : Table) → UpTo k t → none_from_into t ≡ true
 no_into k low t up = both_true _ _
-    (nil_is t.into (sym (into_are t) ∙ none_picked into_in k (into_absent k low) (rows_of t) up))
-    (nil_is t.back (sym (back_are t) ∙ none_picked back_in k (back_absent k (omega (arith, low))) (rows_of t) up))
+    (none_listed into_in k (into_absent k low) t t.into (into_are t) up)
+    (none_listed back_in k (back_absent k (omega (arith, low))) t t.back (back_are t) up)
 
 no_closed : (k : ℕ) → k < 5 → (t : Table) → UpTo k t → is_nil t.closed ≡ true
-no_closed k low t up = nil_is t.closed (sym (closed_are t) ∙ none_picked closed_in k (closed_absent k low) (rows_of t) up)
+no_closed k low t up = none_listed closed_in k (closed_absent k low) t t.closed (closed_are t) up
 
 no_opened : (k : ℕ) → k < 4 → (t : Table) → UpTo k t → none_from_opened t ≡ true
 no_opened k low t up = both_true _ _
-    (nil_is t.opened (sym (opened_are t) ∙ none_picked opened_in k (opened_absent k low) (rows_of t) up))
+    (none_listed opened_in k (opened_absent k low) t t.opened (opened_are t) up)
     (both_true _ _ (no_closed k (omega (arith, low)) t up) (no_into k (omega (arith, low)) t up))
 
 no_ats : (k : ℕ) → k < 3 → (t : Table) → UpTo k t → is_nil t.ats ≡ true
-no_ats k low t up = nil_is t.ats (sym (ats_are t) ∙ none_picked ats_in k (ats_absent k low) (rows_of t) up)
+no_ats k low t up = none_listed ats_in k (ats_absent k low) t t.ats (ats_are t) up
 
 no_tries : (k : ℕ) → k < 2 → (t : Table) → UpTo k t → none_from_tries t ≡ true
 no_tries k low t up = both_true _ _
-    (nil_is t.tries (sym (tries_are t) ∙ none_picked tries_in k (tries_absent k low) (rows_of t) up))
+    (none_listed tries_in k (tries_absent k low) t t.tries (tries_are t) up)
     (both_true _ _ (no_ats k (omega (arith, low)) t up) (no_opened k (omega (arith, low)) t up))
 
 listed : {A : Type 0} (p : Row → Option A) (t u : Table) (row : Row) (rest : List Row) (xs ys : List A) (x : A) → picked p (rows_of t) ≡ xs → picked p (rows_of u) ≡ ys → p row ≡ Some x
@@ -370,7 +373,7 @@ next_true t u (Memory n x) rest a e =
     both_true _ _ (eq-eqb n (length t.mems) (omega (arith, number)))
     (both_true _ _ (above_from_sorted mem_cmp t.mems x (picked mems_in rest)
     (subst (IsStrictlySortedBy mem_cmp) (listed mems_in t u (Memory n x) rest t.mems u.mems x (mems_are t) (mems_are u) refl e) a.mems))
-    (both_true _ _ (nil_is t.live (sym (live_are t) ∙ none_picked live_in 0 (live_absent 0 (omega arith)) (rows_of t) up)) (no_tries 0 (omega arith) t up)))
+    (both_true _ _ (none_listed live_in 0 (live_absent 0 (omega arith)) t t.live (live_are t) up) (no_tries 0 (omega arith) t up)))
 next_true t u (Live x) rest a e =
     let up = up_to t u (Live x) rest e in
     both_true _ _ (above_from_sorted live_cmp t.live x (picked live_in rest)
@@ -397,7 +400,7 @@ next_true t u (Into x) rest a e =
     let up = up_to t u (Into x) rest e in
     both_true _ _ (above_from_sorted into_cmp t.into x (picked into_in rest)
     (subst (IsStrictlySortedBy into_cmp) (listed into_in t u (Into x) rest t.into u.into x (into_are t) (into_are u) refl e) a.into))
-    (nil_is t.back (sym (back_are t) ∙ none_picked back_in 6 (back_absent 6 (omega arith)) (rows_of t) up))
+    (none_listed back_in 6 (back_absent 6 (omega arith)) t t.back (back_are t) up)
 next_true t u (Back x) rest a e = above_from_sorted back_cmp t.back x (picked back_in rest)
     (subst (IsStrictlySortedBy back_cmp) (listed back_in t u (Back x) rest t.back u.back x (back_are t) (back_are u) refl e) a.back)
 
