@@ -3,6 +3,7 @@ use Rattle.std.proofs.Common.{◌≡◌, ℕ, ◌+◌, ◌<◌, ◌≤◌, ◌&&
 use Rattle.std.specs.Prelude.{Option, None, Some}
 use Rattle.std.specs.List.{AllByRecursion}
 use Rattle.std.specs.List.Sorted.{IsStrictlySortedBy}
+use Rattle.std.specs.declared.cmp.Ordering.{Ordering}
 use Rattle.std.proofs.lemmas.Bool.{eqb-true}
 use Rattle.std.proofs.lemmas.List.{map-append}
 use Rattle.cw_core.specs.declared.ids.StateId.{StateId}
@@ -361,6 +362,12 @@ listed : {A : Type 0} (p : Row → Option A) (t u : Table) (row : Row) (rest : L
 listed p t u row rest xs ys x is other here e =
     sym other ∙ ap (picked p) e ∙ picked-append p (rows_of t) (row ∷ rest) ∙ ap (λ zs. zs ++ joined_to (p row) (picked p rest)) is ∙ ap (λ o. xs ++ joined_to o (picked p rest)) here
 
+-- a row behind those of a table, in another whose list of its kind ascends, stands above the table's list
+stands_above : {A : Type 0} (cmp : A → A → Ordering) (p : Row → Option A) (t u : Table) (row : Row) (rest : List Row) (xs ys : List A) (x : A) → picked p (rows_of t) ≡ xs → picked p (rows_of u) ≡ ys
+    → p row ≡ Some x → rows_of u ≡ rows_of t ++ row ∷ rest → IsStrictlySortedBy cmp ys → is_above cmp xs x ≡ true
+stands_above cmp p t u row rest xs ys x is other here e sorted =
+    above_from_sorted cmp xs x (picked p rest) (subst (IsStrictlySortedBy cmp) (listed p t u row rest xs ys x is other here e) sorted)
+
 up_to : (t u : Table) (row : Row) (rest : List Row) → rows_of u ≡ rows_of t ++ row ∷ rest → AllByRecursion (λ x. kind x ≤ kind row) (rows_of t)
 up_to t u row rest e = before_row 0 (rows_of t) row rest (subst (Rising 0) e (rows_rise u))
 
@@ -371,38 +378,30 @@ next_true t u (Memory n x) rest a e =
     let up = up_to t u (Memory n x) rest e in
     let number = counted_next 0 u.mems t.mems n (picked numbers_in rest) (listed numbers_in t u (Memory n x) rest (counted 0 t.mems) (counted 0 u.mems) n (numbers_are t) (numbers_are u) refl e) in
     both_true _ _ (eq-eqb n (length t.mems) (omega (arith, number)))
-    (both_true _ _ (above_from_sorted mem_cmp t.mems x (picked mems_in rest)
-    (subst (IsStrictlySortedBy mem_cmp) (listed mems_in t u (Memory n x) rest t.mems u.mems x (mems_are t) (mems_are u) refl e) a.mems))
+    (both_true _ _ (stands_above mem_cmp mems_in t u (Memory n x) rest t.mems u.mems x (mems_are t) (mems_are u) refl e a.mems)
     (both_true _ _ (none_listed live_in 0 (live_absent 0 (omega arith)) t t.live (live_are t) up) (no_tries 0 (omega arith) t up)))
 next_true t u (Live x) rest a e =
     let up = up_to t u (Live x) rest e in
-    both_true _ _ (above_from_sorted live_cmp t.live x (picked live_in rest)
-    (subst (IsStrictlySortedBy live_cmp) (listed live_in t u (Live x) rest t.live u.live x (live_are t) (live_are u) refl e) a.live)) (no_tries 1 (omega arith) t up)
+    both_true _ _ (stands_above live_cmp live_in t u (Live x) rest t.live u.live x (live_are t) (live_are u) refl e a.live) (no_tries 1 (omega arith) t up)
 next_true t u (Try x) rest a e =
     let up = up_to t u (Try x) rest e in
-    both_true _ _ (above_from_sorted try_cmp t.tries x (picked tries_in rest)
-    (subst (IsStrictlySortedBy try_cmp) (listed tries_in t u (Try x) rest t.tries u.tries x (tries_are t) (tries_are u) refl e) a.tries))
+    both_true _ _ (stands_above try_cmp tries_in t u (Try x) rest t.tries u.tries x (tries_are t) (tries_are u) refl e a.tries)
     (both_true _ _ (no_ats 2 (omega arith) t up) (no_opened 2 (omega arith) t up))
 next_true t u (At x) rest a e =
     let up = up_to t u (At x) rest e in
-    both_true _ _ (above_from_sorted at_cmp t.ats x (picked ats_in rest)
-    (subst (IsStrictlySortedBy at_cmp) (listed ats_in t u (At x) rest t.ats u.ats x (ats_are t) (ats_are u) refl e) a.ats)) (no_opened 3 (omega arith) t up)
+    both_true _ _ (stands_above at_cmp ats_in t u (At x) rest t.ats u.ats x (ats_are t) (ats_are u) refl e a.ats) (no_opened 3 (omega arith) t up)
 next_true t u (Opened x) rest a e =
     let up = up_to t u (Opened x) rest e in
-    both_true _ _ (above_from_sorted open_cmp t.opened x (picked opened_in rest)
-    (subst (IsStrictlySortedBy open_cmp) (listed opened_in t u (Opened x) rest t.opened u.opened x (opened_are t) (opened_are u) refl e) a.opened))
+    both_true _ _ (stands_above open_cmp opened_in t u (Opened x) rest t.opened u.opened x (opened_are t) (opened_are u) refl e a.opened)
     (both_true _ _ (no_closed 4 (omega arith) t up) (no_into 4 (omega arith) t up))
 next_true t u (Closed x) rest a e =
     let up = up_to t u (Closed x) rest e in
-    both_true _ _ (above_from_sorted at_cmp t.closed x (picked closed_in rest)
-    (subst (IsStrictlySortedBy at_cmp) (listed closed_in t u (Closed x) rest t.closed u.closed x (closed_are t) (closed_are u) refl e) a.closed)) (no_into 5 (omega arith) t up)
+    both_true _ _ (stands_above at_cmp closed_in t u (Closed x) rest t.closed u.closed x (closed_are t) (closed_are u) refl e a.closed) (no_into 5 (omega arith) t up)
 next_true t u (Into x) rest a e =
     let up = up_to t u (Into x) rest e in
-    both_true _ _ (above_from_sorted into_cmp t.into x (picked into_in rest)
-    (subst (IsStrictlySortedBy into_cmp) (listed into_in t u (Into x) rest t.into u.into x (into_are t) (into_are u) refl e) a.into))
+    both_true _ _ (stands_above into_cmp into_in t u (Into x) rest t.into u.into x (into_are t) (into_are u) refl e a.into)
     (none_listed back_in 6 (back_absent 6 (omega arith)) t t.back (back_are t) up)
-next_true t u (Back x) rest a e = above_from_sorted back_cmp t.back x (picked back_in rest)
-    (subst (IsStrictlySortedBy back_cmp) (listed back_in t u (Back x) rest t.back u.back x (back_are t) (back_are u) refl e) a.back)
+next_true t u (Back x) rest a e = stands_above back_cmp back_in t u (Back x) rest t.back u.back x (back_are t) (back_are u) refl e a.back
 
 pub memories_more : (k : ℕ) (xs : List (StateId × ℕ)) (x : StateId × ℕ) → memories k (xs ++ x ∷ []) ≡ memories k xs ++ Memory (k + length xs) x ∷ []
 memories_more k [] x = let e : k + 0 ≡ k = omega arith in rw e refl
