@@ -502,91 +502,23 @@ rows_next t (Closed x) e =
 rows_next t (Into x) e = into_more t x (is_nil_then t.back (both_pass (is_above into_cmp t.into x) _ e).1)
 rows_next t (Back x) e = back_more t x
 
+ascends_of : (t : Table) → IsStrictlySortedBy mem_cmp t.mems → IsStrictlySortedBy live_cmp t.live → IsStrictlySortedBy try_cmp t.tries → IsStrictlySortedBy at_cmp t.ats
+    → IsStrictlySortedBy open_cmp t.opened → IsStrictlySortedBy at_cmp t.closed → IsStrictlySortedBy into_cmp t.into → IsStrictlySortedBy back_cmp t.back → Ascends t
+ascends_of t ms ls ts hs os cs is bs = record { mems = ms; live = ls; tries = ts; ats = hs; opened = os; closed = cs; into = is; back = bs }
+
 -- and its lists ascend
 pub ascends_next : (t : Table) (row : Row) → is_next t row ≡ true → Ascends t → Ascends (with_row t row)
-ascends_next t (Memory n x) e a = record {
-  mems = sorted_push mem_total t.mems x a.mems (both_pass _ _ (both_pass (eqb n (length t.mems)) _ e).1).0;
-  live = a.live;
-  tries = a.tries;
-  ats = a.ats;
-  opened = a.opened;
-  closed = a.closed;
-  into = a.into;
-  back = a.back;
-}
-ascends_next t (Live x) e a = record {
-  mems = a.mems;
-  live = sorted_push live_total t.live x a.live (both_pass (is_above live_cmp t.live x) _ e).0;
-  tries = a.tries;
-  ats = a.ats;
-  opened = a.opened;
-  closed = a.closed;
-  into = a.into;
-  back = a.back;
-}
-ascends_next t (Try x) e a = record {
-  mems = a.mems;
-  live = a.live;
-  tries = sorted_push try_total t.tries x a.tries (both_pass (is_above try_cmp t.tries x) _ e).0;
-  ats = a.ats;
-  opened =
-      a.opened;
-  closed = a.closed;
-  into = a.into;
-  back = a.back;
-}
-ascends_next t (At x) e a = record {
-  mems = a.mems;
-  live = a.live;
-  tries = a.tries;
-  ats = sorted_push at_total t.ats x a.ats (both_pass (is_above at_cmp t.ats x) _ e).0;
-  opened =
-      a.opened;
-  closed = a.closed;
-  into = a.into;
-  back = a.back;
-}
-ascends_next t (Opened x) e a = record {
-  mems = a.mems;
-  live = a.live;
-  tries = a.tries;
-  ats = a.ats;
-  opened =
-      sorted_push open_total t.opened x a.opened (both_pass (is_above open_cmp t.opened x) _ e).0;
-  closed = a.closed;
-  into = a.into;
-  back = a.back;
-}
-ascends_next t (Closed x) e a = record {
-  mems = a.mems;
-  live = a.live;
-  tries = a.tries;
-  ats = a.ats;
-  opened = a.opened;
-  closed =
-      sorted_push at_total t.closed x a.closed (both_pass (is_above at_cmp t.closed x) _ e).0;
-  into = a.into;
-  back = a.back;
-}
-ascends_next t (Into x) e a = record {
-  mems = a.mems;
-  live = a.live;
-  tries = a.tries;
-  ats = a.ats;
-  opened = a.opened;
-  closed = a.closed;
-  into =
-      sorted_push into_total t.into x a.into (both_pass (is_above into_cmp t.into x) _ e).0;
-  back = a.back;
-}
-ascends_next t (Back x) e a = record {
-  mems = a.mems;
-  live = a.live;
-  tries = a.tries;
-  ats = a.ats;
-  opened = a.opened;
-  closed = a.closed;
-  into = a.into;
-  back =
-      sorted_push back_total t.back x a.back e;
-}
+ascends_next t (Memory n x) e a =
+    ascends_of (with_row t (Memory n x)) (sorted_push mem_total t.mems x a.mems (both_pass _ _ (both_pass (eqb n (length t.mems)) _ e).1).0) a.live a.tries a.ats a.opened a.closed a.into a.back
+ascends_next t (Live x) e a =
+    ascends_of (with_row t (Live x)) a.mems (sorted_push live_total t.live x a.live (both_pass (is_above live_cmp t.live x) _ e).0) a.tries a.ats a.opened a.closed a.into a.back
+ascends_next t (Try x) e a =
+    ascends_of (with_row t (Try x)) a.mems a.live (sorted_push try_total t.tries x a.tries (both_pass (is_above try_cmp t.tries x) _ e).0) a.ats a.opened a.closed a.into a.back
+ascends_next t (At x) e a = ascends_of (with_row t (At x)) a.mems a.live a.tries (sorted_push at_total t.ats x a.ats (both_pass (is_above at_cmp t.ats x) _ e).0) a.opened a.closed a.into a.back
+ascends_next t (Opened x) e a =
+    ascends_of (with_row t (Opened x)) a.mems a.live a.tries a.ats (sorted_push open_total t.opened x a.opened (both_pass (is_above open_cmp t.opened x) _ e).0) a.closed a.into a.back
+ascends_next t (Closed x) e a =
+    ascends_of (with_row t (Closed x)) a.mems a.live a.tries a.ats a.opened (sorted_push at_total t.closed x a.closed (both_pass (is_above at_cmp t.closed x) _ e).0) a.into a.back
+ascends_next t (Into x) e a =
+    ascends_of (with_row t (Into x)) a.mems a.live a.tries a.ats a.opened a.closed (sorted_push into_total t.into x a.into (both_pass (is_above into_cmp t.into x) _ e).0) a.back
+ascends_next t (Back x) e a = ascends_of (with_row t (Back x)) a.mems a.live a.tries a.ats a.opened a.closed a.into (sorted_push back_total t.back x a.back e)
