@@ -5,8 +5,8 @@ use Rattle.std.proofs.lemmas.Option.{none-some}
 use Rattle.cw_certs.specs.declared.moves.Move.{Move}
 use Rattle.cw_text.specs.Lines.{Reads}
 use Rattle.cw_text.specs.Moves.{move_name, IsEnvironments}
-use Rattle.cw_text.specs.Kinds.{kind_by}
-use Rattle.cw_text.proofs.Kinds.{kind_found}
+use Rattle.cw_text.specs.KindsByName.{kind_by}
+use Rattle.cw_text.proofs.KindsByName.{kind_found}
 use Rattle.cw_audit_text.specs.declared.text_line.LineKind.{LineKind}
 use Rattle.cw_audit_text.specs.declared.text_line.LineKind.TheVariants as kind
 use Rattle.cw_audit_text.specs.Kinds.{kind_field, word_kinds, FitsKind}

@@ -2,7 +2,7 @@
 
 ghost use Rattle.std.specs.Prelude.{◌≡◌, [], IfSome};
 ghost use Rattle.cw_text.specs.Lines.{Reads};
-ghost use Rattle.cw_text.specs.Kinds.{kind_by};
+ghost use Rattle.cw_text.specs.KindsByName.{kind_by};
 ghost use Rattle.cw_audit_text.specs.TextLines.{line_fields, line_text, FitsLine};
 ghost use Rattle.cw_audit_text.specs.Kinds.{kind_field, word_kinds, rest_fields, FitsKind, IsOf};
 ghost use Rattle.cw_audit_text.specs.declared.text_line.LineKind.TheVariants as kind;

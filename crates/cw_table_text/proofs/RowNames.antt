@@ -2,8 +2,8 @@
 use Rattle.std.proofs.Common.{◌≡◌, refl, ap, sym, ◌∙◌, subst, ℕ, List, Option, Some, None}
 use Rattle.std.specs.List.{AllByRecursion}
 use Rattle.std.proofs.lemmas.Option.{none-some}
-use Rattle.cw_text.specs.Kinds.{kind_by}
-use Rattle.cw_text.proofs.Kinds.{kind_found}
+use Rattle.cw_text.specs.KindsByName.{kind_by}
+use Rattle.cw_text.proofs.KindsByName.{kind_found}
 use Rattle.cw_table_text.specs.Rows.{name_of}
 use Rattle.cw_table_text.specs.Working.{TakesNamed, kind_name, row_names}
 use Rattle.cw_table_text.specs.declared.line.RowKind.{RowKind}

@@ -2,7 +2,7 @@
 
 ghost use Rattle.std.specs.Prelude.{◌≡◌, codes, option_map};
 ghost use Rattle.cw_text.specs.Lines.{Reads};
-ghost use Rattle.cw_text.specs.Kinds.{kind_by};
+ghost use Rattle.cw_text.specs.KindsByName.{kind_by};
 ghost use Rattle.cw_table_text.specs.Grammar.{Fits};
 ghost use Rattle.cw_table_text.specs.Rows.{row_text};
 ghost use Rattle.cw_table_text.specs.Working.{IsCalled, TakesNamed, kind_name, row_names};

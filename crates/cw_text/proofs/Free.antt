@@ -1,11 +1,9 @@
 -- Fields without a separator.
-use Rattle.std.proofs.Common.{◌≡◌, ℕ, ◌^◌, ◌<◌, ◌&&◌, ◌||◌, Bool, true, false, cond, eqb, leb, List, [], ◌∷◌, ◌++◌, drop, refl, sym, ap, ◌∙◌, arith, subst}
+use Rattle.std.proofs.Common.{◌≡◌, ℕ, ◌^◌, ◌<◌, Bool, true, false, eqb, List, [], ◌∷◌, ◌++◌, drop, refl, sym, ap, ◌∙◌, arith, subst}
 use Rattle.std.specs.Char.{is_ascii_digit}
 use Rattle.std.specs.Fmt.{decimal}
-use Rattle.std.specs.Int.{is_in_range}
 use Rattle.std.specs.List.{All, list_all, take_while}
-use Rattle.std.proofs.lemmas.List.Sums.{take_while-cons}
-use Rattle.std.proofs.lemmas.Bool.{false≢true, ne_eqb, eqb-false, le-leb, leb-true}
+use Rattle.std.proofs.lemmas.Bool.{false≢true, ne_eqb, eqb-false}
 use Rattle.std.proofs.lemmas.List.Elements.{All-nil, All-cons, All-head, All-tail, All-append}
 use Rattle.cw_core.specs.Numerals.{hexadecimal, hexadecimal_digits, is_hexadecimal_digit}
 use Rattle.cw_core.specs.Ranges.{set_spelling, is_spelling_byte}
@@ -15,7 +13,7 @@ use Rattle.cw_core.proofs.Spellings.{decimal_has_digits, set_within}
 use Rattle.cw_text.specs.Lines.{IsFree, joined, set_text, IsSetIn}
 use Rattle.cw_lemmas.proofs.Lists.{all_taken as passing}
 use Rattle.std.proofs.lemmas.Bool.{and_parts as both_pass}
-use Rattle.cw_core.proofs.SetTexts.{digits_spell, letters}
+use Rattle.cw_core.proofs.SetTexts.{digits_spell}
 
 -- bytes that pass a test are free of a separator that doesn't
 pub free_from_test : (p : ℕ → Bool) (separator : ℕ) (bytes : List ℕ) → p separator ≡ false → list_all p bytes ≡ true → IsFree separator bytes

@@ -3,7 +3,7 @@ pub mod FieldTexts
 mod Finding
 pub mod Free
 pub mod Names
-pub mod Kinds
+pub mod KindsByName
 pub mod OneSet
 pub mod Numbered
 pub mod Added

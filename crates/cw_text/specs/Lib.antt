@@ -1,6 +1,6 @@
 pub mod Lines
 pub mod Moves
-pub mod Kinds
+pub mod KindsByName
 pub mod RowLines
 pub mod TableText
 pub mod LimitsText

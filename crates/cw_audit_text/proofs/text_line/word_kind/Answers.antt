@@ -1,6 +1,6 @@
 use Rattle.std.proofs.Common.{arith, rules}
 use Rattle.std.specs.Prelude.{codes}
-use Rattle.cw_text.proofs.Kinds.{kind_read}
+use Rattle.cw_text.proofs.KindsByName.{kind_read}
 use Rattle.cw_audit_text.specs.Kinds.{word_kinds}
 use Rattle.cw_audit_text.proofs.text_line.word_kind.Goals as goal
 

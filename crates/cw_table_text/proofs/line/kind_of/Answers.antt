@@ -1,6 +1,6 @@
 use Rattle.std.proofs.Common.{arith, rules}
 use Rattle.std.specs.Prelude.{codes}
-use Rattle.cw_text.proofs.Kinds.{kind_read}
+use Rattle.cw_text.proofs.KindsByName.{kind_read}
 use Rattle.cw_table_text.specs.Working.{row_names}
 use Rattle.cw_table_text.proofs.line.kind_of.Goals as goal
 

@@ -4,7 +4,7 @@ use Rattle.std.specs.List.{AllByRecursion}
 use Rattle.std.specs.Str.{bytes_eq}
 use Rattle.std.proofs.lemmas.Option.{none-some, same_Some}
 use Rattle.std.proofs.lemmas.Slice.Eq.{HasBytesAt, text_from_reads, bytes_eq-Decides}
-use Rattle.cw_text.specs.Kinds.{kind_by}
+use Rattle.cw_text.specs.KindsByName.{kind_by}
 
 -- a name that was read byte by byte
 pub kind_read : {A : Type 0} (kinds : List (List ℕ × A)) (name read : List ℕ) → length name ≡ length read → HasBytesAt name 0 read → kind_by kinds read ≡ kind_by kinds name
