@@ -1,6 +1,5 @@
 -- The proofs.
 pub mod Keys
-pub mod Members
 pub mod Reach
 pub mod Descending
 pub mod Numbers

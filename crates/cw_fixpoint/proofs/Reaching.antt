@@ -9,9 +9,8 @@ use Rattle.std.proofs.lemmas.List.Elements.{Contains-append_left, Contains-appen
 use Rattle.cw_fixpoint.specs.Seen.{SeenIs, Adds}
 use Rattle.cw_fixpoint.specs.Members.{Rules, IsMember, first, then, joins, AreMet, IsPair, pair_cmp, HaveMore}
 use Rattle.cw_fixpoint.specs.Working.{PutsIn, held_if, met_by, join_of, Below, Reached}
-use Rattle.cw_fixpoint.proofs.Members.{contains_first}
 use Rattle.cw_lemmas.proofs.Lists.{contains_none, contains_one}
-use Rattle.cw_lemmas.proofs.Lists.{contains_map}
+use Rattle.cw_lemmas.proofs.Lists.{contains_map, head_in}
 
 -- elements of a mapped list
 abbrev pub In : {A : Type 0} → List A → A → Type 0
@@ -24,7 +23,7 @@ in_of (y ∷ ys) x c = ⊎_elim (λ d. inl (contains_one y x d)) (λ d. inr (in_
 
 of_in : {A : Type 0} (xs : List A) (x : A) → In xs x → Contains xs x
 of_in [] x n = absurd n
-of_in (y ∷ ys) x (inl e) = subst (Contains (y ∷ ys)) e (contains_first y ys)
+of_in (y ∷ ys) x (inl e) = subst (Contains (y ∷ ys)) e (head_in y ys)
 of_in (y ∷ ys) x (inr n) = Contains-append_right (y ∷ []) ys x (of_in ys x n)
 
 map_of : {A B : Type 0} (f : A → B) (xs : List A) (y : B) → In (map f xs) y → (x : A) × In xs x × (y ≡ f x)
@@ -70,7 +69,7 @@ module _ {K G : Type 0} (r : Rules K G) (start : K) where
   pub reached_start : (seen : List K) (W E : G → List K) → ((g : G) → W g ≡ []) → ((g : G) → E g ≡ []) → Adds [] seen (start ∷ []) → Reached r start seen [] W E 0
   reached_start seen W E w e a = record {
     needed = λ k c. subst (IsMember r start) (contains_one start k (a.from k (subst (λ y. Contains y k) a.is c))) first;
-    begins = a.has start (contains_first start []);
+    begins = a.has start (head_in start []);
     closed = λ x y b c. absurd (omega (arith, b.1));
     joined = λ x y g b c f h. absurd (omega (arith, b.1));
     paired = λ x y g b c f h. absurd (omega (arith, b.1));

@@ -21,8 +21,7 @@ use Rattle.cw_model.specs.Boards.{is_yes, may_grant}
 use Rattle.cw_states.specs.declared.order.Ranked.{Ranked}
 use Rattle.cw_states.specs.declared.uses.Uses.{Uses}
 use Rattle.cw_states.specs.Rights.{IsRightsState, at_start, by_enter, by_limit, by_open, by_close, caps_cmp}
-use Rattle.cw_fixpoint.proofs.Members.{contains_first}
-use Rattle.cw_lemmas.proofs.Lists.{contains_none, contains_one}
+use Rattle.cw_lemmas.proofs.Lists.{contains_none, contains_one, head_in}
 use Rattle.cw_states.specs.Growing.{ranked, all_caps, after_limit, after_limits, after_open, is_true, is_closed, after_close, after_held, after}
 use Rattle.cw_states.proofs.Meaning.{yes_is}
 
@@ -63,7 +62,7 @@ module _ (policy : PlainPolicy) (uses : Uses) where
   from_limits : (c : Caps) (limits : List ALimit) → ((l : ALimit) → Contains limits l → Contains policy.limits l) → Is c → (r : Ranked)
       → Contains (after_limits c limits) r → Is r.caps
   from_limits c [] sub is r h = absurd (contains_none r h)
-  from_limits c (l ∷ ls) sub is r h = ⊎_elim (λ h. from_limit c l (sub l (contains_first l ls)) is r h)
+  from_limits c (l ∷ ls) sub is r h = ⊎_elim (λ h. from_limit c l (sub l (head_in l ls)) is r h)
       (λ h. from_limits c ls (λ x n. sub x (Contains-append_right (l ∷ []) ls x n)) is r h)
       (Contains-append_cases (after_limit c l) (after_limits c ls) r h)
 
@@ -112,7 +111,7 @@ module _ (policy : PlainPolicy) (uses : Uses) where
   in_limit : (c : Caps) (limit : ALimit) → allowed c limit ≡ Yes → Contains (after_limit c limit) (ranked (applied c (Limit limit)))
   in_limit c limit e =
       subst (λ b. Contains (cond b (ranked (applied c (Limit limit)) ∷ []) []) (ranked (applied c (Limit limit)))) (sym (ap is_yes e))
-      (contains_first (ranked (applied c (Limit limit))) [])
+      (head_in (ranked (applied c (Limit limit))) [])
 
   in_limits : (c : Caps) (limits : List ALimit) (limit : ALimit) → Contains limits limit → allowed c limit ≡ Yes
       → Contains (after_limits c limits) (ranked (applied c (Limit limit)))
@@ -124,11 +123,11 @@ module _ (policy : PlainPolicy) (uses : Uses) where
       (λ h. Contains-append_right (after_limit c l) (after_limits c ls) to (in_limits c ls limit h e)) (Contains-append_cases (l ∷ []) ls limit there)
 
   in_open : (c : Caps) (d : ℕ) (n : Option ℕ) (rights : Rights) → n ≡ None → Contains (after_open n rights d c) (ranked (opened c d rights))
-  in_open c d None rights e = contains_first (ranked (opened c d rights)) []
+  in_open c d None rights e = head_in (ranked (opened c d rights)) []
   in_open c d (Some n) rights e = absurd (cc)
 
   in_close : (c : Caps) (d : ℕ) (b : Bool) → b ≡ true → Contains (after_close b d c) (ranked (closed c d))
-  in_close c d true e = contains_first (ranked (closed c d)) []
+  in_close c d true e = head_in (ranked (closed c d)) []
   in_close c d false e = absurd (cc)
 
   opens_in : (c : Caps) (ds : List PlainDescriptor) (d k e : ℕ) (descriptor : PlainDescriptor) → e ≡ d + k → slice_get ds k ≡ Some descriptor
@@ -183,9 +182,9 @@ module _ (policy : PlainPolicy) (uses : Uses) where
   past_limits c r h = past_enter c r (Contains-append_right (after_limits c policy.limits) (after_held uses policy.descriptors 0 c) r h)
 
   pub led : (c : Caps) → Is c → Reached step starts (ranked c)
-  led c at_start = first (ranked (start_caps policy)) (contains_first (ranked (start_caps policy)) [])
+  led c at_start = first (ranked (start_caps policy)) (head_in (ranked (start_caps policy)) [])
   led c (by_enter a h) = then (ranked a) (ranked (applied a Enter)) (led a h)
-      (contains_first (ranked (applied a Enter)) (after_limits a policy.limits ++ after_held uses policy.descriptors 0 a))
+      (head_in (ranked (applied a Enter)) (after_limits a policy.limits ++ after_held uses policy.descriptors 0 a))
   led c (by_limit a limit there e h) =
       let to = ranked (applied a (Limit limit)) in
       then (ranked a) to (led a h)

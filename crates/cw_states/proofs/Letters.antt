@@ -23,10 +23,9 @@ use Rattle.cw_states.specs.Masks.{HaveSame, met}
 use Rattle.cw_states.specs.Rights.{IsRightsState, caps_cmp}
 use Rattle.cw_states.specs.States.{IsCause, letters_below, letters_of, label_count}
 use Rattle.cw_states.specs.Tables.{tabled}
-use Rattle.cw_fixpoint.proofs.Members.{contains_first}
 use Rattle.cw_lemmas.proofs.Lists.{contains_none, contains_one}
 use Rattle.cw_states.proofs.Tabled.{tabled_length, tabled_at}
-use Rattle.cw_lemmas.proofs.Lists.{contains_map as map_by, map_contains as map_from}
+use Rattle.cw_lemmas.proofs.Lists.{contains_map as map_by, map_contains as map_from, head_in}
 
 letter_in : (rights : List Caps) (c : Caps) (label : ℕ) → Contains rights c → Contains (map (letter_of label) rights) (letter_of label c)
 letter_in rights c label (k, l, e) =
@@ -65,7 +64,7 @@ met_by (x ∷ xs) ys a b c d = ⊎_elim (λ h. Contains-append_left (map (bit_an
 
 met_from : (xs ys : List ℕ) (m : ℕ) → Contains (met xs ys) m → (a : ℕ) × (b : ℕ) × Contains xs a × Contains ys b × (bit_and a b ≡ m)
 met_from [] ys m c = absurd (contains_none m c)
-met_from (x ∷ xs) ys m c = ⊎_elim (λ h. let r = map_from (bit_and x) ys m h in (x, r.0, contains_first x xs, r.1, r.2))
+met_from (x ∷ xs) ys m c = ⊎_elim (λ h. let r = map_from (bit_and x) ys m h in (x, r.0, head_in x xs, r.1, r.2))
     (λ h. let r = met_from xs ys m h in (r.0, r.1, Contains-append_right (x ∷ []) xs r.0 r.2, r.3, r.4))
     (Contains-append_cases (map (bit_and x) ys) (met xs ys) m c)
 
