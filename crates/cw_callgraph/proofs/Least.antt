@@ -12,7 +12,7 @@ use Rattle.cw_callgraph.specs.Effects.{Reaches}
 use Rattle.cw_callgraph.specs.Forbidding.{IsLeast, Forbids, by_head, by_body, by_callee, places_of, head_places, body_places}
 use Rattle.cw_callgraph.specs.Lowest.{lowest, at, forbidden}
 use Rattle.cw_resolve.specs.Soonest.{sooner, soonest}
-use Rattle.cw_lemmas.proofs.Lists.{contains_none as not_in}
+use Rattle.cw_lemmas.proofs.Lists.{contains_none as not_in, contains_one}
 
 either : {A B C : Type 0} → (A → C) → (B → C) → A ⊎ B → C
 either f g (inl a) = f a
@@ -35,10 +35,6 @@ both P Q (Some a) (Some b) h k = (
   λ p. either (λ x. let l : a ≤ p = h.1 p x in omega (arith, l)) (λ y. let l : b ≤ p = k.1 p y in omega (arith, l)),
 )
 
-is_one : (x g : ℕ) → Contains (x ∷ []) g → x ≡ g
-is_one x g (zero, l, e) = e
-is_one x g (suc k, l, e) = absurd (omega (arith, l))
-
 -- one of these numbers has the place
 abbrev pub HasSome : (ℕ → ℕ → Type 0) → List ℕ → ℕ → Type 0
 HasSome P xs p = (g : ℕ) × Contains xs g × P g p
@@ -52,7 +48,7 @@ any P o (x ∷ xs) h = turned (λ p. P x p ⊎ HasSome P xs p) (HasSome P (x ∷
     to p (inr w) = (w.0, Contains-append_right (x ∷ []) xs w.0 w.1, w.2)
 
     from : (p : ℕ) → HasSome P (x ∷ xs) p → P x p ⊎ HasSome P xs p
-    from p w = either (λ c. inl (subst (λ g. P g p) (sym (is_one x w.0 c)) w.2)) (λ c. inr (w.0, c, w.2)) (Contains-append_cases (x ∷ []) xs w.0 w.1)
+    from p w = either (λ c. inl (subst (λ g. P g p) (sym (contains_one x w.0 c)) w.2)) (λ c. inr (w.0, c, w.2)) (Contains-append_cases (x ∷ []) xs w.0 w.1)
 
 pub lowest_is : (ps : List ℕ) → IsLeast (Contains ps) (lowest ps)
 lowest_is ps =

@@ -1,10 +1,11 @@
 -- The positions to which a move leads that may change the state are flagged, and lists stand for the pairs of these alone.
-use Rattle.std.proofs.Common.{◌≡◌, ℕ, zero, suc, ◌+◌, ◌*◌, ◌<◌, ◌≤◌, List, [], ◌∷◌, Bool, true, false, Option, Some, None, length, get_or, set, sym, ap, ◌∙◌, subst, arith, inl, inr}
+use Rattle.std.proofs.Common.{◌≡◌, ℕ, zero, suc, ◌+◌, ◌*◌, ◌<◌, ◌≤◌, List, [], Bool, true, false, Option, Some, None, length, get_or, set, sym, ap, ◌∙◌, subst, arith, inl, inr}
 use Rattle.std.specs.Prelude.{◌⊎◌, slice_get, option_map, IfSome, Contains}
 use Rattle.std.proofs.lemmas.Bool.{cases_eq, cases_lt, false≢true}
 use Rattle.std.proofs.lemmas.List.{length-set, get_or-set_same, get_or-set_other}
 use Rattle.std.proofs.lemmas.Nat.{mul-add-lt}
 use Rattle.std.proofs.lemmas.Option.{same_Some}
+use Rattle.cw_lemmas.proofs.Lists.{contains_one}
 use Rattle.cw_lemmas.proofs.Options.{cond_none_some as not_left}
 use Rattle.cw_lemmas.proofs.Truths.{or_middle}
 use Rattle.cw_rights.specs.declared.capabilities.Primitive.TheVariants.{Limit, Enter, Split}
@@ -66,20 +67,16 @@ second_within size functions p (Call j f n) leads = tt
 second_within size functions p (SplitCall j f n) leads = tt
 second_within size functions p (Exit f) leads = tt
 
-one_of_one : (n r : ℕ) → Contains (n ∷ []) r → n ≡ r
-one_of_one n r (zero, lt, is) = is
-one_of_one n r (suc k, lt, is) = absurd (omega (arith, lt))
-
 -- a move that may change the state leads to one of them
 one_of_both : (p r : ℕ) (o : Option Spot) → keeps_state o ≡ false → is_call_in o ≡ false → Contains (targets p o) r → (first_target p o ≡ Some r) ⊎ (second_target p o ≡ Some r)
 one_of_both p r (Some (Asked j i Split)) changing plain (zero, lt, is) = inr (ap (λ (y : ℕ). Some y) is)
 one_of_both p r (Some (Asked j i Split)) changing plain (suc zero, lt, is) = inl (ap (λ (y : ℕ). Some y) is)
 one_of_both p r (Some (Asked j i Split)) changing plain (suc (suc k), lt, is) = absurd (omega (arith, lt))
-one_of_both p r (Some (Asked j i Enter)) changing plain at = inl (ap (λ (y : ℕ). Some y) (one_of_one (p + 1) r at))
-one_of_both p r (Some (Asked j i (Limit l))) changing plain at = inl (ap (λ (y : ℕ). Some y) (one_of_one (p + 1) r at))
-one_of_both p r (Some (Label j l n)) changing plain at = inl (ap (λ (y : ℕ). Some y) (one_of_one n r at))
-one_of_both p r (Some (Open j d n)) changing plain at = inl (ap (λ (y : ℕ). Some y) (one_of_one n r at))
-one_of_both p r (Some (Close j d n)) changing plain at = inl (ap (λ (y : ℕ). Some y) (one_of_one n r at))
+one_of_both p r (Some (Asked j i Enter)) changing plain at = inl (ap (λ (y : ℕ). Some y) (contains_one (p + 1) r at))
+one_of_both p r (Some (Asked j i (Limit l))) changing plain at = inl (ap (λ (y : ℕ). Some y) (contains_one (p + 1) r at))
+one_of_both p r (Some (Label j l n)) changing plain at = inl (ap (λ (y : ℕ). Some y) (contains_one n r at))
+one_of_both p r (Some (Open j d n)) changing plain at = inl (ap (λ (y : ℕ). Some y) (contains_one n r at))
+one_of_both p r (Some (Close j d n)) changing plain at = inl (ap (λ (y : ℕ). Some y) (contains_one n r at))
 one_of_both p r (Some (Visit j i a)) changing plain at = absurd (false≢true (sym changing))
 one_of_both p r (Some (Step n)) changing plain at = absurd (false≢true (sym changing))
 one_of_both p r (Some (Branch m n)) changing plain at = absurd (false≢true (sym changing))
