@@ -1,6 +1,5 @@
 -- The sets that a search reaches are the policy states.
-use Rattle.std.proofs.Common.{◌≡◌, ◌⊎◌, inl, inr, ℕ, List, [], ◌∷◌, subst, arith, Option, Some, None}
-use Rattle.std.specs.Prelude.{IfNone}
+use Rattle.std.proofs.Common.{◌≡◌, ◌⊎◌, inl, inr, ℕ, List, [], ◌∷◌, subst, arith}
 use Rattle.std.specs.List.{Contains}
 use Rattle.std.specs.Ordering.{nat_cmp}
 use Rattle.std.proofs.lemmas.List.Elements.{Contains-push, Contains-push_cases}
@@ -25,7 +24,3 @@ module _ (step next : ℕ → List ℕ) (start : ℕ) (there : (k b : ℕ) → C
 
   pub has_more : (n : ℕ) → HasMoreBy nat_cmp (Found step (start ∷ [])) n → HasMore (Least next start) n
   has_more n h = (h.0, h.1, λ k c. least k (h.2 k c), h.3)
-
-pub none_then : {X : Type 0} (r : Option X) (P Q : Type 0) → IfNone r P → (P → Q) → IfNone r Q
-none_then None P Q h f = f h
-none_then (Some x) P Q h f = h
