@@ -29,6 +29,11 @@ use Rattle.std.proofs.lemmas.Bool.{false_from_ne_true as not_true}
 use Rattle.cw_lemmas.proofs.Options.{option_map_some as map_some}
 use Rattle.std.proofs.lemmas.Option.{cond_some}
 
+-- a primitive that is granted leaves the stack
+pub granted_stack : (b : Board) (stage : ℕ) (a : Primitive) (later : List Primitive) → (granted b stage a later).stack ≡ b.stack
+granted_stack b stage Split later = refl
+granted_stack b stage a later = refl
+
 party : (p : Problem) (b : Board) (phase : Phase) (m : Move) (next : Board) → moved p b phase m ≡ Some next → turn_of phase ≡ Some (party_of m)
 party p b (Visit i a later) Skip next e = refl
 party p b (Visit i a later) Try next e = refl

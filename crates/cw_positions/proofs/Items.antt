@@ -16,6 +16,7 @@ use Rattle.cw_syntax.specs.Frames.{On as OnWay, Left as LeftWay, Right as RightW
 use Rattle.cw_syntax.specs.Runnable.{IsRunnable}
 use Rattle.cw_resolve.specs.Scenes.{names_of}
 use Rattle.cw_model.specs.Boards.{Problem, Phase, Visit, Asked, Refused, Free, FreeSplit, Over, Board, landed, granted, refused, stepped, may_grant, may_refuse, stop_answers, way_of, moved}
+use Rattle.cw_model.proofs.Moving.{granted_stack}
 use Rattle.cw_game.specs.declared.spots.Spot.{Spot}
 use Rattle.cw_game.specs.declared.spots.Spot.TheVariants as spot
 use Rattle.cw_game.specs.Games.{Game, refuses_in, can_stop_in, past_asked, resumed_in, Ret, Config, at_pair, leads_in}
@@ -257,10 +258,6 @@ items_length plan = items_from 0 plan.routines ∙ sym (length_nodes plan)
 
 abbrev Stays : Problem → Board → Move → Board → Type 0
 Stays p b by next = ((way_of by ≡ None) × (next.stack ≡ b.stack)) ⊎ ((way : Way) × (way_of by ≡ Some way) × (pass p.plan b.stack way ≡ Some next.stack))
-
-granted_stack : (b : Board) (stage : ℕ) (a : Primitive) (later : List Primitive) → (granted b stage a later).stack ≡ b.stack
-granted_stack b stage Split later = refl
-granted_stack b stage a later = refl
 
 module _ (p : Problem) where
   step_stack : (mode : Option Caps) (b next : Board) (by : Move) (o : Option Way) → way_of by ≡ o → stepped p mode b o ≡ Some next

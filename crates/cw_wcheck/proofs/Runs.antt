@@ -13,6 +13,7 @@ use Rattle.cw_syntax.specs.Frames.{Item, Entry, Todo, Frame, Way, pass, front, P
 use Rattle.cw_model.specs.Boards.{Problem, Phase, Visit, Asked, Refused, Free, FreeSplit, Over, Board, onward, begin, way_of, granted, refused, answered, moved}
 use Rattle.cw_model.specs.Boards.{may_grant, may_refuse, can_stop, start_board}
 use Rattle.cw_model.specs.Runs.{State, start_state, Goes, WovenRun, last, reached, passed_in, passed, erased, is_asked, tries, NeverStops}
+use Rattle.cw_model.proofs.Moving.{granted_stack}
 use Rattle.cw_game.proofs.Moves.{step_of}
 
 -- End to end.
@@ -39,10 +40,6 @@ front_is plan ((i ∷ is) ∷ frames) next way e = (i, refl)
 
 path_step : (plan : Plan) (stack next : List Frame) (way : Way) (is : List Item) → pass plan stack way ≡ Some next → PathFrom plan next is → PathFrom plan stack (front stack ++ is)
 path_step plan stack next way is e h = let f = front_is plan stack next way e in subst (λ l. PathFrom plan stack (l ++ is)) (sym f.1) (way, next, f.1, e, h)
-
-granted_stack : (b : Board) (i : ℕ) (a : Primitive) (later : List Primitive) → (granted b i a later).stack ≡ b.stack
-granted_stack b i Split later = refl
-granted_stack b i a later = refl
 
 answered_stack : (p : Problem) (b next : Board) (i : ℕ) (a : Primitive) (later : List Primitive) (by : Move) → answered p b i a later by ≡ Some next → next.stack ≡ b.stack
 answered_stack p b next i a later Grant e = ap (λ n. n.stack) (sym (cond_some (may_grant b.caps a) (granted b i a later) next e).1) ∙ granted_stack b i a later
