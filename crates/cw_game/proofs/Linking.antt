@@ -14,6 +14,7 @@ use Rattle.cw_syntax.specs.Frames.{Frame, Todo, Way, after, settle, pass, frame_
 use Rattle.cw_syntax.specs.Frames.{On as OnWay}
 use Rattle.cw_model.specs.Boards.{Problem, Phase, Visit, Asked, Refused, Free, FreeSplit, Over, Board, onward, begin, start_board, Violates, may_grant, may_refuse, can_stop, way_of}
 use Rattle.cw_model.specs.Boards.{granted, passed_by, refused, moved, Moves, stop_answers, is_refused}
+use Rattle.cw_model.proofs.Moving.{onward_not_over}
 use Rattle.cw_game.specs.declared.spots.Spot.{Spot}
 use Rattle.cw_game.specs.declared.spots.Spot.TheVariants.{Exit, Visit as VisitSpot, Asked as AskedSpot, Step as StepSpot, Branch as BranchSpot, Label as LabelSpot, Open as OpenSpot, Close as CloseSpot}
 use Rattle.cw_game.specs.declared.spots.Spot.TheVariants.{Call as CallSpot, SplitCall}
@@ -42,10 +43,6 @@ free_phase (Asked i a later) e = e
 free_phase Free e = e
 free_phase FreeSplit e = e
 free_phase Over e = e
-
-onward_not_over : (i : ℕ) (later : List Primitive) → onward i later ≡ Over → ⊥
-onward_not_over i [] e = cc
-onward_not_over i (a ∷ later) e = cc
 
 begin_over : (policy : PlainPolicy) (stack : List Frame) → begin policy stack ≡ Over → stack ≡ []
 begin_over policy [] e = refl

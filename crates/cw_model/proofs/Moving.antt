@@ -34,6 +34,11 @@ pub granted_stack : (b : Board) (stage : ℕ) (a : Primitive) (later : List Prim
 granted_stack b stage Split later = refl
 granted_stack b stage a later = refl
 
+-- what is asked next isn't the end
+pub onward_not_over : (stage : ℕ) (later : List Primitive) → onward stage later ≡ Over → ⊥
+onward_not_over stage [] e = cc
+onward_not_over stage (a ∷ later) e = cc
+
 party : (p : Problem) (b : Board) (phase : Phase) (m : Move) (next : Board) → moved p b phase m ≡ Some next → turn_of phase ≡ Some (party_of m)
 party p b (Visit i a later) Skip next e = refl
 party p b (Visit i a later) Try next e = refl

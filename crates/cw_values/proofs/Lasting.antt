@@ -1,14 +1,14 @@
 -- The steps of a run, one after the other.
 use Rattle.std.proofs.Common.{◌≡◌, ℕ, suc, ◌+◌, ◌-◌, ◌<◌, List, [], ◌∷◌, Option, Some, None, Ok, Err, refl, sym, subst, ◌∙◌, arith}
 use Rattle.cw_core.specs.declared.ids.PointId.{PointId}
-use Rattle.cw_rights.specs.declared.capabilities.Primitive.{Primitive}
 use Rattle.cw_rights.specs.Policies.{PlainPolicy}
 use Rattle.cw_syntax.specs.Frames.{Frame}
 use Rattle.cw_points.specs.Graphs.{nodes}
 use Rattle.cw_points.specs.Points.{points}
 use Rattle.cw_points.specs.Walks.{Stand}
 use Rattle.cw_points.proofs.Ways.{StackAt}
-use Rattle.cw_model.specs.Boards.{problem_of, Over, begin, onward, primitives_in}
+use Rattle.cw_model.specs.Boards.{problem_of, Over, begin, primitives_in}
+use Rattle.cw_model.proofs.Moving.{onward_not_over}
 use Rattle.cw_value.specs.declared.values.Stop.{Stop}
 use Rattle.cw_value.specs.declared.values.Stop.TheVariants.{Ended, Steps}
 use Rattle.cw_value.specs.Machines.{Source, Machine}
@@ -21,16 +21,12 @@ use Rattle.cw_values.specs.declared.running.Onward.{Onward}
 use Rattle.cw_values.specs.Stands.{plan, Advances, EndsSo, Leads, StandsAt}
 
 module _ (policy : PlainPolicy) (s : Source) where
-  onward_goes : (stage : ℕ) (later : List Primitive) → onward stage later ≡ Over → ⊥
-  onward_goes stage [] e = absurd (cc)
-  onward_goes stage (a ∷ later) e = absurd (cc)
-
   abbrev Standing : List Frame → Option Stand → Type 0
   Standing stack here = StackAt (nodes (plan policy s)) (points (plan policy s)) stack here
 
   begins_not : (stack : List Frame) (st : Stand) → Standing stack (Some st) → begin policy stack ≡ Over → ⊥
   begins_not [] st h e = h
-  begins_not (frame ∷ frames) st h e = onward_goes 0 (primitives_in policy frame) e
+  begins_not (frame ∷ frames) st h e = onward_not_over 0 (primitives_in policy frame) e
 
   begins_over : (stack : List Frame) → Standing stack None → begin policy stack ≡ Over
   begins_over [] h = refl
