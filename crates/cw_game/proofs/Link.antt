@@ -17,6 +17,7 @@ use Rattle.cw_syntax.specs.Frames.{On as OnWay, Left as LeftWay, Right as RightW
 use Rattle.cw_model.specs.Boards.{Problem, Phase, Visit, Asked, Refused, Free, FreeSplit, Over, Board, primitives_in, onward, begin, letters_in, start_board, Violates, may_grant, mode_of}
 use Rattle.cw_model.specs.Boards.{may_refuse, can_stop, with_opened, given_back, caps_after, landed, granted, passed_by, stop_answers, is_refused, moved, Moves, Weaver}
 use Rattle.cw_model.specs.Boards.{Environment, Party, turn_of, Forced}
+use Rattle.cw_model.proofs.Moving.{board_on}
 use Rattle.cw_game.specs.declared.spots.Spot.{Spot}
 use Rattle.cw_game.specs.declared.spots.Spot.TheVariants.{Step, Branch, Exit, Visit as VisitSpot, Asked as AskedSpot, Label as LabelSpot, Open as OpenSpot, Close as CloseSpot}
 use Rattle.cw_game.specs.declared.spots.Spot.TheVariants.{Call as CallSpot, SplitCall}
@@ -38,9 +39,6 @@ IsTied Means g None None = Unit {0}
 IsTied Means g (Some b) None = b.phase ≡ Over
 IsTied Means g None (Some c) = ⊥
 IsTied Means g (Some b) (Some c) = Stands Means g b c
-
-abbrev board_in : List Frame → List (Option Caps) → Caps → Word → Phase → Board
-board_in stack kept caps word phase = record { stack = stack; kept = kept; caps = caps; word = word; phase = phase }
 
 -- whose turn it is, by whether it is the weaver's
 abbrev pub party_of : Bool → Party
@@ -69,7 +67,7 @@ module _ (Means : Meaning) (g : Game) (plan : Plan) (right : AreStates g.policy 
 
   -- what this way of a free board leads to
   abbrev Passed : List Frame → List (Option Caps) → Caps → Word → Way → Option (List Frame) → Option Config → Type 0
-  Passed stack kept caps word way next c = IsTied Means g (option_map (landed problem None (board_in stack kept caps word Free) way) next) c
+  Passed stack kept caps word way next c = IsTied Means g (option_map (landed problem None (board_on stack kept caps word Free) way) next) c
 
   quiet_on : (fn : ℕ) (i : Item) (is raw : Frame) (frames : List Frame) (kept : List (Option Caps)) (caps : Caps) (word : Word) (p q : ℕ) (rets : List Ret) (way : Way) → IsQuiet i is
       → after i way is ≡ Some raw → At g.spots g.policy (g.exit fn) raw p → Means q word caps → Under Means g fn frames kept rets
@@ -102,12 +100,12 @@ module _ (Means : Meaning) (g : Game) (plan : Plan) (right : AreStates g.policy 
       (lands fn2 w.rest frames kept back (word ++ []) r.back after rets w.after_it means u)
 
   tied_end : (fn f : ℕ) (is : Frame) (frames : List Frame) (kept : List (Option Caps)) (caps : Caps) (word : Word) (p q : ℕ) (rets : List Ret) (by : Move) → Under Means g fn frames kept rets
-      → Means q word caps → IsTied Means g (moved problem (board_in ((End f ∷ is) ∷ frames) kept caps word Free) Free by) (leads_in g p q rets (Some (Exit f)) by)
+      → Means q word caps → IsTied Means g (moved problem (board_on ((End f ∷ is) ∷ frames) kept caps word Free) Free by) (leads_in g p q rets (Some (Exit f)) by)
   tied_end fn f is [] kept caps word p q [] On u h = refl
   tied_end fn f is (frame ∷ frames) (k ∷ kept) caps word p q (r ∷ rets) On u h = returns fn u.0 f is frame frames k kept caps word q r rets u.1 u.2 h
   tied_end fn f is _ _ caps word p q _ On u h = absurd u
   tied_end fn f is frames kept caps word p q rets by u h =
-      subst (λ o. IsTied Means g (moved problem (board_in ((End f ∷ is) ∷ frames) kept caps word Free) Free by) o) (sym (exit_only g p q f rets by (λ e. cc))) tt
+      subst (λ o. IsTied Means g (moved problem (board_on ((End f ∷ is) ∷ frames) kept caps word Free) Free by) o) (sym (exit_only g p q f rets by (λ e. cc))) tt
 
   -- a call in either mode
   routine_of : (split : Bool) (p j f n : ℕ) → slice_get g.spots p ≡ Some (call_spot split j f n) → (r : Routine) × (slice_get plan.routines f ≡ Some r)
@@ -116,7 +114,7 @@ module _ (Means : Meaning) (g : Game) (plan : Plan) (right : AreStates g.policy 
 
   call_on : (split : Bool) (fn at j : ℕ) (callee : Callee) (is : Frame) (frames : List Frame) (kept : List (Option Caps)) (caps : Caps) (word : Word) (phase : Phase) (p q n : ℕ) (rets : List Ret)
       → slice_get g.spots p ≡ Some (call_spot split j callee.number n) → At g.spots g.policy (g.exit fn) is n → Means q word caps → Under Means g fn frames kept rets
-      → IsTied Means g (option_map (landed problem (mode_of split caps) (board_in ((Todo (Call at j callee) ∷ is) ∷ frames) kept caps word phase) OnWay)
+      → IsTied Means g (option_map (landed problem (mode_of split caps) (board_on ((Todo (Call at j callee) ∷ is) ∷ frames) kept caps word phase) OnWay)
       (pass plan ((Todo (Call at j callee) ∷ is) ∷ frames) OnWay)) (Some (at_pair (g.entry callee.number) q (record { back = n; kept = kept_at split q } ∷ rets)))
   call_on split fn at j callee is frames kept caps word phase p q n rets es a h u =
       let f = callee.number in
@@ -126,29 +124,29 @@ module _ (Means : Meaning) (g : Game) (plan : Plan) (right : AreStates g.policy 
       let w : Resumes Means g f fn (Todo (Call at j callee) ∷ is) (mode_of split caps) ret =
       record { at = at; seam = j; callee = callee; rest = is; is_call = refl; calls = refl; after_it = a; keeps_it = mode_kept Means split q word caps h } in
       let st = enters_at Means g right plan f r.0 caps (word ++ []) q (laid.functions f r.0 r.1) (no_letter Means q word [] caps refl h) in
-      subst (λ o. IsTied Means g (option_map (landed problem (mode_of split caps) (board_in stack kept caps word phase) OnWay)
+      subst (λ o. IsTied Means g (option_map (landed problem (mode_of split caps) (board_on stack kept caps word phase) OnWay)
       (option_map (λ frame. frame ∷ stack) (option_map (new_frame f) o))) (Some (at_pair (g.entry f) q (ret ∷ rets)))) (sym r.1) (f, st, (fn, w, u))
 
   tied_call : (fn at j : ℕ) (callee : Callee) (is : Frame) (frames : List Frame) (kept : List (Option Caps)) (caps : Caps) (word : Word) (p q n : ℕ) (rets : List Ret) (by : Move)
       → slice_get g.spots p ≡ Some (CallSpot j callee.number n) → At g.spots g.policy (g.exit fn) is n → Means q word caps → Under Means g fn frames kept rets
-      → IsTied Means g (moved problem (board_in ((Todo (Call at j callee) ∷ is) ∷ frames) kept caps word Free) Free by) (leads_in g p q rets (Some (CallSpot j callee.number n)) by)
+      → IsTied Means g (moved problem (board_on ((Todo (Call at j callee) ∷ is) ∷ frames) kept caps word Free) Free by) (leads_in g p q rets (Some (CallSpot j callee.number n)) by)
   tied_call fn at j callee is frames kept caps word p q n rets On es a h u = call_on false fn at j callee is frames kept caps word Free p q n rets es a h u
   tied_call fn at j callee is frames kept caps word p q n rets _ es a h u = tt
 
   tied_split : (fn at j : ℕ) (callee : Callee) (is : Frame) (frames : List Frame) (kept : List (Option Caps)) (caps : Caps) (word : Word) (p q n : ℕ) (rets : List Ret) (by : Move)
       → slice_get g.spots p ≡ Some (SplitCall j callee.number n) → At g.spots g.policy (g.exit fn) is n → Means q word caps → Under Means g fn frames kept rets
-      → IsTied Means g (moved problem (board_in ((Todo (Call at j callee) ∷ is) ∷ frames) kept caps word FreeSplit) FreeSplit by) (leads_in g p q rets (Some (SplitCall j callee.number n)) by)
+      → IsTied Means g (moved problem (board_on ((Todo (Call at j callee) ∷ is) ∷ frames) kept caps word FreeSplit) FreeSplit by) (leads_in g p q rets (Some (SplitCall j callee.number n)) by)
   tied_split fn at j callee is frames kept caps word p q n rets On es a h u = call_on true fn at j callee is frames kept caps word FreeSplit p q n rets es a h u
   tied_split fn at j callee is frames kept caps word p q n rets _ es a h u = tt
 
   -- a free board, by what its front is
   tied_front : (fn p : ℕ) (frame : Frame) → Front g.spots g.policy (g.exit fn) p frame
       → (frames : List Frame) (kept : List (Option Caps)) (caps : Caps) (word : Word) (q : ℕ) (rets : List Ret) (by : Move) → Means q word caps → bad_in g q (slice_get g.spots p) ≡ false
-      → Under Means g fn frames kept rets → IsTied Means g (moved problem (board_in (frame ∷ frames) kept caps word Free) Free by) (leads_in g p q rets (slice_get g.spots p) by)
+      → Under Means g fn frames kept rets → IsTied Means g (moved problem (board_on (frame ∷ frames) kept caps word Free) Free by) (leads_in g p q rets (slice_get g.spots p) by)
   tied_front fn p _ (is_step {i} {is} raw {n} quiet ways es a) frames kept caps word q rets by h good u =
-      subst (λ o. IsTied Means g (moved problem (board_in ((i ∷ is) ∷ frames) kept caps word Free) Free by) (leads_in g p q rets o by)) (sym es) (cases by)
+      subst (λ o. IsTied Means g (moved problem (board_on ((i ∷ is) ∷ frames) kept caps word Free) Free by) (leads_in g p q rets o by)) (sym es) (cases by)
     where
-      cases : (by : Move) → IsTied Means g (moved problem (board_in ((i ∷ is) ∷ frames) kept caps word Free) Free by) (leads_in g p q rets (Some (Step n)) by)
+      cases : (by : Move) → IsTied Means g (moved problem (board_on ((i ∷ is) ∷ frames) kept caps word Free) Free by) (leads_in g p q rets (Some (Step n)) by)
       cases On = quiet_on fn i is raw frames kept caps word n q rets OnWay quiet (ways OnWay) a h u
       cases Left = no_way i is frames kept caps word LeftWay quiet (ways LeftWay)
       cases Right = no_way i is frames kept caps word RightWay quiet (ways RightWay)
@@ -156,9 +154,9 @@ module _ (Means : Meaning) (g : Game) (plan : Plan) (right : AreStates g.policy 
       cases Failed = no_way i is frames kept caps word FailedWay quiet (ways FailedWay)
       cases _ = tt
   tied_front fn p _ (is_branch {i} {is} left right' {m} {n} quiet ways es a a') frames kept caps word q rets by h good u =
-      subst (λ o. IsTied Means g (moved problem (board_in ((i ∷ is) ∷ frames) kept caps word Free) Free by) (leads_in g p q rets o by)) (sym es) (cases by)
+      subst (λ o. IsTied Means g (moved problem (board_on ((i ∷ is) ∷ frames) kept caps word Free) Free by) (leads_in g p q rets o by)) (sym es) (cases by)
     where
-      cases : (by : Move) → IsTied Means g (moved problem (board_in ((i ∷ is) ∷ frames) kept caps word Free) Free by) (leads_in g p q rets (Some (Branch m n)) by)
+      cases : (by : Move) → IsTied Means g (moved problem (board_on ((i ∷ is) ∷ frames) kept caps word Free) Free by) (leads_in g p q rets (Some (Branch m n)) by)
       cases On = no_way i is frames kept caps word OnWay quiet (ways OnWay)
       cases Left = quiet_on fn i is left frames kept caps word m q rets LeftWay quiet (ways LeftWay) a h u
       cases Right = quiet_on fn i is right' frames kept caps word n q rets RightWay quiet (ways RightWay) a' h u
@@ -166,18 +164,18 @@ module _ (Means : Meaning) (g : Game) (plan : Plan) (right : AreStates g.policy 
       cases Failed = no_way i is frames kept caps word FailedWay quiet (ways FailedWay)
       cases _ = tt
   tied_front fn p _ (is_label {at} {mark} {j} {l} {s} {is} {n} es a) frames kept caps word q rets by h good u =
-      subst (λ o. IsTied Means g (moved problem (board_in ((Todo (Label at mark j l s) ∷ is) ∷ frames) kept caps word Free) Free by) (leads_in g p q rets o by)) (sym es) (cases by)
+      subst (λ o. IsTied Means g (moved problem (board_on ((Todo (Label at mark j l s) ∷ is) ∷ frames) kept caps word Free) Free by) (leads_in g p q rets o by)) (sym es) (cases by)
     where
       fine : IsBad g.policy (word ++ letter_of l caps ∷ []) → ⊥
       fine y = not_both (g.states.bad q l) ((right.bad q word caps l (p, j, n, es) h).1 y) (sym (ap (bad_in g q) es) ∙ good)
 
-      cases : (by : Move) → IsTied Means g (moved problem (board_in ((Todo (Label at mark j l s) ∷ is) ∷ frames) kept caps word Free) Free by) (leads_in g p q rets (Some (LabelSpot j l n)) by)
+      cases : (by : Move) → IsTied Means g (moved problem (board_on ((Todo (Label at mark j l s) ∷ is) ∷ frames) kept caps word Free) Free by) (leads_in g p q rets (Some (LabelSpot j l n)) by)
       cases On = lands fn (Todo s ∷ is) frames kept caps (word ++ letter_of l caps ∷ []) n (g.states.lettered q l) rets a (right.lettered q word caps l (p, j, n, es) h fine) u
       cases _ = tt
   tied_front fn p _ (is_open {at} {j} {d} {is} {n} lt es a) frames kept caps word q rets by h good u =
-      subst (λ o. IsTied Means g (moved problem (board_in ((Todo (Open at j d) ∷ is) ∷ frames) kept caps word Free) Free by) (leads_in g p q rets o by)) (sym es) (cases by)
+      subst (λ o. IsTied Means g (moved problem (board_on ((Todo (Open at j d) ∷ is) ∷ frames) kept caps word Free) Free by) (leads_in g p q rets o by)) (sym es) (cases by)
     where
-      cases : (by : Move) → IsTied Means g (moved problem (board_in ((Todo (Open at j d) ∷ is) ∷ frames) kept caps word Free) Free by) (leads_in g p q rets (Some (OpenSpot j d n)) by)
+      cases : (by : Move) → IsTied Means g (moved problem (board_on ((Todo (Open at j d) ∷ is) ∷ frames) kept caps word Free) Free by) (leads_in g p q rets (Some (OpenSpot j d n)) by)
       cases Opened =
           let after = with_opened caps d (slice_get g.policy.descriptors d) in
           lands fn is frames kept after (word ++ []) n (g.states.opened q d) rets a (no_letter Means (g.states.opened q d) word [] after refl (right.opened q word caps d (p, j, n, es) lt h)) u
@@ -186,25 +184,25 @@ module _ (Means : Meaning) (g : Game) (plan : Plan) (right : AreStates g.policy 
           (no_letter Means (g.states.closed q d) word [] (closed caps d) refl (right.closed q word caps d (inl (p, j, n, es)) lt h)) u
       cases _ = tt
   tied_front fn p _ (is_close {at} {j} {d} {is} {n} lt es a) frames kept caps word q rets by h good u =
-      subst (λ o. IsTied Means g (moved problem (board_in ((Todo (Close at j d) ∷ is) ∷ frames) kept caps word Free) Free by) (leads_in g p q rets o by)) (sym es) (cases by)
+      subst (λ o. IsTied Means g (moved problem (board_on ((Todo (Close at j d) ∷ is) ∷ frames) kept caps word Free) Free by) (leads_in g p q rets o by)) (sym es) (cases by)
     where
-      cases : (by : Move) → IsTied Means g (moved problem (board_in ((Todo (Close at j d) ∷ is) ∷ frames) kept caps word Free) Free by) (leads_in g p q rets (Some (CloseSpot j d n)) by)
+      cases : (by : Move) → IsTied Means g (moved problem (board_on ((Todo (Close at j d) ∷ is) ∷ frames) kept caps word Free) Free by) (leads_in g p q rets (Some (CloseSpot j d n)) by)
       cases On =
           lands fn is frames kept (closed caps d) (word ++ []) n (g.states.closed q d) rets a
           (no_letter Means (g.states.closed q d) word [] (closed caps d) refl (right.closed q word caps d (inr (p, j, n, es)) lt h)) u
       cases _ = tt
   tied_front fn p _ (is_call {at} {j} {callee} {is} {n} es a) frames kept caps word q rets by h good u =
-      subst (λ o. IsTied Means g (moved problem (board_in ((Todo (Call at j callee) ∷ is) ∷ frames) kept caps word Free) Free by) (leads_in g p q rets o by)) (sym es.0)
+      subst (λ o. IsTied Means g (moved problem (board_on ((Todo (Call at j callee) ∷ is) ∷ frames) kept caps word Free) Free by) (leads_in g p q rets o by)) (sym es.0)
       (tied_call fn at j callee is frames kept caps word p q n rets by es.0 a h u)
   tied_front fn p _ (is_end {f} {is} es ep) frames kept caps word q rets by h good u =
-      subst (λ o. IsTied Means g (moved problem (board_in ((End f ∷ is) ∷ frames) kept caps word Free) Free by) (leads_in g p q rets o by)) (sym es)
+      subst (λ o. IsTied Means g (moved problem (board_on ((End f ∷ is) ∷ frames) kept caps word Free) Free by) (leads_in g p q rets o by)) (sym es)
       (tied_end fn f is frames kept caps word p q rets by u h)
 
   -- a visit
   tied_visit : (fn : ℕ) (frame : Frame) (frames : List Frame) (kept : List (Option Caps)) (caps : Caps) (word : Word) (i : ℕ) (a : Primitive) (later : List Primitive) (p q j : ℕ)
       (rets : List Ret) (by : Move)
       → Stage g.spots g.policy (g.exit fn) frame i (a ∷ later) p → Means q word caps → Under Means g fn frames kept rets
-      → IsTied Means g (moved problem (board_in (frame ∷ frames) kept caps word (Visit i a later)) (Visit i a later) by) (leads_in g p q rets (Some (VisitSpot j i a)) by)
+      → IsTied Means g (moved problem (board_on (frame ∷ frames) kept caps word (Visit i a later)) (Visit i a later) by) (leads_in g p q rets (Some (VisitSpot j i a)) by)
   tied_visit fn frame frames kept caps word i a later p q j rets Skip s h u =
       (fn, stage_at Means g.spots g.policy (g.exit fn) frame caps word (suc i) later (p + 2) q (next_stage g.spots g.policy (g.exit fn) frame i a later p s) h, u)
   tied_visit fn frame frames kept caps word i a later p q j rets Try s h u = (fn, (p, s, refl, h), u)
@@ -220,7 +218,7 @@ module _ (Means : Meaning) (g : Game) (plan : Plan) (right : AreStates g.policy 
   tied_if false b c h = tt
 
   granted_on : (fn : ℕ) (frame : Frame) (frames : List Frame) (kept : List (Option Caps)) (caps : Caps) (word : Word) (i : ℕ) (a : Primitive) (later : List Primitive) (p q : ℕ) (rets : List Ret)
-      → let next = granted (board_in (frame ∷ frames) kept caps word (Asked i a later)) i a later in let c = past_asked g p q a rets in StandsIn Means g.spots g.policy (g.exit fn) frame
+      → let next = granted (board_on (frame ∷ frames) kept caps word (Asked i a later)) i a later in let c = past_asked g p q a rets in StandsIn Means g.spots g.policy (g.exit fn) frame
       next.caps next.word next.phase c.pos c.state
       → Under Means g fn frames kept rets → Stands Means g next c
   granted_on fn frame frames kept caps word i Split later p q rets s u = (fn, s, u)
@@ -229,15 +227,15 @@ module _ (Means : Meaning) (g : Game) (plan : Plan) (right : AreStates g.policy 
   tied_asked : (fn : ℕ) (frame : Frame) (frames : List Frame) (kept : List (Option Caps)) (caps : Caps) (word : Word) (i : ℕ) (a : Primitive) (later : List Primitive) (o p q j : ℕ)
       (rets : List Ret) (by : Move)
       → Stage g.spots g.policy (g.exit fn) frame i (a ∷ later) o → p ≡ o + 1 → Means q word caps → Under Means g fn frames kept rets → stop_answers g.policy caps (Asked i a later) by ≡ false
-      → IsTied Means g (moved problem (board_in (frame ∷ frames) kept caps word (Asked i a later)) (Asked i a later) by) (leads_in g p q rets (Some (AskedSpot j i a)) by)
+      → IsTied Means g (moved problem (board_on (frame ∷ frames) kept caps word (Asked i a later)) (Asked i a later) by) (leads_in g p q rets (Some (AskedSpot j i a)) by)
   tied_asked fn frame frames kept caps word i a later o p q j rets Grant s ep h u never =
-      let b = board_in (frame ∷ frames) kept caps word (Asked i a later) in
+      let b = board_on (frame ∷ frames) kept caps word (Asked i a later) in
       subst (λ y. IsTied Means g (cond (may_grant caps a) (Some (granted b i a later)) None) (cond y (Some (past_asked g p q a rets)) None))
       (sym (grants_is Means g right (g.exit fn) frame caps word i a later o q s h))
       (tied_if (may_grant caps a) (granted b i a later) (past_asked g p q a rets)
       (λ y. granted_on fn frame frames kept caps word i a later p q rets (granted_at Means g right (g.exit fn) b frame i a later o p q rets s ep h y) u))
   tied_asked fn frame frames kept caps word i a later o p q j rets Refuse s ep h u never =
-      let b = board_in (frame ∷ frames) kept caps word (Asked i a later) in
+      let b = board_on (frame ∷ frames) kept caps word (Asked i a later) in
       let e : may_refuse g.policy caps a ≡ refuses_in g q a =
       unstopped (may_refuse g.policy caps a) (can_stop g.policy caps a) never ∙ sym
       (ap₂ (λ y z. y && not z) (refuses_is Means g right (g.exit fn) frame caps word i a later o q s h) (stops_is Means g right (g.exit fn) frame caps word i a later o q s h)) in
@@ -250,16 +248,16 @@ module _ (Means : Meaning) (g : Game) (plan : Plan) (right : AreStates g.policy 
   -- The board's move and its configuration's, at a pair that isn't bad.
   tied_in : (stack : List Frame) (kept : List (Option Caps)) (caps : Caps) (word : Word) (phase : Phase) (p q : ℕ) (rets : List Ret) (by : Move)
       → StandsOn Means g stack kept caps word phase p q rets → bad_in g q (slice_get g.spots p) ≡ false → stop_answers g.policy caps phase by ≡ false
-      → IsTied Means g (moved problem (board_in stack kept caps word phase) phase by) (leads_in g p q rets (slice_get g.spots p) by)
+      → IsTied Means g (moved problem (board_on stack kept caps word phase) phase by) (leads_in g p q rets (slice_get g.spots p) by)
   tied_in [] kept caps word phase p q rets by h good never = absurd h
   tied_in (frame ∷ frames) kept caps word (Visit i a later) p q rets by h good never =
       let s = h.1.0 in
-      subst (λ o. IsTied Means g (moved problem (board_in (frame ∷ frames) kept caps word (Visit i a later)) (Visit i a later) by) (leads_in g p q rets o by)) (sym s.4.0)
+      subst (λ o. IsTied Means g (moved problem (board_on (frame ∷ frames) kept caps word (Visit i a later)) (Visit i a later) by) (leads_in g p q rets o by)) (sym s.4.0)
       (tied_visit h.0 frame frames kept caps word i a later p q s.1 rets by s h.1.1 h.2)
   tied_in (frame ∷ frames) kept caps word (Asked i a later) p q rets by h good never =
       let w = h.1 in
       let s = w.1 in
-      subst (λ o. IsTied Means g (moved problem (board_in (frame ∷ frames) kept caps word (Asked i a later)) (Asked i a later) by) (leads_in g p q rets o by))
+      subst (λ o. IsTied Means g (moved problem (board_on (frame ∷ frames) kept caps word (Asked i a later)) (Asked i a later) by) (leads_in g p q rets o by))
       (sym (ap (slice_get g.spots) w.2 ∙ s.4.1))
       (tied_asked h.0 frame frames kept caps word i a later w.0 p q s.1 rets by s w.2 w.3 h.2 never)
   tied_in (frame ∷ frames) kept caps word Free p q rets by h good never =
@@ -269,7 +267,7 @@ module _ (Means : Meaning) (g : Game) (plan : Plan) (right : AreStates g.policy 
       let w = h.1 in
       let f = w.1 in
       let es = ap (slice_get g.spots) w.3 ∙ f.2.1.1 w.2 in
-      subst (λ o. IsTied Means g (moved problem (board_in ((Todo (Call at j callee) ∷ is) ∷ frames) kept caps word FreeSplit) FreeSplit by) (leads_in g p q rets o by)) (sym es)
+      subst (λ o. IsTied Means g (moved problem (board_on ((Todo (Call at j callee) ∷ is) ∷ frames) kept caps word FreeSplit) FreeSplit by) (leads_in g p q rets o by)) (sym es)
       (tied_split h.0 at j callee is frames kept caps word p q f.2.0 rets by es (f.0, f.1, f.2.2) w.4 h.2)
   tied_in (_ ∷ frames) kept caps word FreeSplit p q rets by h good never = absurd h.1.2
   tied_in (frame ∷ frames) kept caps word Over p q rets by h good never = absurd h.1
@@ -291,7 +289,7 @@ module _ (Means : Meaning) (g : Game) (plan : Plan) (right : AreStates g.policy 
   front_bad x p _ (is_end es ep) caps word q h some bad = absurd (some refl)
 
   violates_in : (stack : List Frame) (kept : List (Option Caps)) (caps : Caps) (word : Word) (phase : Phase) (p q : ℕ) (rets : List Ret)
-      → StandsOn Means g stack kept caps word phase p q rets → Violates problem (board_in stack kept caps word phase) → bad_in g q (slice_get g.spots p) ≡ true
+      → StandsOn Means g stack kept caps word phase p q rets → Violates problem (board_on stack kept caps word phase) → bad_in g q (slice_get g.spots p) ≡ true
   violates_in [] kept caps word phase p q rets h v = absurd h
   violates_in (frame ∷ frames) kept caps word Free p q rets h v =
       let w = h.1 in
@@ -319,7 +317,7 @@ module _ (Means : Meaning) (g : Game) (plan : Plan) (right : AreStates g.policy 
   bad_front x p _ (is_end {f} {is} es ep) caps word q h bad = absurd (bad_not q p (Exit f) es refl bad)
 
   bad_on : (stack : List Frame) (kept : List (Option Caps)) (caps : Caps) (word : Word) (phase : Phase) (p q : ℕ) (rets : List Ret) → StandsOn Means g stack kept caps word phase p q rets
-      → bad_in g q (slice_get g.spots p) ≡ true → Violates problem (board_in stack kept caps word phase)
+      → bad_in g q (slice_get g.spots p) ≡ true → Violates problem (board_on stack kept caps word phase)
   bad_on [] kept caps word phase p q rets h bad = absurd h
   bad_on (frame ∷ frames) kept caps word (Visit i a later) p q rets h bad = absurd (bad_not q p (VisitSpot h.1.0.1 i a) h.1.0.4.0 refl bad)
   bad_on (frame ∷ frames) kept caps word (Asked i a later) p q rets h bad = absurd (bad_not q p (AskedSpot h.1.1.1 i a) (ap (slice_get g.spots) h.1.2 ∙ h.1.1.4.1) refl bad)

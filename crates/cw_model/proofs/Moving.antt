@@ -13,6 +13,7 @@ use Rattle.cw_rights.specs.declared.capabilities.Allowed.{Allowed}
 use Rattle.cw_rights.specs.declared.capabilities.Allowed.TheVariants.{Yes, NotCapable, BadDescriptor}
 use Rattle.cw_rights.specs.Capabilities.{allowed, applied, closed, hold_of, HasRightIn, HoldsRight, IsAllowed}
 use Rattle.cw_rights.specs.Policies.{PlainDescriptor, PlainPolicy, is_refusable}
+use Rattle.cw_rights.specs.Words.{Word}
 use Rattle.cw_rights.proofs.LawProofs.{never_grow}
 use Rattle.cw_certs.specs.declared.moves.Move.{Move}
 use Rattle.cw_certs.specs.declared.moves.Move.TheVariants.{Skip, Try, Grant, Refuse, On, Left, Right, Opened, Failed, Stop}
@@ -28,6 +29,10 @@ use Rattle.cw_model.specs.Laws.{CapabilityModeStays, RightsNeverGrow}
 use Rattle.std.proofs.lemmas.Bool.{false_from_ne_true as not_true}
 use Rattle.cw_lemmas.proofs.Options.{option_map_some as map_some}
 use Rattle.std.proofs.lemmas.Option.{cond_some}
+
+-- a board by its parts
+abbrev pub board_on : List Frame → List (Option Caps) → Caps → Word → Phase → Board
+board_on stack kept caps word phase = record { stack = stack; kept = kept; caps = caps; word = word; phase = phase }
 
 -- a primitive that is granted leaves the stack
 pub granted_stack : (b : Board) (stage : ℕ) (a : Primitive) (later : List Primitive) → (granted b stage a later).stack ≡ b.stack

@@ -17,6 +17,7 @@ use Rattle.cw_syntax.specs.Plans.{Plan, Label}
 use Rattle.cw_syntax.specs.Frames.{Item, Todo, Frame}
 use Rattle.cw_model.specs.Boards.{Problem, Phase, Free, Board, Environment, begin, onward, way_of, landed, moved, turn_of}
 use Rattle.cw_model.specs.Runs.{State, WovenStep}
+use Rattle.cw_model.proofs.Moving.{board_on}
 use Rattle.cw_game.specs.Games.{Game}
 use Rattle.cw_game.proofs.Moves.{step_of}
 use Rattle.cw_trace.specs.Traces.{Names, move_lines, reached_lines, label_lines}
@@ -25,7 +26,7 @@ use Rattle.cw_run.specs.Lines.{own_of}
 use Rattle.cw_run.proofs.Runs.{own_lines, own_trace}
 use Rattle.cw_worlds.specs.Forks.{at_fork, forks_in}
 use Rattle.cw_worlds.specs.Worlds.{World, Forks}
-use Rattle.cw_worlds.proofs.Meeting.{ForkItem, fork_if, fork_test, fork_item, board_on}
+use Rattle.cw_worlds.proofs.Meeting.{ForkItem, fork_if, fork_test, fork_item}
 use Rattle.cw_worlds.proofs.Sets.{among_set}
 use Rattle.cw_procs.specs.Steps.{Entry, is_weavers_in}
 use Rattle.cw_procs.specs.Told.{fork_line}

@@ -12,6 +12,7 @@ use Rattle.cw_syntax.specs.Frames.{Todo, End, Frame, Way, settle, pass, frame_of
 use Rattle.cw_syntax.specs.Frames.{On as OnWay}
 use Rattle.cw_model.specs.Boards.{Problem, Phase, Free, FreeSplit, Over, Board, landed, moved, mode_of}
 use Rattle.cw_model.specs.Runs.{mem_in, called_with, returned_with, memories, State, WovenStep}
+use Rattle.cw_model.proofs.Moving.{board_on}
 use Rattle.cw_game.specs.declared.spots.Spot.{Spot}
 use Rattle.cw_game.specs.declared.spots.Spot.TheVariants.{Exit, Call as CallSpot, SplitCall}
 use Rattle.cw_game.specs.Games.{AreStates, Game, Ret, at_pair, leads_in, leads_to, bad_in, returned}
@@ -26,7 +27,7 @@ use Rattle.cw_lemmas.proofs.Truths.{not_both}
 use Rattle.cw_trace.specs.Traces.{Names, move_lines}
 use Rattle.cw_trace.specs.Told.{spot_lines}
 use Rattle.cw_run.specs.Walks.{Here, Wait, ret_of, config_of, mems_of, landing}
-use Rattle.cw_run.proofs.Sees.{Sees, sees_visit, sees_asked, sees_step, sees_branch, sees_label, sees_open, sees_close, sees_call, sees_split, sees_end, see, below, board_on}
+use Rattle.cw_run.proofs.Sees.{Sees, sees_visit, sees_asked, sees_step, sees_branch, sees_label, sees_open, sees_close, sees_call, sees_split, sees_end, see, below}
 use Rattle.cw_run.proofs.Sits.{IsCallOf, Waiting, Least, Sits, Stepped, arrived, told_by, state_of_board}
 
 module _ (names : Names) (g : Game) (t : Table) (plan : Plan) (right : AreStates g.policy g.spots g.states (Reached g.policy g.spots g.states)) (laid : IsLaidOut plan g) (has : HasRoutines plan g)

@@ -16,6 +16,7 @@ use Rattle.cw_syntax.specs.Plans.{Callee, Call, Plan}
 use Rattle.cw_syntax.specs.Frames.{Todo, Frame}
 use Rattle.cw_model.specs.Boards.{Problem, Phase, Asked, Refused, Board, Environment, moved, Moves, Violates, stop_answers, turn_of, IsWeavers, IsEnvironments}
 use Rattle.cw_model.specs.Runs.{front_seam, try_of, mem_in, try_in, refused_with, stops, stays_where, returned_with, memories, State, WovenStep}
+use Rattle.cw_model.proofs.Moving.{board_on}
 use Rattle.cw_game.specs.declared.spots.Spot.{Spot}
 use Rattle.cw_game.specs.declared.spots.Spot.TheVariants.{Step, Branch, Exit, Visit as VisitSpot, Asked as AskedSpot, Label as LabelSpot, Open as OpenSpot, Close as CloseSpot}
 use Rattle.cw_game.specs.declared.spots.Spot.TheVariants.{Call as CallSpot, SplitCall}
@@ -32,7 +33,7 @@ use Rattle.cw_product.specs.Moves.{pair_of, is_left_in, next_in, next_at}
 use Rattle.cw_trace.specs.Traces.{Names}
 use Rattle.cw_trace.specs.Steps.{IsNoMove}
 use Rattle.cw_run.specs.Walks.{Here, Wait, ret_of, config_of, mems_of, landing, mem_after, within, To, Over as AllOver, Back, Stopped, called, returning, ended, going_on, refusing, asked, next_of}
-use Rattle.cw_run.proofs.Sees.{Sees, see, is_inner, below, board_on, remembered}
+use Rattle.cw_run.proofs.Sees.{Sees, see, is_inner, below, remembered}
 use Rattle.cw_run.proofs.Sits.{same_lead, with_rets, Waiting, Least, Sits}
 use Rattle.cw_lemmas.proofs.Options.{option_map_some as mapped, option_map_none}
 use Rattle.cw_run.proofs.Calls.{call_here, called_memory, end_here}

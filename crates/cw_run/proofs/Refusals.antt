@@ -14,6 +14,7 @@ use Rattle.cw_syntax.specs.Plans.{Plan}
 use Rattle.cw_syntax.specs.Frames.{Frame}
 use Rattle.cw_model.specs.Boards.{seam_in, Problem, Phase, Asked, Refused, Over, Board, onward, may_grant, may_refuse, can_stop, passed_by}
 use Rattle.cw_model.specs.Runs.{top_by, try_in, refused_with, stops, stays_where, State, WovenStep}
+use Rattle.cw_model.proofs.Moving.{board_on}
 use Rattle.cw_game.specs.declared.spots.Spot.{Spot}
 use Rattle.cw_game.specs.declared.spots.Spot.TheVariants.{Asked as AskedSpot}
 use Rattle.cw_game.specs.Games.{AreStates, Game, Ret, at_pair, bad_in, can_stop_in, resumed, resumed_in}
@@ -27,7 +28,7 @@ use Rattle.cw_lemmas.proofs.Truths.{not_both}
 use Rattle.cw_trace.specs.Traces.{Names, move_lines, reached_lines, answered_lines, stopped_lines}
 use Rattle.cw_trace.specs.Lines.{try_line, stop_line}
 use Rattle.cw_run.specs.Walks.{Here, Wait, ret_of, config_of, mems_of, landing}
-use Rattle.cw_run.proofs.Sees.{Sees, sees_visit, sees_asked, sees_step, sees_branch, sees_label, sees_open, sees_close, sees_call, sees_split, sees_end, see, below, board_on}
+use Rattle.cw_run.proofs.Sees.{Sees, sees_visit, sees_asked, sees_step, sees_branch, sees_label, sees_open, sees_close, sees_call, sees_split, sees_end, see, below}
 use Rattle.cw_run.proofs.Sits.{Waiting, Least, Sits, Stepped, arrived, state_of_board}
 use Rattle.cw_run.proofs.Calls.{Finishes}
 

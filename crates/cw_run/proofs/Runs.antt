@@ -15,6 +15,7 @@ use Rattle.cw_syntax.specs.Plans.{Plan}
 use Rattle.cw_syntax.specs.Frames.{Frame}
 use Rattle.cw_model.specs.Boards.{seam_in, Problem, Phase, Visit, Asked, Refused, Free, FreeSplit, Over, Board, Weaver, Environment, moved, turn_of}
 use Rattle.cw_model.specs.Runs.{mem_in, try_of, try_in, refused_with, stays_where, stays_unless, memories, State, start_state, WovenStep, Goes, last, Sound}
+use Rattle.cw_model.proofs.Moving.{board_on}
 use Rattle.cw_game.specs.declared.spots.Spot.{Spot}
 use Rattle.cw_game.specs.declared.spots.Spot.TheVariants.{Step as StepSpot, Branch, Exit, Visit as VisitSpot, Asked as AskedSpot, Label as LabelSpot, Open as OpenSpot}
 use Rattle.cw_game.specs.declared.spots.Spot.TheVariants.{Close as CloseSpot, Call as CallSpot, SplitCall}
@@ -32,7 +33,7 @@ use Rattle.cw_trace.proofs.Grown.{follows_grown, state_grown, entries_grown}
 use Rattle.cw_trace.specs.Told.{spot_lines, label_at}
 use Rattle.cw_run.specs.Walks.{Here, Wait, ret_of, config_of, mems_of, landing, within, Next, To, Into, Back, Over as AllOver, Resumed, Stopped, at_pos}
 use Rattle.cw_run.specs.Walks.{called, ended, going_on, refusing, asked, next_of, stop_lines, landing_of, waits_after, Rests, stays as rests_stays, tries as rests_tries, skips as rests_skips}
-use Rattle.cw_run.proofs.Sees.{is_inner, Sees, sees_visit, sees_asked, sees_step, sees_branch, sees_label, sees_open, sees_close, sees_call, sees_split, sees_end, see, below, board_on, stays}
+use Rattle.cw_run.proofs.Sees.{is_inner, Sees, sees_visit, sees_asked, sees_step, sees_branch, sees_label, sees_open, sees_close, sees_call, sees_split, sees_end, see, below, stays}
 use Rattle.cw_run.proofs.Sits.{chained, Waiting, Least, Sits, Stepped, arrived, told_by, inner_step}
 use Rattle.cw_lemmas.proofs.Options.{option_map_some as mapped}
 use Rattle.cw_run.proofs.Calls.{Finishes, call_step, return_step, end_step}

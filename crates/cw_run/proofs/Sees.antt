@@ -15,6 +15,7 @@ use Rattle.cw_syntax.specs.Frames.{Item, Todo, End, Frame, after, settle}
 use Rattle.cw_model.specs.Boards.{Problem, Phase, Visit, Asked, Refused, Free, FreeSplit, Over, Board, Weaver, Environment, seam_in, may_grant, may_refuse, can_stop, way_of}
 use Rattle.cw_model.specs.Boards.{granted, refused, answered, moved, stop_answers, turn_of}
 use Rattle.cw_model.specs.Runs.{mem_in, try_in, refused_with, memories}
+use Rattle.cw_model.proofs.Moving.{board_on}
 use Rattle.cw_game.specs.declared.spots.Spot.{Spot}
 use Rattle.cw_game.specs.declared.spots.Spot.TheVariants.{Step, Branch, Exit, Visit as VisitSpot, Asked as AskedSpot, Label as LabelSpot, Open as OpenSpot, Close as CloseSpot}
 use Rattle.cw_game.specs.declared.spots.Spot.TheVariants.{Call as CallSpot, SplitCall}
@@ -78,9 +79,6 @@ is_inner _ = true
 abbrev pub below : List Frame → List Frame
 below [] = []
 below (frame ∷ frames) = frames
-
-abbrev pub board_on : List Frame → List (Option Caps) → Caps → Word → Phase → Board
-board_on stack kept caps word phase = record { stack = stack; kept = kept; caps = caps; word = word; phase = phase }
 
 module _ (p : Problem) (t : Table) where
   -- what is remembered, in the same frame

@@ -13,6 +13,7 @@ use Rattle.cw_syntax.specs.Plans.{Callee, Call, Plan}
 use Rattle.cw_syntax.specs.Frames.{Todo, Frame}
 use Rattle.cw_model.specs.Boards.{Problem, Phase, Board}
 use Rattle.cw_model.specs.Runs.{State, WovenStep}
+use Rattle.cw_model.proofs.Moving.{board_on}
 use Rattle.cw_game.specs.declared.spots.Spot.{Spot}
 use Rattle.cw_game.specs.declared.spots.Spot.TheVariants.{Step, Branch, Exit, Visit as VisitSpot, Asked as AskedSpot, Label as LabelSpot, Open as OpenSpot, Close as CloseSpot}
 use Rattle.cw_game.specs.declared.spots.Spot.TheVariants.{Call as CallSpot, SplitCall}
@@ -28,7 +29,7 @@ use Rattle.cw_trace.specs.Told.{spot_lines, lines_at, label_at}
 use Rattle.cw_trace.proofs.Boards.{moved_on, reached_on}
 use Rattle.cw_run.specs.Walks.{Here, Wait, ret_of, config_of, mems_of, landing, mem_after, within}
 use Rattle.cw_run.proofs.Sees.{Sees, see, means_in, is_inner, below}
-use Rattle.cw_run.proofs.Sees.{board_on, remembered, stays}
+use Rattle.cw_run.proofs.Sees.{remembered, stays}
 use Rattle.cw_lemmas.proofs.Truths.{or_first as left_of}
 use Rattle.cw_lemmas.proofs.Options.{cond_none_some as kept_only, option_map_some as mapped}
 

@@ -7,6 +7,7 @@ use Rattle.cw_certs.specs.declared.moves.Move.{Move}
 use Rattle.cw_syntax.specs.Plans.{Plain, Break, Continue, Return, Open, Close, Call, Group, Label, If, While, Do, For, Stm, Plan}
 use Rattle.cw_syntax.specs.Frames.{Entry, Todo, Test, After, LoopEnd, End, Frame, settled}
 use Rattle.cw_model.specs.Boards.{Problem, Phase, Visit, Asked, Refused, Free, FreeSplit, Over, Board}
+use Rattle.cw_model.proofs.Moving.{board_on}
 use Rattle.cw_game.specs.declared.spots.Spot.{Spot}
 use Rattle.cw_game.specs.declared.spots.Spot.TheVariants.{Visit as VisitSpot, Asked as AskedSpot, Step, Branch, Label as LabelSpot, Open as OpenSpot, Close as CloseSpot}
 use Rattle.cw_game.specs.declared.spots.Spot.TheVariants.{Call as CallSpot, SplitCall, Exit}
@@ -71,11 +72,8 @@ module _ (Means : Meaning) (g : Game) (plan : Plan) (main : plan.main ≡ g.main
   at_label : (pos : ℕ) (spot : Spot) (caps : Caps) → slice_get g.spots pos ≡ Some spot → label_lines names g.policy caps spot ≡ labelled caps pos
   at_label pos spot caps e = sym (ap (label_at names g.policy caps) e)
 
-  abbrev board : List Frame → List (Option Caps) → Caps → Word → Phase → Board
-  board stack kept caps word phase = record { stack = stack; kept = kept; caps = caps; word = word; phase = phase }
-
   pub moved_on : (stack : List Frame) (kept : List (Option Caps)) (caps : Caps) (word : Word) (phase : Phase) (p q : ℕ) (rets : List Ret) (by : Move)
-      → StandsOn Means g stack kept caps word phase p q rets → move_lines names problem (board stack kept caps word phase) phase by ≡ told p by
+      → StandsOn Means g stack kept caps word phase p q rets → move_lines names problem (board_on stack kept caps word phase) phase by ≡ told p by
   moved_on [] kept caps word phase p q rets by h = absurd h
   moved_on (frame ∷ frames) kept caps word (Visit i a later) p q rets by h = at_spot p (VisitSpot h.1.0.1 i a) by h.1.0.4.0
   moved_on (frame ∷ frames) kept caps word (Asked i a later) p q rets by h =
@@ -90,7 +88,7 @@ module _ (Means : Meaning) (g : Game) (plan : Plan) (main : plan.main ≡ g.main
   moved_on (frame ∷ frames) kept caps word Over p q rets by h = absurd h.1
 
   pub reached_on : (stack : List Frame) (kept : List (Option Caps)) (caps : Caps) (word : Word) (phase : Phase) (p q : ℕ) (rets : List Ret)
-      → StandsOn Means g stack kept caps word phase p q rets → reached_lines names g.policy (board stack kept caps word phase) phase ≡ labelled caps p
+      → StandsOn Means g stack kept caps word phase p q rets → reached_lines names g.policy (board_on stack kept caps word phase) phase ≡ labelled caps p
   reached_on [] kept caps word phase p q rets h = absurd h
   reached_on (frame ∷ frames) kept caps word (Visit i a later) p q rets h = at_label p (VisitSpot h.1.0.1 i a) caps h.1.0.4.0
   reached_on (frame ∷ frames) kept caps word (Asked i a later) p q rets h = at_label p (AskedSpot h.1.1.1 i a) caps (ap (slice_get g.spots) h.1.2 ∙ h.1.1.4.1)

@@ -11,6 +11,7 @@ use Rattle.cw_syntax.specs.Plans.{Stm, If}
 use Rattle.cw_syntax.specs.Frames.{Item, Todo, Test, Frame}
 use Rattle.cw_model.specs.Boards.{Problem, Phase, Free, Board, Weaver, Environment, Violates, Moves, turn_of, IsWeavers, IsEnvironments, moved}
 use Rattle.cw_model.specs.Runs.{State, start_state, WovenStep, WovenRun, reached, Sound}
+use Rattle.cw_model.proofs.Moving.{board_on}
 use Rattle.cw_model.proofs.Running.{goes_append, last_append}
 use Rattle.cw_worlds.specs.Forks.{is_fork_item, forks_in, at_fork}
 use Rattle.cw_worlds.specs.Worlds.{World, Act, Makes, Forks, WorldStep, Step, Goes, world_after, start_world, IsWorld, MeetsInAll}
@@ -26,9 +27,6 @@ pub fork_item : (forks : List ℕ) (i : Item) → is_fork_item forks i ≡ true 
 fork_item forks (Todo (If at s t)) e = fork_if at s t
 fork_item forks (Test at true stepped s) e = fork_test at stepped s
 fork_item forks _ e = cc
-
-abbrev pub board_on : List Frame → List (Option Caps) → Caps → Word → Phase → Board
-board_on stack kept caps word phase = record { stack = stack; kept = kept; caps = caps; word = word; phase = phase }
 
 -- A fork: the environment may go both ways, and no other.
 pub record Forked (p : Problem) (b : Board) : Type 0 where
