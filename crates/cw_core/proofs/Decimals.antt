@@ -1,8 +1,7 @@
 -- Decimals and the digits that they have.
-use Rattle.std.proofs.Common.{◌≡◌, ◌≢◌, ℕ, zero, suc, ◌+◌, ◌*◌, ◌^◌, ◌<◌, ◌≤◌, Bool, true, false, cond, eqb, List, [], ◌∷◌, length, get_or, take, drop, map, refl, sym, ap, ◌∙◌, arith}
+use Rattle.std.proofs.Common.{◌≡◌, ◌≢◌, ℕ, zero, suc, ◌+◌, ◌*◌, ◌^◌, ◌<◌, ◌≤◌, Bool, true, false, cond, eqb, List, [], ◌∷◌, length, get_or, take, drop, refl, sym, ap, ◌∙◌, arith}
 use Rattle.std.specs.Char.{digit_value, is_ascii_digit}
 use Rattle.std.specs.Fmt.{decimal}
-use Rattle.std.specs.Int.Digits.{number_from_digits, number_from_digits_after}
 use Rattle.std.specs.List.{take_while}
 use Rattle.std.specs.Str.Parse.{AllDigits, digits_value}
 use Rattle.std.proofs.lemmas.Str.{digit_value_digit}
@@ -10,10 +9,10 @@ use Rattle.std.specs.Prelude.{Option, Some, None, IfSome, IfNone}
 use Rattle.std.proofs.lemmas.Fmt.{decimal_nonempty, first_decimal, decimal_digit, decimal-digits_value, digits_value-decimal, decimal_injective}
 use Rattle.cw_core.specs.Numerals.{IsDecimalAt}
 use Rattle.cw_core.proofs.Glyphs.{bounds}
-use Rattle.std.proofs.lemmas.Int.Digits.{number_after_append, number_after_ge, digits_value_is, digits_value_more}
-use Rattle.std.proofs.lemmas.List.{take-append-drop, map-append}
+use Rattle.std.proofs.lemmas.Int.Digits.{digits_value_more}
 use Rattle.std.proofs.lemmas.List.Sums.{take_while-cons}
 use Rattle.std.proofs.lemmas.Str.Parse.{IsNumeralModel}
+use Rattle.cw_lemmas.proofs.Digits.{digits_value-take-le}
 
 pub own : IsNumeralModel (AllDigits 10) (digits_value 10)
 own = record { to = λ _ h. h; from = λ _ h. h; same = λ _ _. refl }
@@ -29,17 +28,6 @@ no_needless_zero bs zero small first several e =
 no_needless_zero bs (suc n) small first several e =
     let p = first_decimal (suc n) (omega arith) small in
     absurd (omega (arith, p, first, ap (λ (ds : List ℕ). get_or ds 0 0) e))
-
--- the value of a front is at most that of the whole
-pub digits_value-take-le : (base : ℕ) (ds : List ℕ) (i : ℕ) → 0 < base → digits_value base (take i ds) ≤ digits_value base ds
-digits_value-take-le base ds i pos =
-    let p = number_after_ge base (number_from_digits base (map digit_value (take i ds))) (map digit_value (drop i ds)) pos in
-    let whole : digits_value base ds ≡ number_from_digits_after base (number_from_digits base (map digit_value (take i ds))) (map digit_value (drop i ds)) =
-    digits_value_is base ds
-    ∙ ap (λ (z : List ℕ). number_from_digits base (map digit_value z)) (sym (take-append-drop i ds))
-    ∙ ap (number_from_digits base) (map-append digit_value (take i ds) (drop i ds))
-    ∙ number_after_append base 0 (map digit_value (take i ds)) (map digit_value (drop i ds)) in
-    rw (digits_value_is base (take i ds), whole) p
 
 pub decimal_from_value : (ds : List ℕ) (number : ℕ) → AllDigits 10 ds → 0 < length ds → (get_or ds 0 0 ≡ 48 → length ds ≡ 1) → number < 2 ^ 64 → number ≡ digits_value 10 ds → decimal number ≡ ds
 decimal_from_value ds number all some first small e = rw e (decimal-digits_value own ds all some first (rw e at small))

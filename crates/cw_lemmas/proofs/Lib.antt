@@ -6,3 +6,4 @@ pub mod Lists
 pub mod Rising
 pub mod Texts
 pub mod Found
+pub mod Digits
