@@ -1,5 +1,5 @@
 -- Decimals and the digits that they have.
-use Rattle.std.proofs.Common.{◌≡◌, ◌≢◌, ℕ, zero, suc, ◌+◌, ◌*◌, ◌^◌, ◌<◌, ◌≤◌, Bool, true, false, cond, eqb, List, [], ◌∷◌, length, get_or, take, drop, refl, sym, ap, ◌∙◌, arith}
+use Rattle.std.proofs.Common.{◌≡◌, ◌≢◌, ℕ, zero, suc, ◌+◌, ◌^◌, ◌<◌, ◌≤◌, Bool, true, false, cond, eqb, List, [], ◌∷◌, length, get_or, drop, refl, sym, ap, ◌∙◌, arith}
 use Rattle.std.specs.Char.{digit_value, is_ascii_digit}
 use Rattle.std.specs.Fmt.{decimal}
 use Rattle.std.specs.List.{take_while}
@@ -9,10 +9,8 @@ use Rattle.std.specs.Prelude.{Option, Some, None, IfSome, IfNone}
 use Rattle.std.proofs.lemmas.Fmt.{decimal_nonempty, first_decimal, decimal_digit, decimal-digits_value, digits_value-decimal, decimal_injective}
 use Rattle.cw_core.specs.Numerals.{IsDecimalAt}
 use Rattle.cw_core.proofs.Glyphs.{bounds}
-use Rattle.std.proofs.lemmas.Int.Digits.{digits_value_more}
 use Rattle.std.proofs.lemmas.List.Sums.{take_while-cons}
 use Rattle.std.proofs.lemmas.Str.Parse.{IsNumeralModel}
-use Rattle.cw_lemmas.proofs.Digits.{digits_value-take-le}
 
 pub own : IsNumeralModel (AllDigits 10) (digits_value 10)
 own = record { to = λ _ h. h; from = λ _ h. h; same = λ _ _. refl }
@@ -54,19 +52,6 @@ AllDigits-take_while (b ∷ bs) = rw (take_while-cons is_ascii_digit b bs) (by_t
     by_test : (rest : List ℕ) → AllDigits 10 rest → (t : Bool) → is_ascii_digit b ≡ t → AllDigits 10 (cond t (b ∷ rest) [])
     by_test rest all true e = (digit_from_test b e, all)
     by_test rest all false e = tt
-
--- the loop over digits: the value so far, and what it is where it is too large
-value_more : (ds : List ℕ) (i : ℕ) → i < length ds → digits_value 10 (take (i + 1) ds) ≡ digits_value 10 (take i ds) * 10 + digit_value (get_or ds i 0)
-value_more ds i lt = digits_value_more 10 ds i lt
-
-pub value_step : (ds : List ℕ) (i number more : ℕ) → i < length ds → number ≡ digits_value 10 (take i ds) → more ≡ number * 10 + digit_value (get_or ds i 0) → more ≡ digits_value 10 (take (i + 1) ds)
-value_step ds i number more lt e h = let q = value_more ds i lt in omega (arith, q, e, h)
-
-pub too_large : (ds : List ℕ) (i number : ℕ) → i < length ds → number ≡ digits_value 10 (take i ds) → 2 ^ 64 ≤ number * 10 + digit_value (get_or ds i 0) → 2 ^ 64 ≤ digits_value 10 ds
-too_large ds i number lt e large =
-    let p = digits_value-take-le 10 ds (i + 1) (omega arith) in
-    let q = value_more ds i lt in
-    omega (arith, p, q, e, large)
 
 -- what was read of digits is what they spell
 pub spells : (ds : List ℕ) (read : Option ℕ) → AllDigits 10 ds → 0 < length ds → (get_or ds 0 0 ≡ 48 → length ds ≡ 1) → IfSome read (λ number. (number ≡ digits_value 10 ds) × (number < 2 ^ 64)) → IfSome read (λ number. (decimal number ≡ ds) × (number < 2 ^ 64))

@@ -1,4 +1,3 @@
-mod Digits
 mod OneDigit
 mod Close
 mod Texts

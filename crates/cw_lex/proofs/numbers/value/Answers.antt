@@ -1,4 +1,4 @@
-use Rattle.cw_lex.proofs.Digits.{value_step, too_large}
+use Rattle.cw_lemmas.proofs.Digits.{value_step, too_large}
 use Rattle.cw_lex.proofs.numbers.value.Goals as goal
 
 pub returns-in_err-number-clause-none : goal.returns-in_err-number-clause-none
