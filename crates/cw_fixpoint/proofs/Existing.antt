@@ -1,6 +1,6 @@
 -- What is closed in a finite set has a list, and what a list has can be put in order: by what a list lacks of the set, which is less each time.
-use Rattle.std.proofs.Common.{◌≡◌, ◌⊎◌, ℕ, zero, suc, ◌≤◌, List, [], ◌∷◌, length, refl, sym, ap, ◌∙◌, subst, inl, inr, arith}
-use Rattle.std.specs.List.{AllByRecursion, Contains, flat_map}
+use Rattle.std.proofs.Common.{◌≡◌, ◌⊎◌, ℕ, zero, suc, ◌<◌, ◌≤◌, List, [], ◌∷◌, length, refl, sym, ap, ◌∙◌, subst, inl, inr, arith}
+use Rattle.std.specs.List.{AllByRecursion, Contains, flat_map, range_with_len}
 use Rattle.std.specs.List.Sorted.{IsStrictlySortedBy}
 use Rattle.std.specs.FinMap.{IsAntisymmetric}
 use Rattle.std.specs.Cmp.{IsTotalOrder, tied_itself}
@@ -8,6 +8,7 @@ use Rattle.std.specs.Ordering.{ordering_reverse}
 use Rattle.std.specs.declared.cmp.Ordering.{Ordering}
 use Rattle.std.specs.declared.cmp.Ordering.TheVariants.{Less, Equal, Greater}
 use Rattle.std.proofs.lemmas.List.Elements.{Contains-append_left, Contains-append_right, Contains-append_cases}
+use Rattle.std.proofs.lemmas.List.FromFn.{length-range_with_len, get_or-range_with_len}
 use Rattle.cw_lemmas.proofs.Lists.{contains_none, contains_one, head_in, tail_in, in_either}
 use Rattle.cw_fixpoint.specs.Closures.{Exactly}
 
@@ -27,6 +28,14 @@ module _ {K : Type 0} where
   all_more : (P Q : K → Type 0) (xs : List K) → AllByRecursion P xs → ((x : K) → P x → Q x) → AllByRecursion Q xs
   all_more P Q [] h f = tt
   all_more P Q (x ∷ xs) h f = (f x h.0, all_more P Q xs h.1 f)
+
+-- the numbers below a bound
+pub numbers : ℕ → List ℕ
+numbers n = range_with_len 0 n
+
+pub in_numbers : (n k : ℕ) → k < n → Contains (numbers n) k
+unfolding numbers
+in_numbers n k lt = (k, omega (arith, lt, length-range_with_len 0 n), get_or-range_with_len 0 n k k lt ∙ omega arith)
 
 -- what is in a list of lists put one behind the other
 module _ {X A : Type 0} (f : X → List A) where

@@ -1,6 +1,6 @@
 -- A game in which the lazy table can begin has one: what is live is within a finite set, and each list is put together of what is live.
 use Rattle.std.proofs.Common.{◌≡◌, ℕ, ◌^◌, ◌<◌, List, [], ◌∷◌, ◌++◌, Bool, true, false, cond, ◌&&◌, Option, Some, None, map, filter_map, length, nat_eq, refl, sym, ap, ap₂, ◌∙◌, subst, inl, inr, arith, eq-eqb, eqb-true}
-use Rattle.std.specs.List.{Contains, flat_map, range_with_len}
+use Rattle.std.specs.List.{Contains, flat_map}
 use Rattle.std.specs.Cmp.{IsTotalOrder}
 use Rattle.std.specs.FinMap.{IsAntisymmetric, nat_cmp-IsAntisymmetric}
 use Rattle.std.specs.Ordering.{nat_cmp, ordering_then}
@@ -8,7 +8,6 @@ use Rattle.std.specs.declared.cmp.Ordering.TheVariants.{Equal}
 use Rattle.std.proofs.lemmas.Bool.{and_parts}
 use Rattle.std.proofs.lemmas.Cmp.{nat_cmp_total, on_total, then_total}
 use Rattle.std.proofs.lemmas.List.Elements.{Contains-append_left, Contains-append_right, Contains-append_cases}
-use Rattle.std.proofs.lemmas.List.FromFn.{length-range_with_len, get_or-range_with_len}
 use Rattle.cw_lemmas.proofs.Lists.{contains_none, contains_one, contains_map, head_in}
 use Rattle.cw_lemmas.proofs.Orders.{then_equal}
 use Rattle.cw_certs.specs.Ascending.{mem_cmp}
@@ -16,7 +15,7 @@ use Rattle.cw_certs.specs.Tables.{Table, table_with}
 use Rattle.cw_certs.proofs.Orders.{mem_total}
 use Rattle.cw_fixpoint.specs.Closures.{Exactly}
 use Rattle.cw_fixpoint.specs.Members.{Rules, IsMember, first, then, joins, IsPair, pair_cmp}
-use Rattle.cw_fixpoint.proofs.Existing.{in_order, closed_in, in_flat, of_flat}
+use Rattle.cw_fixpoint.proofs.Existing.{in_order, closed_in, in_flat, of_flat, numbers, in_numbers}
 use Rattle.cw_game.specs.Games.{Game}
 use Rattle.cw_game.specs.Pairs.{all_states}
 use Rattle.cw_solve.specs.Contexts.{context}
@@ -149,13 +148,6 @@ mem_exact x y e =
 -- ---- all keys
 
 module _ (g : Game) (functions : ℕ) (can : CanBegin g functions) (low : HeightsAreLow g) where
-  numbers : ℕ → List ℕ
-  numbers n = range_with_len 0 n
-
-  in_numbers : (n k : ℕ) → k < n → Contains (numbers n) k
-  unfolding numbers
-  in_numbers n k lt = (k, omega (arith, lt, length-range_with_len 0 n), get_or-range_with_len 0 n k k lt ∙ omega arith)
-
   universe : List Key
   universe = flat_map (λ p. flat_map (λ q. map (key p q) (numbers (2 ^ g.states.count))) (numbers g.states.count)) (numbers (length g.spots))
 

@@ -1,11 +1,10 @@
 -- A game whose start is lost has a strategy by least heights: the keys that the start's names are within a finite set, since heights fall.
-use Rattle.std.proofs.Common.{ℕ, ◌+◌, ◌^◌, ◌<◌, ◌≤◌, List, [], ◌∷◌, map, length, refl, ap, ◌∙◌, subst, arith}
-use Rattle.std.specs.List.{Contains, flat_map, range_with_len}
-use Rattle.std.proofs.lemmas.List.FromFn.{length-range_with_len, get_or-range_with_len}
+use Rattle.std.proofs.Common.{ℕ, ◌+◌, ◌^◌, ◌<◌, ◌≤◌, List, [], ◌∷◌, map, length, refl, ap, subst, arith}
+use Rattle.std.specs.List.{Contains, flat_map}
 use Rattle.cw_lemmas.proofs.Lists.{contains_one, contains_map, head_in}
 use Rattle.cw_certs.specs.Strategies.{Strategy}
 use Rattle.cw_fixpoint.specs.Closures.{Reached, first, then, Exactly}
-use Rattle.cw_fixpoint.proofs.Existing.{closed_in, in_flat, of_flat}
+use Rattle.cw_fixpoint.proofs.Existing.{closed_in, in_flat, of_flat, numbers, in_numbers}
 use Rattle.cw_game.specs.Games.{Game}
 use Rattle.cw_game.specs.Pairs.{all_states}
 use Rattle.cw_product.specs.Routed.{AreRouted}
@@ -25,13 +24,6 @@ module _ (g : Game) (functions : ℕ) (routed : AreRouted g functions) (k : Key)
       let l = (named_lower g functions routed a (reached_keys g functions routed k a is r) b i).1 in
       let h = not_higher a r in
       omega (arith, l, h)
-
-  numbers : ℕ → List ℕ
-  numbers n = range_with_len 0 n
-
-  in_numbers : (n m : ℕ) → m < n → Contains (numbers n) m
-  unfolding numbers
-  in_numbers n m lt = (m, omega (arith, lt, length-range_with_len 0 n), get_or-range_with_len 0 n m m lt ∙ omega arith)
 
   abbrev key_at : ℕ → ℕ → ℕ → ℕ → Key
   key_at h p q a = record { height = h; pos = p; state = q; aim = a }
