@@ -1,5 +1,5 @@
 -- Options, besides what std has of them.
-use Rattle.std.proofs.Common.{◌≡◌, ℕ, ◌+◌, Bool, true, false, cond, List, [], ◌∷◌, Option, None, Some, option_map, refl, ap, ◌∙◌, sym}
+use Rattle.std.proofs.Common.{◌≡◌, ℕ, ◌+◌, Bool, true, false, true≢false, not, is_some, cond, List, [], ◌∷◌, Option, None, Some, option_map, refl, ap, ◌∙◌, sym}
 use Rattle.std.specs.Prelude.{find, Result, Ok, Err, IfNone, IfOk}
 use Rattle.std.specs.List.{position_from}
 use Rattle.std.proofs.lemmas.Option.{none-some, same_Some}
@@ -37,3 +37,8 @@ where_none None p f = f p
 pub if_ok : {A E : Type 0} (P Q : A → Type 0) (r : Result A E) → IfOk r P → ((a : A) → P a → Q a) → IfOk r Q
 if_ok P Q (Ok a) p h = h a p
 if_ok P Q (Err e) p h = p
+
+-- what isn't there, by a test of whether it is
+pub none_by_test : {A : Type 0} (o : Option A) (b : Bool) → is_some o ≡ not b → b ≡ true → o ≡ None
+none_by_test None b e h = refl
+none_by_test (Some x) b e h = absurd (true≢false (e ∙ ap not h))

@@ -1,5 +1,5 @@
 -- The numbers of names: what a name more changes, and what all names make.
-use Rattle.std.proofs.Common.{◌≡◌, ℕ, ◌+◌, List, [], ◌∷◌, ◌++◌, Bool, true, false, not, ◌||◌, cond, Option, Some, None, is_some, map, refl, sym, ap, ap₂, ◌∙◌, true≢false}
+use Rattle.std.proofs.Common.{◌≡◌, ℕ, ◌+◌, List, [], ◌∷◌, ◌++◌, Bool, true, false, ◌||◌, cond, Some, None, is_some, map, refl, sym, ap, ap₂, ◌∙◌}
 use Rattle.std.specs.Option.{option_or}
 use Rattle.std.specs.List.{list_any, position_from}
 use Rattle.std.specs.Prelude.{position}
@@ -8,10 +8,6 @@ use Rattle.std.specs.Str.{bytes_eq}
 use Rattle.std.proofs.lemmas.Iterator.Adapters.{position_from-zero}
 use Rattle.cw_syntax.specs.Names.{number_in}
 use Rattle.cw_resolve.specs.Listed.{HaveNumbers, found, number_from, text_at}
-
-pub nothing : {A : Type 0} (o : Option A) (b : Bool) → is_some o ≡ not b → b ≡ true → o ≡ None
-nothing None b e h = refl
-nothing (Some x) b e h = absurd (true≢false (e ∙ ap not h))
 
 abbrev Entries : Type 0
 Entries = List (Bor (List ℕ) × ℕ)

@@ -1,5 +1,5 @@
 -- Where names are kept: what a name more changes, and what all names make.
-use Rattle.std.proofs.Common.{◌≡◌, ℕ, ◌+◌, List, [], ◌∷◌, ◌++◌, Bool, true, false, not, cond, Option, Some, None, option_map, is_some, map, refl, sym, ap, ap₂, ◌∙◌, true≢false}
+use Rattle.std.proofs.Common.{◌≡◌, ℕ, ◌+◌, List, [], ◌∷◌, ◌++◌, Bool, true, false, cond, Some, None, option_map, map, refl, sym, ap, ap₂, ◌∙◌}
 use Rattle.std.specs.Option.{option_or}
 use Rattle.std.specs.List.{position_from}
 use Rattle.std.specs.Borrow.{Bor}
@@ -9,10 +9,6 @@ use Rattle.cw_syntax.specs.Names.{number_in}
 use Rattle.cw_slots.specs.declared.numbers.Kept.{Kept}
 use Rattle.cw_slots.specs.Texts.{text_at}
 use Rattle.cw_slots.specs.Numbers.{HaveNames, found, kept_from, kept_of}
-
-pub nothing : {A : Type 0} (o : Option A) (b : Bool) → is_some o ≡ not b → b ≡ true → o ≡ None
-nothing None b e h = refl
-nothing (Some x) b e h = absurd (true≢false (e ∙ ap not h))
 
 abbrev Entries : Type 0
 Entries = List (Bor (List ℕ) × Kept)
