@@ -1,21 +1,16 @@
 -- The first row at the start with an empty aim.
-use Rattle.std.proofs.Common.{◌≡◌, ℕ, ◌+◌, ◌<◌, ◌≤◌, ◌⊎◌, inl, inr, ⊎_elim, List, length, map, get_or, Bool, true, false, ◌&&◌, Option, Some, option_map, nat_eq, eqb-true, eq-eqb}
+use Rattle.std.proofs.Common.{◌≡◌, ℕ, ◌+◌, ◌<◌, ◌≤◌, ◌⊎◌, inl, inr, ⊎_elim, List, length, Bool, true, false, ◌&&◌, Some, nat_eq, eqb-true, eq-eqb}
 use Rattle.std.proofs.Common.{refl, sym, ap, ap₂, ◌∙◌, arith}
 use Rattle.std.specs.Prelude.{slice_get}
 use Rattle.std.proofs.lemmas.Bool.{cases_lt}
-use Rattle.std.proofs.lemmas.Option.{same_Some, slice_get-get_or, slice_get-map, slice_get_within}
-use Rattle.cw_certs.specs.declared.strategy.EnvRow.{EnvRow}
-use Rattle.cw_certs.specs.Strategies.{How, Row, Strategy, row_of}
+use Rattle.std.proofs.lemmas.Option.{same_Some, slice_get_within}
+use Rattle.cw_certs.specs.Strategies.{How, Row, Strategy}
 use Rattle.cw_game.specs.Games.{Game}
 use Rattle.cw_game.specs.Conditions.{is_start, IsGoodStrategy}
 use Rattle.cw_lemmas.proofs.Truths.{not_both}
 use Rattle.cw_echeck.specs.Beating.{IsStartRow}
 use Rattle.cw_echeck.proofs.Starts.{good_start}
 use Rattle.std.proofs.lemmas.Bool.{and_parts as both_true}
-
--- a row of the program's data
-pub row_at : (rows : List EnvRow) (i : ℕ) (x : EnvRow) → i < length rows → x ≡ get_or rows i x → slice_get (map row_of rows) i ≡ Some (row_of x)
-row_at rows i x lt e = slice_get-map row_of rows i ∙ ap (λ (o : Option EnvRow). option_map row_of o) (slice_get-get_or rows i x lt ∙ ap Some (sym e))
 
 below_or_at : (j i : ℕ) → j < i + 1 → (j < i) ⊎ (j ≡ i)
 below_or_at j i lt = ⊎_elim (λ l. inl l) (λ (g : i ≤ j). inr (omega (arith, lt, g))) (cases_lt j i)

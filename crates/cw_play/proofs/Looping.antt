@@ -6,6 +6,7 @@ use Rattle.std.proofs.lemmas.List.{drop_all, length-map}
 use Rattle.std.proofs.lemmas.Option.{none-some, same_Some, slice_get_within, slice_get-get_or, get_or_from_slice_get}
 use Rattle.std.proofs.lemmas.Bool.{cases_lt}
 use Rattle.std.proofs.Math.Seq.{drop-cons}
+use Rattle.cw_lemmas.proofs.Lists.{get_mapped}
 use Rattle.cw_certs.specs.declared.moves.Move.{Move}
 use Rattle.cw_certs.specs.declared.moves.Move.TheVariants.{On}
 use Rattle.cw_certs.specs.declared.strategy.EnvRow.{EnvRow}
@@ -39,7 +40,6 @@ use Rattle.cw_play.proofs.Nested.{AreNested}
 use Rattle.cw_play.proofs.Advances.{told_of}
 use Rattle.cw_play.proofs.Going.{Takes, Ready, ready}
 use Rattle.cw_play.proofs.Ending.{ends}
-use Rattle.cw_play.proofs.FirstRow.{row_at}
 use Rattle.cw_play.proofs.Ranges.{in_range}
 use Rattle.cw_play.proofs.Meant.{tells}
 
@@ -96,7 +96,7 @@ module _ (held : Held) (cert : EnvCert) (names : Names) (tape : List Move) (old 
   at_within text at calls taken k = let lt = slice_get_within s.rows at _ k.stands.1 in omega (arith, lt, length-map cert.rows.items row_of)
 
   pub row_here : (text : List ℕ) (at : ℕ) (calls : List ℕ) (taken : ℕ) → Keeps text at calls taken → (x : EnvRow) → x ≡ get_or cert.rows.items at x → slice_get s.rows at ≡ Some (row_of x)
-  row_here text at calls taken k x e = row_at cert.rows.items at x (at_within text at calls taken k) e
+  row_here text at calls taken k x e = get_mapped row_of cert.rows.items at x (at_within text at calls taken k) e
 
   pub turn : (text : List ℕ) (at : ℕ) (calls : List ℕ) (taken n : ℕ) (k : Keeps text at calls taken) (x : EnvRow) → x ≡ get_or cert.rows.items at x
       → (entry : Option Move) (by : Move) → entry ≡ slice_get tape taken → move_in (how_of x.how) entry ≡ Some by → n ≡ entries_in (how_of x.how)
@@ -124,7 +124,7 @@ module _ (held : Held) (cert : EnvCert) (names : Names) (tape : List Move) (old 
     next_within = let lt = slice_get_within s.rows next y.row has_then in omega (arith, lt, length-map cert.rows.items row_of)
 
     pub row_then : (x : EnvRow) → x ≡ get_or cert.rows.items next x → slice_get s.rows next ≡ Some (row_of x)
-    row_then x e = row_at cert.rows.items next x next_within e
+    row_then x e = get_mapped row_of cert.rows.items next x next_within e
 
     pub kept_then : (x : EnvRow) → x ≡ get_or cert.rows.items next x → (more : List ℕ) → more ≡ text ++ told_of g v names s first tape old r.pos by x.pos.0 x.state.0
         → Kept g v names s first tape old more next opened left

@@ -1,11 +1,10 @@
 -- Lines as they are put.
-use Rattle.std.proofs.Common.{◌≡◌, ℕ, zero, suc, ◌+◌, ◌<◌, List, [], ◌∷◌, ◌++◌, Some, length, map, take, get_or, sym, ap, ◌∙◌, arith, append-nil, append_assoc, add-one}
+use Rattle.std.proofs.Common.{◌≡◌, ℕ, zero, suc, ◌+◌, List, [], ◌∷◌, ◌++◌, Some, take, sym, ap, ◌∙◌, arith, append-nil, append_assoc, add-one}
 use Rattle.std.specs.List.{flat_map}
-use Rattle.std.specs.Prelude.{codes, option_map, slice_get}
-use Rattle.std.proofs.lemmas.Option.{same_Some, none-some, slice_get-get_or, slice_get-map}
+use Rattle.std.specs.Prelude.{codes, slice_get}
+use Rattle.std.proofs.lemmas.Option.{same_Some, none-some}
 use Rattle.std.specs.Fmt.{decimal}
-use Rattle.cw_certs.specs.Strategies.{Row, Strategy, row_of}
-use Rattle.cw_certs.specs.declared.strategy.EnvRow.{EnvRow}
+use Rattle.cw_certs.specs.Strategies.{Row, Strategy}
 use Rattle.cw_text.specs.Lines.{line, joined, set_text, states_line, end_line}
 use Rattle.cw_strategy_text.specs.StrategyText.{head_line, how_fields, row_line, row_lines, strategy_text}
 use Rattle.cw_strategy_text.specs.Fields.{put_line}
@@ -42,10 +41,6 @@ lines_step format old now new rows i r so_far put at =
     rw add-one (more_lines format 0 rows i r at ∙ ap (λ (k : ℕ). row_lines format 0 (take i rows) ++ row_line format k r) e) in
     put ∙ ap (λ (t : List ℕ). t ++ row_line format i r) so_far ∙ append_assoc old (row_lines format 0 (take i rows)) (row_line format i r)
     ∙ ap (λ (t : List ℕ). old ++ t) (sym step)
-
--- the row that an index reads
-pub row_read : (rows : List EnvRow) (i : ℕ) (x : EnvRow) → i < length rows → x ≡ get_or rows i x → slice_get (map row_of rows) i ≡ Some (row_of x)
-row_read rows i x lt is = slice_get-map row_of rows i ∙ ap (option_map row_of) (slice_get-get_or rows i x lt ∙ ap (λ (y : EnvRow). Some y) (sym is))
 
 -- a row's line, put piece by piece
 line_put : (format number : ℕ) (r : Row) (old first second third whole : List ℕ) → first ≡ old ++ decimal number
