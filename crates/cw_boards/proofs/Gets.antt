@@ -23,11 +23,6 @@ free_none all n e = sym (ap (λ l. is_free (onward n l)) (drop_none all n (sym e
 pub free_some : (all : List Primitive) (n : ℕ) (a : Primitive) → Some a ≡ slice_get all n → false ≡ is_free (onward n (drop n all))
 free_some all n a e = sym (ap (λ l. is_free (onward n l)) (drop_some all n a (sym e)))
 
-pub get_mapped : {A B : Type 0} (f : A → B) (xs : List A) (i : ℕ) (x : A) → i < length xs → x ≡ get_or xs i x → slice_get (map f xs) i ≡ Some (f x)
-get_mapped f [] i x l e = absurd (omega arith)
-get_mapped f (y ∷ xs) zero x l e = ap (λ z. Some (f z)) (sym e)
-get_mapped f (y ∷ xs) (suc i) x l e = get_mapped f xs i x (omega arith) e
-
 pub from_mapped : {A B : Type 0} (f : A → B) (xs : List A) (i : ℕ) (y : B) → slice_get (map f xs) i ≡ Some y → (x : A) × (i < length xs) × (x ≡ get_or xs i x) × (f x ≡ y)
 from_mapped f [] i y e = absurd (none-some y e)
 from_mapped f (x ∷ xs) zero y e = (x, omega arith, refl, same_Some (f x) y e)

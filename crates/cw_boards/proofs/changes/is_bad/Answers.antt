@@ -4,7 +4,8 @@ use Rattle.cw_rights.specs.declared.policy.Rule.{Rule}
 use Rattle.cw_rights.specs.Trees.{tree_of}
 use Rattle.cw_rights.specs.Words.{Matches}
 use Rattle.cw_rights.specs.Policies.{rule_of}
-use Rattle.cw_boards.proofs.Gets.{get_mapped, from_mapped}
+use Rattle.cw_lemmas.proofs.Lists.{get_mapped}
+use Rattle.cw_boards.proofs.Gets.{from_mapped}
 use Rattle.cw_boards.proofs.changes.is_bad.Goals as goal
 
 pub returns-then-matches_plain : goal.returns-then-matches_plain
