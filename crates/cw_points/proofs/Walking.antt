@@ -6,6 +6,7 @@ use Rattle.cw_syntax.specs.Names.{Names}
 use Rattle.cw_syntax.specs.Trees.{File}
 use Rattle.cw_syntax.specs.Plans.{Routine, Plan, plan_of}
 use Rattle.cw_syntax.specs.Frames.{Item, Frame, Way, pass, PathFrom, start_stack, stack_of, new_frame}
+use Rattle.cw_syntax.proofs.Tabled.{first_is}
 use Rattle.cw_points.specs.declared.graph.Node.{Node}
 use Rattle.cw_points.specs.declared.graph.Part.{Part}
 use Rattle.cw_points.specs.Points.{points}
@@ -16,9 +17,6 @@ use Rattle.cw_points.proofs.Standing.{at_new_frame}
 use Rattle.cw_points.proofs.Laying.{situated_program}
 use Rattle.cw_points.proofs.Ways.{StackAt, Tied}
 use Rattle.cw_points.proofs.Passing.{Front, front_at}
-
-first_is : (i k : Item) → i ∷ [] ≡ k ∷ [] → i ≡ k
-first_is i k e = cc
 
 module _ (ns : List Node) (its : List Item) where
   of_stack : (next : List Frame) (o : Option (Option Stand)) → Tied ns its (Some next) o → (here : Option Stand) × (o ≡ Some here) × StackAt ns its next here

@@ -135,10 +135,10 @@ same_pass plan _ _ _ _ frames (expanded at j d rest) = refl
 same_pass plan _ _ _ _ frames (failed at j d rest) = refl
 same_pass plan _ _ _ _ frames (close at j d rest) = refl
 
-module _ (plan : Plan) where
-  first_is : (i k : Item) → i ∷ [] ≡ k ∷ [] → i ≡ k
-  first_is i k e = cc
+pub first_is : (i k : Item) → i ∷ [] ≡ k ∷ [] → i ≡ k
+first_is i k e = cc
 
+module _ (plan : Plan) where
   in_frame : (i : Item) (way : Way) (rest : Frame) (frames next : List Frame) (o : Option Frame) → after i way rest ≡ o → onto frames o ≡ Some next → Steps plan ((i ∷ rest) ∷ frames) i way next
   in_frame i way rest frames next None e f = absurd (none-some next f)
   in_frame i way rest frames next (Some raw) e f = subst (λ n. Steps plan ((i ∷ rest) ∷ frames) i way n) (same_Some (settle raw ∷ frames) next f) (within i way rest raw (settle raw) frames (passes i way rest raw e) (settles raw))
