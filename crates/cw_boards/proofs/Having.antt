@@ -127,7 +127,3 @@ refused_not all n phase e h w = none-some Weaver (sym (ap (λ l. party_turn (ref
 
 pub refused_are : (all : List Primitive) (n : ℕ) (a : Primitive) (phase : Phase) → phase ≡ refusing n (drop n all) → Some a ≡ slice_get all n → party_turn phase ≡ Some Weaver
 refused_are all n a phase e h = ap party_turn e ∙ ap (λ l. party_turn (refusing n l)) (drop_some all n a (sym h))
-
-pub some_from : {A : Type 0} (o : Option A) → is_some o ≡ true → (x : A) × (o ≡ Some x)
-some_from None e = absurd (cc)
-some_from (Some x) e = (x, refl)

@@ -1,8 +1,9 @@
 -- Members of lists, and what a find gives.
-use Rattle.std.proofs.Common.{◌≡◌, ◌⊎◌, inl, inr, ℕ, zero, suc, ◌<◌, List, [], ◌∷◌, Bool, true, false, cond, Option, Some, None, is_some, find, length, get_or, refl, sym, ap, ◌∙◌, subst, arith}
+use Rattle.std.proofs.Common.{◌≡◌, ◌⊎◌, inl, inr, ℕ, zero, suc, ◌<◌, List, [], ◌∷◌, Bool, true, false, cond, Some, is_some, find, length, get_or, refl, sym, ap, ◌∙◌, subst, arith}
 use Rattle.std.specs.Prelude.{slice_get}
 use Rattle.std.specs.List.{Contains, AllByRecursion}
 use Rattle.std.proofs.lemmas.Option.{none-some, same_Some, slice_get_read}
+use Rattle.cw_lemmas.proofs.Options.{some_from}
 
 module _ {A : Type 0} where
   abbrev pub In : List A → A → Type 0
@@ -50,12 +51,8 @@ module _ {A : Type 0} where
   pub found : (test : A → Bool) (xs : List A) (x : A) → find test xs ≡ Some x → Contains xs x × (test x ≡ true)
   found test xs x e = let z = find_in test xs x e in (of_in xs x z.0, z.1)
 
-  pub somewhere : (o : Option A) → is_some o ≡ true → (y : A) × (o ≡ Some y)
-  somewhere None e = cc
-  somewhere (Some y) e = (y, refl)
-
   pub is_found : (test : A → Bool) (xs : List A) (x : A) → Contains xs x → test x ≡ true → (y : A) × (find test xs ≡ Some y)
-  is_found test xs x c t = somewhere (find test xs) (find_some test xs x (in_of xs x c) t)
+  is_found test xs x c t = some_from (find test xs) (find_some test xs x (in_of xs x c) t)
 
   -- the number of an element
   pub numbered : (xs : List A) (x : A) → Contains xs x → (i : ℕ) × (i < length xs) × (slice_get xs i ≡ Some x)

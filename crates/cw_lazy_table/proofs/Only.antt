@@ -2,6 +2,7 @@
 use Rattle.std.proofs.Common.{◌≡◌, ℕ, ◌+◌, [], Bool, true, false, Option, Some, None, is_some, refl, sym, ap, ap₂, ◌∙◌, subst, arith}
 use Rattle.std.specs.Prelude.{slice_get}
 use Rattle.std.proofs.lemmas.Option.{none-some, same_Some}
+use Rattle.cw_lemmas.proofs.Options.{some_from}
 use Rattle.cw_core.specs.declared.ids.MemId.{MemId}
 use Rattle.cw_rights.specs.declared.capabilities.Primitive.{Primitive}
 use Rattle.cw_certs.specs.declared.moves.Move.TheVariants.{Grant, Refuse}
@@ -16,7 +17,6 @@ use Rattle.cw_product.specs.Routed.{IsState, AreRouted}
 use Rattle.cw_lazy_table.specs.Live.{IsFull, IsLive}
 use Rattle.cw_lazy_table.specs.Lazy.{Means, IsAfter, GoesOn, IsRefused, IsCalled, IsLazyTable}
 use Rattle.cw_lazy_table.specs.Staged.{AreStaged}
-use Rattle.cw_lazy_table.proofs.Finding.{somewhere}
 use Rattle.cw_lazy_table.proofs.Keeping.{came}
 use Rattle.cw_lazy_table.proofs.Reading.{means_is, same_means, try_of, into_of}
 
@@ -46,7 +46,7 @@ module _ (g : Game) (functions : ℕ) (routed : AreRouted g functions) (staged :
 
   pub tries_lost : (p m q e j i : ℕ) (a : Primitive) → IsLivePair t p m q e → slice_get g.spots p ≡ Some (Visit j i a) → is_some (try_at t j i m) ≡ true → IsLost g (p + 2) q (has e)
   tries_lost p m q e j i a l es k =
-      let z = somewhere (try_at t j i m) k in
+      let z = some_from (try_at t j i m) k in
       let asked = staged.behind p j i a es in
       let h = tried_at (p + 1) m q e j i a z.0 asked (means_is (slice_get t.mems m) q e l.1) z.1 in
       let c = came g functions routed staged first start (p + 1) q e h.live (j, i, a, asked) in

@@ -42,3 +42,7 @@ if_ok P Q (Err e) p h = p
 pub none_by_test : {A : Type 0} (o : Option A) (b : Bool) → is_some o ≡ not b → b ≡ true → o ≡ None
 none_by_test None b e h = refl
 none_by_test (Some x) b e h = absurd (true≢false (e ∙ ap not h))
+
+pub some_from : {A : Type 0} (o : Option A) → is_some o ≡ true → (x : A) × (o ≡ Some x)
+some_from None e = absurd (cc)
+some_from (Some x) e = (x, refl)

@@ -1,6 +1,6 @@
 use Rattle.std.proofs.Common.{◌≡◌, true, false, ap, sym, ◌∙◌}
 use Rattle.std.specs.Prelude.{is_some}
-use Rattle.cw_boards.proofs.Having.{some_from}
+use Rattle.cw_lemmas.proofs.Options.{some_from}
 use Rattle.cw_boards.proofs.moves.has_move.Goals as goal
 
 pub returns : goal.returns
