@@ -30,12 +30,12 @@ use Rattle.cw_solve.proofs.Sets.{has_set}
 use Rattle.cw_fixpoint.proofs.Numbers.{at_number}
 use Rattle.cw_least_strategy.proofs.Keys.{key_total, key_exact, before}
 use Rattle.cw_least_strategy.proofs.Moving.{moved}
-use Rattle.cw_least_strategy.proofs.Naming.{to_kept, in_range, named_lower, fails, best_taken, taken_at, backs_lower, reached_keys, start_is}
+use Rattle.cw_least_strategy.proofs.Naming.{in_range, named_lower, fails, best_taken, taken_at, backs_lower, reached_keys, start_is}
 use Rattle.cw_least_strategy.proofs.Ways.{no_call, way_by}
 use Rattle.cw_lemmas.proofs.Lists.{map_contains as from_mapped, head_in, tail_in, in_either, contains_none}
 use Rattle.std.proofs.lemmas.Bool.{not-false as not_false, or_parts as both_fail}
 use Rattle.cw_lemmas.proofs.Numbers.{nat_eq_self as itself}
-use Rattle.cw_lemmas.proofs.Lists.{contains_map as to_mapped}
+use Rattle.cw_lemmas.proofs.Lists.{contains_map as to_mapped, to_kept}
 use Rattle.std.proofs.lemmas.Map.Keys.{any_passes_from_place as any_at}
 
 -- no condition fails

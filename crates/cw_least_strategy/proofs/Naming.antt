@@ -1,8 +1,8 @@
 -- What a key names are keys, each of a lesser height.
-use Rattle.std.proofs.Common.{◌≡◌, ◌⊎◌, ℕ, zero, suc, ◌+◌, ◌-◌, ◌<◌, ◌^◌, List, [], ◌∷◌, Bool, true, false, cond, not, ◌&&◌, Option, Some, None, map, filter_map, nat_lt}
+use Rattle.std.proofs.Common.{◌≡◌, ◌⊎◌, ℕ, zero, suc, ◌+◌, ◌-◌, ◌<◌, ◌^◌, List, [], ◌∷◌, Bool, true, false, cond, not, ◌&&◌, Option, Some, None, map, nat_lt}
 use Rattle.std.proofs.Common.{nat_le, refl, sym, ap, ◌∙◌, subst, arith, inl, inr}
 use Rattle.std.specs.Prelude.{slice_get, option_map}
-use Rattle.std.specs.List.{Contains, cons_option, range_with_len}
+use Rattle.std.specs.List.{Contains, range_with_len}
 use Rattle.std.proofs.lemmas.Bool.{lt-ltb, le-ltb, ltb-true}
 use Rattle.std.proofs.lemmas.Option.{same_Some, none-some}
 use Rattle.std.proofs.lemmas.List.FromFn.{length-range_with_len, get_or-range_with_len}
@@ -27,32 +27,7 @@ use Rattle.cw_least_strategy.proofs.Sets.{set_within, none_aimed}
 use Rattle.cw_least_strategy.proofs.Lowest as lowest
 use Rattle.cw_least_strategy.proofs.Moving.{moved}
 use Rattle.std.proofs.lemmas.Bool.{or_parts as neither}
-use Rattle.cw_lemmas.proofs.Lists.{map_contains as from_mapped, head_in, tail_in, in_either, contains_none}
-
--- members of lists
-pub from_kept : {A B : Type 0} (f : A → Option B) (xs : List A) (y : B) → Contains (filter_map f xs) y → (x : A) × Contains xs x × (f x ≡ Some y)
-from_kept f [] y c = absurd (contains_none y c)
-from_kept {A} {B} f (x ∷ xs) y c = by (f x) refl c (from_kept f xs y)
-  where
-    Is : Type 0
-    Is = (z : A) × Contains (x ∷ xs) z × (f z ≡ Some y)
-
-    by : (o : Option B) → f x ≡ o → Contains (cons_option o (filter_map f xs)) y → (Contains (filter_map f xs) y → (z : A) × Contains xs z × (f z ≡ Some y)) → Is
-    by None e c rec = let r = rec c in (r.0, tail_in x xs r.0 r.1, r.2)
-    by (Some v) e c rec = elim (in_either v (filter_map f xs) y c) [
-      | inl s ↦ (x, head_in x xs, e ∙ ap Some s)
-      | inr d ↦ let r = rec d in (r.0, tail_in x xs r.0 r.1, r.2)
-    ]
-
-pub to_kept : {A B : Type 0} (f : A → Option B) (xs : List A) (x : A) (y : B) → Contains xs x → f x ≡ Some y → Contains (filter_map f xs) y
-to_kept f [] x y c e = absurd (contains_none x c)
-to_kept {A} {B} f (z ∷ zs) x y c e = by (f z) refl (in_either z zs x c) (λ d. to_kept f zs x y d e)
-  where
-    by : (o : Option B) → f z ≡ o → (z ≡ x) ⊎ Contains zs x → (Contains zs x → Contains (filter_map f zs) y) → Contains (cons_option o (filter_map f zs)) y
-    by None eo (inl s) rec = absurd (none-some y (sym eo ∙ ap f s ∙ e))
-    by (Some v) eo (inl s) rec = let w : v ≡ y = same_Some v y (sym eo ∙ ap f s ∙ e) in subst (Contains (v ∷ filter_map f zs)) w (head_in v (filter_map f zs))
-    by None eo (inr d) rec = rec d
-    by (Some v) eo (inr d) rec = tail_in v (filter_map f zs) y (rec d)
+use Rattle.cw_lemmas.proofs.Lists.{map_contains as from_mapped, in_either, contains_none, from_kept}
 
 pub in_range : (n x : ℕ) → Contains (range_with_len 0 n) x → x < n
 in_range n x (i, l, e) =

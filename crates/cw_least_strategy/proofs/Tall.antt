@@ -12,7 +12,7 @@ use Rattle.cw_game.specs.declared.spots.Spot.TheVariants.{Visit, Asked, Step, Br
 use Rattle.cw_game.specs.Games.{Game, Promise, Holds, holds_in, bad_in, weavers_in, returned}
 use Rattle.cw_game.specs.Pairs.{has, Called, call_in, is_call_in, is_exit_in, kept_at}
 use Rattle.cw_game.proofs.Holding.{lost_rises, bad_fails}
-use Rattle.cw_lemmas.proofs.Lists.{contains_map, get_contains, head_in, tail_in}
+use Rattle.cw_lemmas.proofs.Lists.{contains_map, get_contains, head_in, tail_in, to_kept}
 use Rattle.cw_product.specs.Routed.{IsState, AreRouted}
 use Rattle.cw_solve.specs.Contexts.{promise_at}
 use Rattle.cw_solve.proofs.Falls.{later}
@@ -25,7 +25,7 @@ use Rattle.cw_least_strategy.specs.Kept.{IsKey}
 use Rattle.cw_least_strategy.specs.Strategies.{key_cmp, below, moves, best, after_return, is_lost_after, aim_at, back_at, backs_at, Act, Into, goes, inner, act_in, keys_in, named, number}
 use Rattle.cw_least_strategy.proofs.Keys.{key_total, key_exact, before}
 use Rattle.cw_least_strategy.proofs.Moving.{moved}
-use Rattle.cw_least_strategy.proofs.Naming.{aim_promises, best_taken, fails, lost_after_is, named_lower, taken_at, to_kept}
+use Rattle.cw_least_strategy.proofs.Naming.{aim_promises, best_taken, fails, lost_after_is, named_lower, taken_at}
 use Rattle.cw_least_strategy.proofs.Ways.{led_lost, no_call, way_by}
 
 -- where all that a key names is of a height of at most m the key's pair doesn't hold for m + 1 moves

@@ -1,13 +1,13 @@
 -- Lists: what they contain, what stands at a place, what all or some of their items are.
-use Rattle.std.proofs.Common.{◌≡◌, ℕ, zero, suc, ◌+◌, ◌<◌, ◌≤◌, Bool, true, false, ◌&&◌, ◌||◌, cond, List, [], ◌∷◌, ◌++◌, map, length, Some, refl, sym, ap, ◌∙◌, arith, ⊎_elim, nat_eq, eqb-true}
+use Rattle.std.proofs.Common.{◌≡◌, ℕ, zero, suc, ◌+◌, ◌<◌, ◌≤◌, Bool, true, false, ◌&&◌, ◌||◌, cond, List, [], ◌∷◌, ◌++◌, map, length, Option, None, Some, refl, sym, subst, ap, ◌∙◌, arith, ⊎_elim, nat_eq, eqb-true}
 use Rattle.std.proofs.Common.{eq-eqb, set, take, get_or, ap₂, ◌⊎◌, inl, inr}
 use Rattle.std.specs.Prelude.{slice_get, option_map}
-use Rattle.std.specs.List.{Contains, list_any, list_all, range_with_len, take_while, AllByRecursion}
+use Rattle.std.specs.List.{Contains, list_any, list_all, range_with_len, take_while, AllByRecursion, filter_map, cons_option}
 use Rattle.std.proofs.lemmas.Bool.{and_parts}
 use Rattle.std.proofs.lemmas.List.{get_or-map, length-map, take_all}
 use Rattle.std.proofs.lemmas.List.Elements.{Contains-append_right, Contains-append_cases, Contains-append_left, Contains-push, Contains-push_cases}
 use Rattle.std.proofs.lemmas.List.Sums.{take_while-cons}
-use Rattle.std.proofs.lemmas.Option.{none-some, slice_get_within, get_or_from_slice_get, slice_get-map, slice_get-get_or}
+use Rattle.std.proofs.lemmas.Option.{none-some, same_Some, slice_get_within, get_or_from_slice_get, slice_get-map, slice_get-get_or}
 use Rattle.std.proofs.lemmas.List.Folds.{list_all-map, list_all_more, list_all_at}
 
 pub contains_none : {A : Type 0} (x : A) → Contains [] x → ⊥
@@ -120,3 +120,28 @@ all_not test f xs i d lt h = list_all-map test f xs ∙ list_all_at (λ x. test 
 pub all_more : {A B : Type 0} (test : B → Bool) (f : A → B) (xs : List A) (i : ℕ) (d : A) → i < length xs → list_all (λ x. test (f x)) (take i xs) ≡ true
     → test (f (get_or xs i d)) ≡ true → list_all (λ x. test (f x)) (take (i + 1) xs) ≡ true
 all_more test f xs i d lt h e = list_all_more (λ x. test (f x)) xs i d lt ∙ ap₂ (λ a b. a && b) h e
+
+-- what a list maps to, where it does, and what of it does
+pub from_kept : {A B : Type 0} (f : A → Option B) (xs : List A) (y : B) → Contains (filter_map f xs) y → (x : A) × Contains xs x × (f x ≡ Some y)
+from_kept f [] y c = absurd (contains_none y c)
+from_kept {A} {B} f (x ∷ xs) y c = by (f x) refl c (from_kept f xs y)
+  where
+    Is : Type 0
+    Is = (z : A) × Contains (x ∷ xs) z × (f z ≡ Some y)
+
+    by : (o : Option B) → f x ≡ o → Contains (cons_option o (filter_map f xs)) y → (Contains (filter_map f xs) y → (z : A) × Contains xs z × (f z ≡ Some y)) → Is
+    by None e c rec = let r = rec c in (r.0, tail_in x xs r.0 r.1, r.2)
+    by (Some v) e c rec = elim (in_either v (filter_map f xs) y c) [
+      | inl s ↦ (x, head_in x xs, e ∙ ap Some s)
+      | inr d ↦ let r = rec d in (r.0, tail_in x xs r.0 r.1, r.2)
+    ]
+
+pub to_kept : {A B : Type 0} (f : A → Option B) (xs : List A) (x : A) (y : B) → Contains xs x → f x ≡ Some y → Contains (filter_map f xs) y
+to_kept f [] x y c e = absurd (contains_none x c)
+to_kept {A} {B} f (z ∷ zs) x y c e = by (f z) refl (in_either z zs x c) (λ d. to_kept f zs x y d e)
+  where
+    by : (o : Option B) → f z ≡ o → (z ≡ x) ⊎ Contains zs x → (Contains zs x → Contains (filter_map f zs) y) → Contains (cons_option o (filter_map f zs)) y
+    by None eo (inl s) rec = absurd (none-some y (sym eo ∙ ap f s ∙ e))
+    by (Some v) eo (inl s) rec = let w : v ≡ y = same_Some v y (sym eo ∙ ap f s ∙ e) in subst (Contains (v ∷ filter_map f zs)) w (head_in v (filter_map f zs))
+    by None eo (inr d) rec = rec d
+    by (Some v) eo (inr d) rec = tail_in v (filter_map f zs) y (rec d)
