@@ -1,7 +1,7 @@
 -- The sets after one, by the masks of the letters.
-use Rattle.std.proofs.Common.{◌≡◌, ◌<◌, ◌+◌, ℕ, List, [], ◌∷◌, ◌++◌, Option, Some, None, length, take, get_or, map, refl, sym, ap, ap₂, ◌∙◌, append_assoc, subst, arith, ⊎_elim}
+use Rattle.std.proofs.Common.{◌≡◌, ◌<◌, ◌+◌, ℕ, List, [], ◌∷◌, ◌++◌, Option, Some, None, length, take, get_or, map, refl, sym, ap, ap₂, ◌∙◌, append_assoc, subst}
 use Rattle.std.proofs.lemmas.List.{take_more}
-use Rattle.std.proofs.lemmas.List.Elements.{filter_map-append, Contains-append_left, Contains-append_right, Contains-append_cases, Contains-push}
+use Rattle.std.proofs.lemmas.List.Elements.{filter_map-append}
 use Rattle.std.specs.Option.{option_to_list}
 use Rattle.std.specs.List.{Contains, filter_map, cons_option}
 use Rattle.cw_rights.specs.declared.words.Letter.{Letter}
@@ -11,7 +11,7 @@ use Rattle.cw_dfa.specs.Sets.{has}
 use Rattle.cw_dfa.specs.Tables.{goes, matching}
 use Rattle.cw_dfa.specs.Verdicts.{verdict}
 use Rattle.cw_dfa.specs.States.{AreMasks, unless_bad, after_mask, after_masks, steps}
-use Rattle.cw_lemmas.proofs.Lists.{contains_one}
+use Rattle.cw_lemmas.proofs.Lists.{from_kept, to_kept}
 use Rattle.cw_dfa.proofs.Following.{next_masked}
 
 pub steps_masked : (rules : List PlainRule) (letters : List Letter) (set : ℕ) → filter_map (after_mask rules (goes (bad_of rules) 1 (has set 0) set))
@@ -39,31 +39,8 @@ masks_more f old so_far now masks i next lt e is m =
 
 -- what follows a set is told by the members of a list of masks
 module _ (f : ℕ → Option ℕ) where
-  after_from : (xs : List ℕ) (b : ℕ) → Contains (filter_map f xs) b → (m : ℕ) × Contains xs m × (f m ≡ Some b)
-  after_from [] b (k, l, e) = absurd (omega (arith, l))
-  after_from (x ∷ xs) b c = by (f x) refl (λ h. after_from xs b h) (subst (λ (l : List ℕ). Contains l b) (filter_map-append f (x ∷ []) xs) c)
-    where
-      by : (o : Option ℕ) → f x ≡ o → (Contains (filter_map f xs) b → (m : ℕ) × Contains xs m × (f m ≡ Some b))
-          → Contains (filter_map f (x ∷ []) ++ filter_map f xs) b → (m : ℕ) × Contains (x ∷ xs) m × (f m ≡ Some b)
-      by None e rec h =
-          let r = rec (subst (λ o. Contains (cons_option o [] ++ filter_map f xs) b) e h) in
-          (r.0, Contains-append_right (x ∷ []) xs r.0 r.1, r.2)
-      by (Some y) e rec h = ⊎_elim (λ h. (x, Contains-append_left (x ∷ []) xs x (Contains-push [] x), e ∙ ap Some (contains_one y b h)))
-          (λ h. let r = rec h in (r.0, Contains-append_right (x ∷ []) xs r.0 r.1, r.2))
-          (Contains-append_cases (y ∷ []) (filter_map f xs) b (subst (λ o. Contains (cons_option o [] ++ filter_map f xs) b) e h))
-
-  after_by : (xs : List ℕ) (m b : ℕ) → Contains xs m → f m ≡ Some b → Contains (filter_map f xs) b
-  after_by [] m b (k, l, e) s = absurd (omega (arith, l))
-  after_by (x ∷ xs) m b c s = subst (λ (l : List ℕ). Contains l b) (sym (filter_map-append f (x ∷ []) xs)) (⊎_elim first
-      (λ h. Contains-append_right (filter_map f (x ∷ [])) (filter_map f xs) b (after_by xs m b h s)) (Contains-append_cases (x ∷ []) xs m c))
-    where
-      first : Contains (x ∷ []) m → Contains (filter_map f (x ∷ []) ++ filter_map f xs) b
-      first h =
-          let is : f x ≡ Some b = ap f (contains_one x m h) ∙ s in
-          Contains-append_left (filter_map f (x ∷ [])) (filter_map f xs) b (subst (λ o. Contains (cons_option o []) b) (sym is) (Contains-push [] b))
-
   pub after_same : (xs ys : List ℕ) → ((m : ℕ) → Contains xs m → Contains ys m) → (b : ℕ) → Contains (filter_map f xs) b → Contains (filter_map f ys) b
-  after_same xs ys h b c = let r = after_from xs b c in after_by ys r.0 b (h r.0 r.1) r.2
+  after_same xs ys h b c = let r = from_kept f xs b c in to_kept f ys r.0 b (h r.0 r.1) r.2
 
 -- a step by masks leads where a step by the letters leads
 module _ (rules : List PlainRule) (letters : List Letter) (masks : List ℕ) (h : AreMasks rules letters masks) where
