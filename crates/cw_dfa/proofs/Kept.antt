@@ -1,54 +1,22 @@
 -- The policy states are the position sets of the words that keep the rules all along.
 use Rattle.std.proofs.Common.{◌≡◌, ◌≢◌, ◌↔◌, ℕ, ◌<◌, ◌≤◌, List, [], ◌∷◌, ◌++◌, Bool, true, false, Option, Some, None, nat_lt, length, take, refl, sym, ap, ◌∙◌, subst, arith, eqb-true}
-use Rattle.std.proofs.Common.{eq-eqb, append_assoc, length-append, ⊎_elim}
+use Rattle.std.proofs.Common.{eq-eqb, append_assoc, length-append}
 use Rattle.std.specs.Int.{bit_at}
-use Rattle.std.specs.List.{Contains, filter_map, cons_option}
+use Rattle.std.specs.List.{Contains}
 use Rattle.std.proofs.lemmas.Bool.Decides.{nat_tests}
 use Rattle.std.proofs.lemmas.List.{take_all, take_at, take-append-le}
-use Rattle.std.proofs.lemmas.List.Elements.{All-nil, All-push, All-contains, Contains-push, Contains-append_left, Contains-append_right, Contains-append_cases}
+use Rattle.std.proofs.lemmas.List.Elements.{All-nil, All-push, All-contains, Contains-push, Contains-append_left, Contains-append_right}
 use Rattle.std.proofs.lemmas.Nat.Bits.{bit_at-lt, same_from_bits}
 use Rattle.cw_rights.specs.declared.words.Letter.{Letter}
 use Rattle.cw_rights.specs.Words.{Word}
 use Rattle.cw_rights.specs.Policies.{PlainRule, Breaks}
-use Rattle.cw_lemmas.proofs.Lists.{contains_none, contains_one}
+use Rattle.cw_lemmas.proofs.Lists.{from_kept, to_kept}
 use Rattle.cw_dfa.specs.Kept.{KeepsRules}
 use Rattle.cw_dfa.specs.Positions.{IsSetOf}
 use Rattle.cw_dfa.specs.Sets.{has}
 use Rattle.cw_dfa.specs.States.{first, then, unless_bad, after, Reached}
 use Rattle.cw_dfa.specs.Verdicts.{IsVerdict, verdict, next_of, walk}
 use Rattle.cw_dfa.proofs.Whole.{start_set, next_set, verdict_is, walk_set}
-
--- ---- what a list maps to, where it does
-
-module _ (f : Letter → Option ℕ) where
-  abbrev Source : List Letter → ℕ → Type 0
-  Source cs b = (c : Letter) × Contains cs c × (f c ≡ Some b)
-
-  source_step : (c : Letter) (cs : List Letter) (b : ℕ) (o : Option ℕ) → f c ≡ o → (Contains (filter_map f cs) b → Source cs b) → Contains (cons_option o (filter_map f cs)) b → Source (c ∷ cs) b
-  source_step c cs b None e ih h = let x = ih h in (x.0, Contains-append_right (c ∷ []) cs x.0 x.1, x.2)
-  source_step c cs b (Some n) e ih h = ⊎_elim here there (Contains-append_cases (n ∷ []) (filter_map f cs) b h)
-    where
-      here : Contains (n ∷ []) b → Source (c ∷ cs) b
-      here k = (c, Contains-append_left (c ∷ []) cs c (Contains-push [] c), e ∙ ap Some (contains_one n b k))
-
-      there : Contains (filter_map f cs) b → Source (c ∷ cs) b
-      there k = let x = ih k in (x.0, Contains-append_right (c ∷ []) cs x.0 x.1, x.2)
-
-  source_of : (cs : List Letter) (b : ℕ) → Contains (filter_map f cs) b → Source cs b
-  source_of [] b h = absurd (contains_none b h)
-  source_of (c ∷ cs) b h = source_step c cs b (f c) refl (source_of cs b) h
-
-  mapped_first : (cs : List Letter) (b : ℕ) (o : Option ℕ) → o ≡ Some b → Contains (cons_option o (filter_map f cs)) b
-  mapped_first cs b (Some n) e = subst (λ m. Contains (m ∷ filter_map f cs) b) (cc) (Contains-append_left (b ∷ []) (filter_map f cs) b (Contains-push [] b))
-  mapped_first cs b None e = absurd (cc)
-
-  mapped_later : (cs : List Letter) (b : ℕ) (o : Option ℕ) → Contains (filter_map f cs) b → Contains (cons_option o (filter_map f cs)) b
-  mapped_later cs b None h = h
-  mapped_later cs b (Some n) h = Contains-append_right (n ∷ []) (filter_map f cs) b h
-
-  mapped : (cs : List Letter) (c : Letter) (b : ℕ) → Contains cs c → f c ≡ Some b → Contains (filter_map f cs) b
-  mapped [] c b h e = absurd (contains_none c h)
-  mapped (d ∷ cs) c b h e = ⊎_elim (λ k. mapped_first cs b (f d) (ap f (contains_one d c k) ∙ e)) (λ k. mapped_later cs b (f d) (mapped cs c b k e)) (Contains-append_cases (d ∷ []) cs c h)
 
 -- ---- a word has one set
 
@@ -109,7 +77,7 @@ module _ (rules : List PlainRule) (letters : List Letter) where
   word_of set first = ([], nothing_kept, start_set rules)
   word_of set (then a b r c) =
       let x = word_of a r in
-      let s = source_of (after rules a) letters b c in
+      let s = from_kept (after rules a) letters b c in
       let p = passed (verdict rules 0 1 (next_of rules a s.0)) (next_of rules a s.0) b s.2 in
       let set = next_set rules x.0 a s.0 x.2 in
       let keeps = verdict_kept (x.0 ++ s.0 ∷ []) (next_of rules a s.0) set p.0 in
@@ -128,7 +96,7 @@ module _ (rules : List PlainRule) (letters : List Letter) where
       let e = kept_verdict (v ++ c ∷ []) next is keeps in
       let goes : after rules set c ≡ Some next = ap (λ o. unless_bad o next) e in
       let here = All-contains (Contains letters) (v ++ c ∷ w) c k.over (Contains-append_right v (c ∷ w) c (Contains-append_left (c ∷ []) w c (Contains-push [] c))) in
-      reach_word (v ++ c ∷ []) w next (then set next r (mapped (after rules set) letters c next here goes)) is more
+      reach_word (v ++ c ∷ []) w next (then set next r (to_kept (after rules set) letters c next here goes)) is more
 
   reached_of : (set : ℕ) → HasWord set → Reached rules letters set
   reached_of set (w, k, h) =
