@@ -3,6 +3,7 @@ use Rattle.std.proofs.Common.{◌≡◌, ◌≢◌, ◌⊎◌, inl, inr, ℕ, �
 use Rattle.std.specs.Int.{bit_at}
 use Rattle.std.specs.Int.RustNames.{bit_or}
 use Rattle.std.proofs.lemmas.Nat.Bits.{bit_at_or, bit_at-lt, bit_at-pow_same, bit_at-pow_other, bit_at-zero}
+use Rattle.std.proofs.lemmas.Bool.{false_from_ne_true}
 use Rattle.cw_dfa.specs.Sets.{has}
 
 one_of : (a b : ℕ) → a < 2 → b < 2 → max a b ≡ 1 → (a ≡ 1) ⊎ (b ≡ 1)
@@ -35,6 +36,9 @@ has_or_right a b i e =
 
 pub has_none : (i : ℕ) → has 0 i ≡ true → ⊥
 has_none i e = let x : bit_at 0 i ≡ 1 = eqb-true _ 1 e in let z = bit_at-zero i in absurd (omega arith)
+
+pub has-zero : (i : ℕ) → has 0 i ≡ false
+has-zero i = false_from_ne_true (has 0 i) (has_none i)
 
 pub has_pow : (k : ℕ) → has (2 ^ k) k ≡ true
 has_pow k = eq-eqb _ 1 (bit_at-pow_same k)

@@ -14,7 +14,7 @@ use Rattle.cw_dfa.specs.Sets.{has, skips, ends}
 use Rattle.cw_dfa.specs.Positions.{bad_of}
 use Rattle.cw_dfa.specs.Verdicts.{next_of}
 use Rattle.cw_dfa.specs.Tables.{goes, firsts, lasts, linked, followers, matching, unite}
-use Rattle.cw_dfa.proofs.Bools.{has_none, has_pow}
+use Rattle.cw_dfa.proofs.Bools.{has_pow, has-zero}
 use Rattle.cw_dfa.proofs.Sums.{or_assoc}
 use Rattle.cw_dfa.proofs.Linear.{goes_none, goes_apart, goes_united, ends_none, below, Masks, reads_masked, has_or}
 use Rattle.cw_dfa.proofs.Meeting.{ends_pow}
@@ -132,13 +132,9 @@ masks_by nothing k c m h = tt
 masks_by never k c m h = tt
 masks_by (one l) k c m h = h k (omega arith) (omega arith) ∙ by (fits l c)
   where
-    no : (t : Bool) → has 0 k ≡ t → has 0 k ≡ false
-    no true e = absurd (has_none k e)
-    no false e = e
-
     by : (t : Bool) → has (cond t (2 ^ k) 0) k ≡ t
     by true = has_pow k
-    by false = no (has 0 k) refl
+    by false = has-zero k
 masks_by (seq r s) k c m h = (masks_by r k c m (agree_left r s k c m h), masks_by s (k + count r) c m (agree_right r s k c m h))
 masks_by (alt r s) k c m h = (masks_by r k c m (agree_left r s k c m h), masks_by s (k + count r) c m (agree_right r s k c m h))
 masks_by (star r) k c m h = masks_by r k c m h

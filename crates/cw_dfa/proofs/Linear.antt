@@ -12,7 +12,7 @@ use Rattle.cw_dfa.proofs.Sums.{or_zero}
 use Rattle.cw_dfa.specs.Tables.{goes, unite}
 use Rattle.std.proofs.lemmas.Bool.{or_cases, or_left, or_right}
 use Rattle.std.specs.Cmp.{both_ways as same_bool}
-use Rattle.cw_dfa.proofs.Bools.{has_or_cases, has_or_left, has_or_right, has_none}
+use Rattle.cw_dfa.proofs.Bools.{has_or_cases, has_or_left, has_or_right, has-zero}
 
 pub has_or : (a b i : ℕ) → has (bit_or a b) i ≡ (has a i || has b i)
 has_or a b i = same_bool _ _ (λ e. ⊎_elim (λ x. or_left _ _ x) (λ x. or_right _ _ x) (has_or_cases a b i e))
@@ -141,11 +141,7 @@ goes_apart r k enter set = ap (λ s. goes r k enter s) (sym (or_zero set)) ∙ g
 pub ends_none : (r : Tree) (k : ℕ) → ends r k 0 ≡ false
 ends_none nothing k = refl
 ends_none never k = refl
-ends_none (one l) k = by (has 0 k) refl
-  where
-    by : (t : Bool) → has 0 k ≡ t → has 0 k ≡ false
-    by true e = absurd (has_none k e)
-    by false e = e
+ends_none (one l) k = has-zero k
 ends_none (seq a b) k = rw (ends_none a k, ends_none b (k + count a)) refl
 ends_none (alt a b) k = rw (ends_none a k, ends_none b (k + count a)) refl
 ends_none (star a) k = ends_none a k
