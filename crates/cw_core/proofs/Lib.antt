@@ -6,7 +6,7 @@ mod Hexadecimals
 mod Nibbles
 mod Readings
 pub mod RunTexts
-mod Runs
+pub mod Runs
 pub mod SetTexts
 pub mod Sets
 pub mod Spellings

@@ -1,7 +1,8 @@
 -- Members of sets of states, as the program's sets tell them and as the game does.
-use Rattle.std.proofs.Common.{◌≡◌, ℕ, ◌≤◌, Bool, true, false, refl, sym, ◌∙◌, arith}
+use Rattle.std.proofs.Common.{◌≡◌, ℕ, ◌≤◌, false, refl, sym, ◌∙◌}
 use Rattle.cw_core.specs.StateSet.{has as has_in, IsBelow}
 use Rattle.cw_core.proofs.Sets.{has-zero, same_from_members}
+use Rattle.cw_core.proofs.Runs.{outside}
 use Rattle.cw_game.specs.Pairs.{has}
 
 -- both are one
@@ -15,11 +16,7 @@ has_none q = sym (has_is 0 q) ∙ has-zero q
 
 -- the members of a set that can have the numbers below 1024
 pub has_above : (set q : ℕ) → IsBelow 1024 set → 1024 ≤ q → has set q ≡ false
-has_above set q below le = by (has set q) refl
-  where
-    by : (b : Bool) → has set q ≡ b → b ≡ false
-    by true e = absurd (let l = below q (has_is set q ∙ e) in omega (arith, l, le))
-    by false e = refl
+has_above set q below le = sym (has_is set q) ∙ outside set q below le
 
 -- two sets with the same members are one
 pub same_set : (a b : ℕ) → ((q : ℕ) → has a q ≡ has b q) → a ≡ b
