@@ -9,7 +9,7 @@ use Rattle.cw_certs.specs.declared.moves.Move.{Move}
 use Rattle.cw_certs.specs.declared.moves.Move.TheVariants.{Skip, Try, Grant, Refuse, On as OnMove, Left as LeftMove, Right as RightMove, Opened as OpenedMove, Failed as FailedMove, Stop as StopMove}
 use Rattle.cw_certs.specs.declared.rows.TryRow.{TryRow}
 use Rattle.cw_certs.specs.Tables.{Table}
-use Rattle.cw_model.specs.Boards.{Problem, problem_of, Phase, Visit, Asked, Refused as RefusedPhase, Free, FreeSplit, Over, Board, moved}
+use Rattle.cw_model.specs.Boards.{Problem, problem_of, Phase, Visit, Asked, Refused as RefusedPhase, Free, FreeSplit, Over, Board, moved, move_of}
 use Rattle.cw_model.specs.Runs.{State, memories, mem_in, top_by, stays_unless, stays_where, refused_with, stops, try_of}
 use Rattle.cw_value.specs.declared.values.Stop.{Stop}
 use Rattle.cw_value.specs.declared.values.Stop.TheVariants.{Ended, Steps, Refused}
@@ -18,7 +18,7 @@ use Rattle.cw_value.specs.Declarations.{Done}
 use Rattle.cw_value.specs.Machines.{Source, Machine, goes, halts}
 use Rattle.cw_value.specs.Starts.{begun}
 use Rattle.cw_value.specs.Shown.{Values}
-use Rattle.cw_value.specs.Runs.{Going, move_of, answer, counted, ended_values, IsFree, IsWeaving, Leads, Chooses, Ends, over, spent, weaves, quits, asks, steps, halted, going_start, most_steps, source_of, RunsFrom}
+use Rattle.cw_value.specs.Runs.{Going, answer, counted, ended_values, IsFree, IsWeaving, Leads, Chooses, Ends, over, spent, weaves, quits, asks, steps, halted, going_start, most_steps, source_of, RunsFrom}
 use Rattle.cw_agree.specs.Laws.{OneRun}
 use Rattle.cw_agree.proofs.Paired.{same_state, same_goes, same_halts}
 

@@ -12,13 +12,13 @@ use Rattle.cw_certs.specs.declared.moves.Move.{Move}
 use Rattle.cw_certs.specs.declared.moves.Move.TheVariants.{Skip, Try, Grant, Refuse, On as OnMove, Left as LeftMove, Right as RightMove, Opened as OpenedMove, Failed as FailedMove, Stop as StopMove}
 use Rattle.cw_certs.specs.Tables.{Table}
 use Rattle.cw_syntax.specs.Frames.{Frame, Way, On, Left, Right, Opened, Failed, pass}
-use Rattle.cw_model.specs.Boards.{Problem, Phase, Visit, Asked, Refused as RefusedPhase, Free, FreeSplit, Over, Board, may_grant, may_refuse, can_stop, way_of, begin, onward, primitives_in, moved, stepped, landed, granted, passed_by, refused, answered, is_refused}
+use Rattle.cw_model.specs.Boards.{Problem, Phase, Visit, Asked, Refused as RefusedPhase, Free, FreeSplit, Over, Board, may_grant, may_refuse, can_stop, way_of, begin, onward, primitives_in, moved, stepped, landed, granted, passed_by, refused, answered, is_refused, move_of}
 use Rattle.cw_model.specs.Runs.{State}
 use Rattle.cw_value.specs.declared.values.Stop.{Stop}
 use Rattle.cw_value.specs.declared.values.Stop.TheVariants.{Ended, Steps}
 use Rattle.cw_value.specs.Machines.{Source, Machine, goes, halts, step}
 use Rattle.cw_value.specs.Shown.{Values}
-use Rattle.cw_value.specs.Runs.{Going, move_of, answer, counted, ended_values, is_split, IsFree, IsWeaving, Leads, Ends, over, spent, weaves, quits, asks, steps, halted}
+use Rattle.cw_value.specs.Runs.{Going, answer, counted, ended_values, is_split, IsFree, IsWeaving, Leads, Ends, over, spent, weaves, quits, asks, steps, halted}
 use Rattle.cw_agree.specs.Agreements.{Agrees}
 use Rattle.cw_agree.proofs.Grows.{run_grows}
 use Rattle.cw_agree.proofs.Plain.{plain, plain_step, TopSaved, step_plain}

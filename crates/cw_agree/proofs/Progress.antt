@@ -17,7 +17,7 @@ use Rattle.cw_syntax.specs.Trees.{Tree, Statement, Stated, Form, Block, Declares
 use Rattle.cw_syntax.specs.Plans.{Callee, Action, Computes, Opens, Closes, Invokes, acting, action_of, Plain, Break, Continue, Return, Open, Close, Call, Group, Label, If, While, Do, For, steps_of_all, seams_all, Routine, routines_from, function_names}
 use Rattle.cw_syntax.specs.Frames.{Item, Entry, Todo, Test, After, LoopEnd, End, Frame, new_frame, settle, Way, On, after, popped, pass, start_stack, stack_of}
 use Rattle.cw_syntax.specs.Runnable.{IsRunnable}
-use Rattle.cw_model.specs.Boards.{Problem, problem_of, Phase, Visit, Asked, Refused as RefusedPhase, Free, FreeSplit, Over, Board, onward, moved, stepped, landed, passed_by, way_of}
+use Rattle.cw_model.specs.Boards.{Problem, problem_of, Phase, Visit, Asked, Refused as RefusedPhase, Free, FreeSplit, Over, Board, onward, moved, stepped, landed, passed_by, way_of, move_of}
 use Rattle.cw_model.specs.Runs.{State}
 use Rattle.cw_value.specs.declared.values.Stop.{Stop}
 use Rattle.cw_value.specs.declared.values.Stop.TheVariants.{Ended, Steps}
@@ -28,7 +28,7 @@ use Rattle.cw_value.specs.Deeds.{said_all, Passing}
 use Rattle.cw_value.specs.Machines.{Source, Locals, Machine, Step, goes, halts, step, step_by, within, by_outcome, entered, settled_in, answering, deed_in, scope_in, function, memory, ends_in, call_in, back_by, result_by, taken_over, taken_by, form_in, whole_from}
 use Rattle.cw_value.specs.Starts.{begun}
 use Rattle.cw_value.specs.Shown.{Values}
-use Rattle.cw_value.specs.Runs.{Going, move_of, ended_values, is_split, IsFree, IsWeaving, Ends, over, spent, weaves, steps, halted, going_start, most_steps, source_of, RunsFrom}
+use Rattle.cw_value.specs.Runs.{Going, ended_values, is_split, IsFree, IsWeaving, Ends, over, spent, weaves, steps, halted, going_start, most_steps, source_of, RunsFrom}
 use Rattle.cw_agree.specs.Laws.{SomeRun}
 use Rattle.cw_agree.proofs.Ways.{straight, GoesBy, IsWay, kind_of, deed_way}
 use Rattle.cw_agree.proofs.Standing.{Whole, SettledItem, Settled, whole_items, settle_done, Goes, IsInner, inner_goes}

@@ -15,7 +15,7 @@ use Rattle.cw_syntax.specs.declared.program.Name.{Name}
 use Rattle.cw_syntax.specs.Names.{text}
 use Rattle.cw_syntax.specs.Trees.{Tree, Trees, none, more, Declared, Definition, count}
 use Rattle.cw_syntax.specs.Frames.{Item, Entry, Todo, Test, After, LoopEnd, End, Frame, start_stack}
-use Rattle.cw_model.specs.Boards.{Problem, problem_of, Phase, Visit, Asked, Refused as RefusedPhase, Free, FreeSplit, Over, Board, may_grant, may_refuse, can_stop, begin, onward, moved, granted, passed_by, refused, answered, is_refused}
+use Rattle.cw_model.specs.Boards.{Problem, problem_of, Phase, Visit, Asked, Refused as RefusedPhase, Free, FreeSplit, Over, Board, may_grant, may_refuse, can_stop, begin, onward, moved, granted, passed_by, refused, answered, is_refused, move_of}
 use Rattle.cw_model.specs.Runs.{State}
 use Rattle.cw_value.specs.declared.values.Stop.TheVariants.{Refused, Form}
 use Rattle.cw_value.specs.Stores.{Cell}
@@ -25,7 +25,7 @@ use Rattle.cw_value.specs.Deeds.{Passing, deed_of, does}
 use Rattle.cw_value.specs.Machines.{Source, Locals, Machine, Step, goes, halts, step, step_by, within, by_outcome, deed_in, scope_in, function, memory, globals, ends_in, call_in, back_by, back_to, result_by, taken_over, taken_by, form_in, whole_from}
 use Rattle.cw_value.specs.Starts.{no_store, start_store, start_cell, is_named, has_size, made_once, array_turn, plain_turn, turn_at, turns, begun}
 use Rattle.cw_value.specs.Shown.{Values}
-use Rattle.cw_value.specs.Runs.{Going, move_of, taken, answer, answer_by, counted, ended_values, is_split, IsWeaving, Leads, Ends, over, spent, weaves, quits, asks, steps, halted, going_start, most_steps, source_of, RunsFrom}
+use Rattle.cw_value.specs.Runs.{Going, taken, answer, answer_by, counted, ended_values, is_split, IsWeaving, Leads, Ends, over, spent, weaves, quits, asks, steps, halted, going_start, most_steps, source_of, RunsFrom}
 use Rattle.cw_agree.specs.Agreements.{IsPlaced, Comes, here, IsRefused}
 use Rattle.cw_agree.specs.Agreements.{weaves as comes_weaving, asks as comes_asking, steps as comes_stepping}
 use Rattle.cw_agree.specs.Laws.{RefusalsAreTaken}

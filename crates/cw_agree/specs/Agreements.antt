@@ -7,14 +7,14 @@ use Rattle.cw_certs.specs.declared.moves.Move.{Move}
 use Rattle.cw_certs.specs.declared.moves.Move.TheVariants.{Refuse, Stop as StopMove}
 use Rattle.cw_certs.specs.Tables.{Table}
 use Rattle.cw_syntax.specs.Frames.{Way}
-use Rattle.cw_model.specs.Boards.{Problem, Asked, may_grant}
+use Rattle.cw_model.specs.Boards.{Problem, Asked, may_grant, move_of}
 use Rattle.cw_model.specs.Runs.{State}
 use Rattle.cw_value.specs.declared.values.Stop.{Stop}
 use Rattle.cw_value.specs.declared.values.Stop.TheVariants.{Ended, Steps, Refused}
 use Rattle.cw_value.specs.Expressions.{Made}
 use Rattle.cw_value.specs.Machines.{Source, Machine, goes, step}
 use Rattle.cw_value.specs.Shown.{Values}
-use Rattle.cw_value.specs.Runs.{Going, move_of, answer, counted, ended_values, is_split, IsFree, IsWeaving, Leads, Chooses}
+use Rattle.cw_value.specs.Runs.{Going, answer, counted, ended_values, is_split, IsFree, IsWeaving, Leads, Chooses}
 
 -- The weaver has ended the woven run, which only a policy with stop lets it; the calls made so far are the first ones of the plain run's.
 pub record IsCut (policy : PlainPolicy) (v w : Values) : Type 0 where

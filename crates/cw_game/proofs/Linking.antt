@@ -13,7 +13,7 @@ use Rattle.cw_syntax.specs.Plans.{Plan, Label, Open, Close, Call}
 use Rattle.cw_syntax.specs.Frames.{Frame, Todo, Way, after, settle, pass, frame_of}
 use Rattle.cw_syntax.specs.Frames.{On as OnWay}
 use Rattle.cw_model.specs.Boards.{Problem, Phase, Visit, Asked, Refused, Free, FreeSplit, Over, Board, onward, begin, start_board, Violates, may_grant, may_refuse, can_stop, way_of}
-use Rattle.cw_model.specs.Boards.{granted, passed_by, refused, moved, Moves, stop_answers, is_refused}
+use Rattle.cw_model.specs.Boards.{granted, passed_by, refused, moved, Moves, stop_answers, is_refused, move_of}
 use Rattle.cw_model.proofs.Moving.{onward_not_over}
 use Rattle.cw_game.specs.declared.spots.Spot.{Spot}
 use Rattle.cw_game.specs.declared.spots.Spot.TheVariants.{Exit, Visit as VisitSpot, Asked as AskedSpot, Step as StepSpot, Branch as BranchSpot, Label as LabelSpot, Open as OpenSpot, Close as CloseSpot}
@@ -25,7 +25,7 @@ use Rattle.cw_game.specs.Pairs.{Called, call_in, is_exit_in, kept_at}
 use Rattle.cw_game.specs.Standing.{Meaning, Under, StandsOn, standing, StandsBy, IsGameOf}
 use Rattle.cw_game.specs.Linked.{spot_at, is_bad_at, IsLastEnd, IsGameBy, TiedBy, AreLinkedBy}
 use Rattle.cw_game.specs.Laws.{AreLinked}
-use Rattle.cw_game.proofs.Moves.{move_of, step_of}
+use Rattle.cw_game.proofs.Moves.{step_of}
 use Rattle.cw_game.proofs.Fronts.{Front, is_step, is_branch, is_label, is_open, is_close, is_call, is_end, front_of}
 use Rattle.cw_game.proofs.Stands.{refused_at, stops_is}
 use Rattle.cw_game.proofs.Link.{Stands, IsTied, tied, violates_bad, bad_violates, unrefused, board_moves, starts_at}

@@ -6,15 +6,7 @@ use Rattle.cw_certs.specs.declared.moves.Move.{Move}
 use Rattle.cw_certs.specs.declared.moves.Move.TheVariants.{On, Left, Right, Opened, Failed}
 use Rattle.cw_syntax.specs.Frames.{Frame, Way, pass}
 use Rattle.cw_syntax.specs.Frames.{On as OnWay, Left as LeftWay, Right as RightWay, Opened as OpenedWay, Failed as FailedWay}
-use Rattle.cw_model.specs.Boards.{Problem, Board, way_of, landed, stepped}
-
--- the move of a way on
-abbrev pub move_of : Way → Move
-move_of OnWay = On
-move_of LeftWay = Left
-move_of RightWay = Right
-move_of OpenedWay = Opened
-move_of FailedWay = Failed
+use Rattle.cw_model.specs.Boards.{Problem, Board, way_of, landed, stepped, move_of}
 
 pub way_is : (way : Way) → way_of (move_of way) ≡ Some way
 way_is OnWay = refl

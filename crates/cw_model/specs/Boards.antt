@@ -114,6 +114,14 @@ way_of Opened = Some OpenedWay
 way_of Failed = Some FailedWay
 way_of _ = None
 
+-- the move by which the program goes a way
+abbrev pub move_of : Way → Move
+move_of OnWay = On
+move_of LeftWay = Left
+move_of RightWay = Right
+move_of OpenedWay = Opened
+move_of FailedWay = Failed
+
 -- what is kept for the return of a call in a mode
 abbrev pub mode_of : Bool → Caps → Option Caps
 mode_of true caps = Some caps

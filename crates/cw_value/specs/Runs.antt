@@ -4,11 +4,11 @@ use Rattle.cw_core.specs.declared.ids.SeamId.{SeamId}
 use Rattle.cw_rights.specs.declared.capabilities.Primitive.{Primitive}
 use Rattle.cw_rights.specs.Policies.{PlainPolicy}
 use Rattle.cw_certs.specs.declared.moves.Move.{Move}
-use Rattle.cw_certs.specs.declared.moves.Move.TheVariants.{Skip, Try, Grant, Refuse, On as OnMove, Left as LeftMove, Right as RightMove, Opened as OpenedMove, Failed as FailedMove, Stop as StopMove}
+use Rattle.cw_certs.specs.declared.moves.Move.TheVariants.{Skip, Try, Grant, Refuse, Stop as StopMove}
 use Rattle.cw_certs.specs.Tables.{Table}
 use Rattle.cw_syntax.specs.Trees.{File}
-use Rattle.cw_syntax.specs.Frames.{Way, On, Left, Right, Opened, Failed}
-use Rattle.cw_model.specs.Boards.{Problem, problem_of, Phase, Visit, Asked, Refused as RefusedPhase, Free, FreeSplit, Over, Board, start_board, may_grant, may_refuse, moved}
+use Rattle.cw_syntax.specs.Frames.{Way}
+use Rattle.cw_model.specs.Boards.{Problem, problem_of, Phase, Visit, Asked, Refused as RefusedPhase, Free, FreeSplit, Over, Board, start_board, may_grant, may_refuse, moved, move_of}
 use Rattle.cw_model.specs.Runs.{State, start_state, front_seam, WovenStep}
 use Rattle.cw_value.specs.declared.values.Stop.{Stop}
 use Rattle.cw_value.specs.declared.values.Stop.TheVariants.{Ended, Steps, Refused}
@@ -25,14 +25,6 @@ pub record Going : Type 0 where
   pub machine : Machine
   pub tries : List Move
   pub tried : ℕ
-
--- the move by which the program goes a way
-abbrev pub move_of : Way → Move
-move_of On = OnMove
-move_of Left = LeftMove
-move_of Right = RightMove
-move_of Opened = OpenedMove
-move_of Failed = FailedMove
 
 -- What is answered to a try, and the answers that are left: where both are moves the next of the list, or a grant where none is left.
 abbrev pub taken : List Move → Move × List Move

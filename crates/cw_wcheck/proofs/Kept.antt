@@ -24,7 +24,7 @@ use Rattle.cw_syntax.specs.Plans.{Callee, Stm, Open, Close, Call, Label, Routine
 use Rattle.cw_syntax.specs.Frames.{Item, Todo, End, Frame, new_frame, settle, Way, after, pass, popped}
 use Rattle.cw_syntax.specs.Frames.{On as OnWay, Left as LeftWay, Right as RightWay, Opened as OpenedWay, Failed as FailedWay}
 use Rattle.cw_model.specs.Boards.{Problem, Phase, Visit, Asked, Refused, Free, FreeSplit, Over, Board, seam_in, onward, begin, letters_in, may_grant, may_refuse, can_stop, way_of, mode_of}
-use Rattle.cw_model.specs.Boards.{kept_after, with_opened, given_back, caps_after, landed, granted, passed_by, refused, answered, moved, Environment, turn_of}
+use Rattle.cw_model.specs.Boards.{kept_after, with_opened, given_back, caps_after, landed, granted, passed_by, refused, answered, moved, Environment, turn_of, move_of}
 use Rattle.cw_model.specs.Runs.{try_in, try_of, mem_in, refused_with, stops, top_by, stays_where, stays_unless, called_with, returned_with, return_memories, was_split, step_memories}
 use Rattle.cw_model.specs.Runs.{memories, State, WovenStep}
 use Rattle.cw_game.specs.declared.spots.Spot.{Spot}
@@ -34,7 +34,7 @@ use Rattle.cw_game.specs.Places.{At, IsLaidOut}
 use Rattle.cw_game.specs.Pairs.{is_live, means_it, leads, leads_if, call_spot, kept_at}
 use Rattle.cw_game.specs.Standing.{Meaning, Resumes, StandsIn, Stage}
 use Rattle.cw_game.specs.Closed.{leads_where, asked_ok, row_leads, open_leads, back_leads, returns_in, returns_ok, enters, call_ok, row_ok_in, row_ok_by, row_ok, rows_ok}
-use Rattle.cw_game.proofs.Moves.{move_of, step_of}
+use Rattle.cw_game.proofs.Moves.{step_of}
 use Rattle.cw_game.proofs.Fronts.{next_stage, IsQuiet, on_only, either, Front, is_step, is_branch, is_label, is_open, is_close, is_call, is_end, front_of}
 use Rattle.cw_game.proofs.Truths.{or_parts, not_true}
 use Rattle.std.proofs.lemmas.Bool.{and_parts, and_from as both}

@@ -14,7 +14,7 @@ use Rattle.cw_certs.specs.Tables.{Table, try_at}
 use Rattle.cw_syntax.specs.Plans.{Label, Routine, Plan}
 use Rattle.cw_syntax.specs.Frames.{Item, Todo, Frame, Way, pass, front, new_frame, PathFrom, stack_of}
 use Rattle.cw_model.specs.Boards.{Problem, Phase, Visit, Asked, Refused, Free, FreeSplit, Over, Board, seam_in, primitives_in, onward, begin, letters, may_grant, landed, stepped}
-use Rattle.cw_model.specs.Boards.{granted, passed_by, moved, Moves, Violates, Weaver, turn_of, IsWeavers, IsEnvironments}
+use Rattle.cw_model.specs.Boards.{granted, passed_by, moved, Moves, Violates, Weaver, turn_of, IsWeavers, IsEnvironments, move_of}
 use Rattle.cw_model.specs.Runs.{try_in, refused_with, stops, stays_where, stays_unless, memories, State, start_state, WovenStep, Goes, last, passed_in, passed, erased, NeverStops, Sound}
 use Rattle.cw_game.specs.declared.spots.Spot.TheVariants.{Label as LabelSpot, Asked as AskedSpot}
 use Rattle.cw_game.specs.Games.{AreStates, Game, can_stop_in, refuses_in, past_asked, Ret}
@@ -22,7 +22,7 @@ use Rattle.cw_game.specs.Places.{IsLaidOut}
 use Rattle.cw_game.specs.Pairs.{is_live, leads, all_states}
 use Rattle.cw_game.specs.Closed.{rows_ok, is_closed_table}
 use Rattle.cw_game.specs.Standing.{Meaning}
-use Rattle.cw_game.proofs.Moves.{move_of, way_is}
+use Rattle.cw_game.proofs.Moves.{way_is}
 use Rattle.cw_game.proofs.Stands.{enters_at, stops_is}
 use Rattle.cw_game.proofs.Truths.{not_true}
 use Rattle.std.proofs.lemmas.Bool.{and_parts}

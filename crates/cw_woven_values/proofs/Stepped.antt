@@ -10,7 +10,7 @@ use Rattle.cw_syntax.specs.Frames.{Frame, Way, On, Left, Right, Opened, Failed, 
 use Rattle.cw_points.specs.Graphs.{nodes}
 use Rattle.cw_points.specs.Points.{points}
 use Rattle.cw_points.proofs.Ways.{StackAt}
-use Rattle.cw_model.specs.Boards.{Problem, Phase, Visit, Asked, Refused as RefusedPhase, Free, FreeSplit, Over, Board, begin, moved, stepped, landed}
+use Rattle.cw_model.specs.Boards.{Problem, Phase, Visit, Asked, Refused as RefusedPhase, Free, FreeSplit, Over, Board, begin, moved, stepped, landed, move_of}
 use Rattle.cw_model.specs.Runs.{State, WovenStep}
 use Rattle.cw_game.specs.declared.spots.Spot.{Spot}
 use Rattle.cw_product.specs.Product.{Held}
@@ -19,7 +19,7 @@ use Rattle.cw_run.specs.Walks.{Here, Wait, here_of, next_of, Next, To, Into, Bac
 use Rattle.cw_value.specs.declared.values.Stop.{Stop}
 use Rattle.cw_value.specs.declared.values.Stop.TheVariants.{Ended}
 use Rattle.cw_value.specs.Machines.{Source, Machine, Step, goes, halts, step}
-use Rattle.cw_value.specs.Runs.{Going, Ends, IsFree, is_split, move_of, over, steps, halted}
+use Rattle.cw_value.specs.Runs.{Going, Ends, IsFree, is_split, over, steps, halted}
 use Rattle.cw_eval.specs.declared.halt.Halt.{Halt}
 use Rattle.cw_eval.specs.declared.halt.Halt.TheVariants as halt
 use Rattle.cw_machine.specs.declared.machine.Machine.{Machine as HeldMachine}

@@ -3,7 +3,8 @@
 ghost use Rattle.std.specs.Prelude.{◌≡◌, ℕ, List, map, option_map, Some};
 ghost use Rattle.std.specs.List.{All};
 ghost use Rattle.cw_certs.specs.declared.moves.Move.{Move as MoveOf};
-ghost use Rattle.cw_value.specs.Runs.{Going, IsFree, move_of};
+ghost use Rattle.cw_model.specs.Boards.{move_of};
+ghost use Rattle.cw_value.specs.Runs.{Going, IsFree};
 ghost use Rattle.cw_eval.specs.Passings.{way_in};
 ghost use Rattle.cw_starts.specs.Sources.{source_in};
 ghost use Rattle.cw_machine.specs.Knowing.{IsKnown};

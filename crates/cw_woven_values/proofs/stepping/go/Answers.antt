@@ -2,9 +2,9 @@ use Rattle.std.proofs.Common.{◌≡◌, List, map, Option, Ok, sym, ap, subst, 
 use Rattle.std.specs.Prelude.{option_map}
 use Rattle.cw_rights.specs.Policies.{policy_of}
 use Rattle.cw_certs.specs.declared.moves.Move.{Move}
+use Rattle.cw_model.specs.Boards.{move_of}
 use Rattle.cw_product.specs.Product.{game_of}
 use Rattle.cw_run.specs.Walks.{Here, Wait, here_of, next_is, next_of, wait_of, waits_after}
-use Rattle.cw_value.specs.Runs.{move_of}
 use Rattle.cw_eval.specs.Passings.{way_in}
 use Rattle.cw_starts.specs.Sources.{source_in}
 use Rattle.cw_woven_values.specs.declared.stepping.Stand.{Stand}
