@@ -11,8 +11,8 @@ use Rattle.cw_rights.specs.Policies.{PlainPolicy, is_refusable}
 use Rattle.cw_certs.specs.declared.moves.Move.{Move}
 use Rattle.cw_certs.specs.declared.moves.Move.TheVariants.{Skip, Try, Grant, Refuse, On as OnMove, Left as LeftMove, Right as RightMove, Opened as OpenedMove, Failed as FailedMove, Stop as StopMove}
 use Rattle.cw_certs.specs.Tables.{Table}
-use Rattle.cw_syntax.specs.Frames.{Frame, Way, On, Left, Right, Opened, Failed, pass}
-use Rattle.cw_model.specs.Boards.{Problem, Phase, Visit, Asked, Refused as RefusedPhase, Free, FreeSplit, Over, Board, may_grant, may_refuse, can_stop, way_of, begin, onward, primitives_in, moved, stepped, landed, granted, passed_by, refused, answered, is_refused, move_of}
+use Rattle.cw_syntax.specs.Frames.{Frame, Way, pass}
+use Rattle.cw_model.specs.Boards.{Problem, Phase, Visit, Asked, Refused as RefusedPhase, Free, FreeSplit, Over, Board, may_grant, may_refuse, can_stop, begin, onward, primitives_in, moved, stepped, landed, granted, passed_by, refused, answered, is_refused, move_of}
 use Rattle.cw_model.specs.Runs.{State}
 use Rattle.cw_value.specs.declared.values.Stop.{Stop}
 use Rattle.cw_value.specs.declared.values.Stop.TheVariants.{Ended, Steps}
@@ -22,7 +22,7 @@ use Rattle.cw_value.specs.Runs.{Going, answer, counted, ended_values, is_split, 
 use Rattle.cw_agree.specs.Agreements.{Agrees}
 use Rattle.cw_agree.proofs.Grows.{run_grows}
 use Rattle.cw_agree.proofs.Plain.{plain, plain_step, TopSaved, step_plain}
-use Rattle.cw_model.proofs.Moving.{onward_on, begin_on}
+use Rattle.cw_model.proofs.Moving.{onward_on, begin_on, way_is}
 
 -- a phase in which the stack is empty exactly where all is over
 abbrev pub Fits : List Frame → Phase → Type 0
@@ -142,18 +142,11 @@ module _ (source : Source) (p : Problem) where
       let same = same_Some (landed p mode b way stack) next h in
       record { stack = stack; passes = e; is_stack = ap (λ (x : Board). x.stack) (sym same); is_phase = ap (λ (x : Board). x.phase) (sym same) }
 
-  pub way_back : (way : Way) → way_of (move_of way) ≡ Some way
-  way_back On = refl
-  way_back Left = refl
-  way_back Right = refl
-  way_back Opened = refl
-  way_back Failed = refl
-
   pub lands : (b next : Board) (phase : Phase) (way : Way) → IsFree phase → moved p b phase (move_of way) ≡ Some next → Lands b next way
   lands b next Free way h e =
-      lands_by None b next way (pass p.plan b.stack way) refl (subst (λ (o : Option Way). stepped p None b o ≡ Some next) (way_back way) e)
+      lands_by None b next way (pass p.plan b.stack way) refl (subst (λ (o : Option Way). stepped p None b o ≡ Some next) (way_is way) e)
   lands b next FreeSplit way h e =
-      lands_by (Some b.caps) b next way (pass p.plan b.stack way) refl (subst (λ (o : Option Way). stepped p (Some b.caps) b o ≡ Some next) (way_back way) e)
+      lands_by (Some b.caps) b next way (pass p.plan b.stack way) refl (subst (λ (o : Option Way). stepped p (Some b.caps) b o ≡ Some next) (way_is way) e)
   lands b next (Visit i a l) way h e = absurd h
   lands b next (Asked i a l) way h e = absurd h
   lands b next (RefusedPhase i a l) way h e = absurd h

@@ -19,6 +19,7 @@ use Rattle.cw_syntax.specs.Frames.{Item, Entry, Todo, Test, After, LoopEnd, End,
 use Rattle.cw_syntax.specs.Runnable.{IsRunnable}
 use Rattle.cw_model.specs.Boards.{Problem, problem_of, Phase, Visit, Asked, Refused as RefusedPhase, Free, FreeSplit, Over, Board, onward, moved, stepped, landed, passed_by, way_of, move_of}
 use Rattle.cw_model.specs.Runs.{State}
+use Rattle.cw_model.proofs.Moving.{way_is}
 use Rattle.cw_value.specs.declared.values.Stop.{Stop}
 use Rattle.cw_value.specs.declared.values.Stop.TheVariants.{Ended, Steps}
 use Rattle.cw_value.specs.Stores.{Cell}
@@ -32,7 +33,7 @@ use Rattle.cw_value.specs.Runs.{Going, ended_values, is_split, IsFree, IsWeaving
 use Rattle.cw_agree.specs.Laws.{SomeRun}
 use Rattle.cw_agree.proofs.Ways.{straight, GoesBy, IsWay, kind_of, deed_way}
 use Rattle.cw_agree.proofs.Standing.{Whole, SettledItem, Settled, whole_items, settle_done, Goes, IsInner, inner_goes}
-use Rattle.cw_agree.proofs.Paired.{Fits, IsPlain, begin_fits, begin_plain, onward_fits, onward_plain, way_back}
+use Rattle.cw_agree.proofs.Paired.{Fits, IsPlain, begin_fits, begin_plain, onward_fits, onward_plain}
 use Rattle.cw_agree.proofs.Calls.{CallsIn, CallsInAll, numbered_all_calls, CalledBy, steps_call_all, FrameHas, items_have, settle_has, HasIf, after_has}
 use Rattle.cw_agree.proofs.Fenced.{sc, plan, ActionFits, action_fits, routine_at}
 
@@ -300,7 +301,7 @@ module _ (policy : PlainPolicy) (s : Source) where
     RunsFor n g = (v : Values) × Ends s p None n g v
 
     pub landed_next : (b : Board) (way : Way) (next : List Frame) → pass (plan policy s) b.stack way ≡ Some next → stepped p None b (way_of (move_of way)) ≡ Some (landed p None b way next)
-    landed_next b way next e = ap (stepped p None b) (way_back s p way) ∙ ap (option_map (landed p None b way)) e
+    landed_next b way next e = ap (stepped p None b) (way_is way) ∙ ap (option_map (landed p None b way)) e
 
     step_run : (n : ℕ) → ((g : Going) → Ok g → RunsFor n g) → (g : Going) → g.woven.board.phase ≡ Free → Progress g.woven.board.stack (step s false g.woven.board.stack g.machine) → RunsFor (suc n) g
     step_run n run g e (halting why m st) =

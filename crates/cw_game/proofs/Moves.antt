@@ -8,13 +8,6 @@ use Rattle.cw_syntax.specs.Frames.{Frame, Way, pass}
 use Rattle.cw_syntax.specs.Frames.{On as OnWay, Left as LeftWay, Right as RightWay, Opened as OpenedWay, Failed as FailedWay}
 use Rattle.cw_model.specs.Boards.{Problem, Board, way_of, landed, stepped, move_of}
 
-pub way_is : (way : Way) → way_of (move_of way) ≡ Some way
-way_is OnWay = refl
-way_is LeftWay = refl
-way_is RightWay = refl
-way_is OpenedWay = refl
-way_is FailedWay = refl
-
 pub move_is : (by : Move) (way : Way) → way_of by ≡ Some way → move_of way ≡ by
 move_is On way e = ap move_of (sym (same_Some OnWay way e))
 move_is Left way e = ap move_of (sym (same_Some LeftWay way e))

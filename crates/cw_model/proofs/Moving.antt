@@ -22,7 +22,7 @@ use Rattle.cw_syntax.specs.Frames.{Entry, Todo, Test, After, LoopEnd, End, Frame
 use Rattle.cw_syntax.specs.Frames.{On as OnWay, Left as LeftWay, Right as RightWay, Opened as OpenedWay, Failed as FailedWay}
 use Rattle.cw_certs.specs.Tables.{Table}
 use Rattle.cw_model.specs.Boards.{Problem, Phase, Visit, Asked, Refused, Free, FreeSplit, Over, Board, primitives_in, onward, begin, start_board, is_yes, may_grant, may_refuse, can_stop}
-use Rattle.cw_model.specs.Boards.{with_opened, caps_after, landed, stepped, granted, passed_by, refused, moved, stop_answers, is_refused, Moves, turn_of}
+use Rattle.cw_model.specs.Boards.{with_opened, caps_after, landed, stepped, granted, passed_by, refused, moved, stop_answers, is_refused, Moves, turn_of, way_of, move_of}
 use Rattle.cw_model.specs.Runs.{top_by, try_of, refused_with, State, start_state, WovenStep, Goes, last}
 use Rattle.cw_model.specs.Laws.{party_of, OnePartyMoves, OverHasNoMove, Follow, last_board, WithoutStop, RefusedIsSkipped, GoingOnIsSkipping, StopsAfterRefusal, EndsSplit}
 use Rattle.cw_model.specs.Laws.{CapabilityModeStays, RightsNeverGrow}
@@ -33,6 +33,14 @@ use Rattle.std.proofs.lemmas.Option.{cond_some}
 -- a board by its parts
 abbrev pub board_on : List Frame → List (Option Caps) → Caps → Word → Phase → Board
 board_on stack kept caps word phase = record { stack = stack; kept = kept; caps = caps; word = word; phase = phase }
+
+-- the move of a way is a step that goes it
+pub way_is : (way : Way) → way_of (move_of way) ≡ Some way
+way_is OnWay = refl
+way_is LeftWay = refl
+way_is RightWay = refl
+way_is OpenedWay = refl
+way_is FailedWay = refl
 
 -- a primitive that is granted leaves the stack
 pub granted_stack : (b : Board) (stage : ℕ) (a : Primitive) (later : List Primitive) → (granted b stage a later).stack ≡ b.stack

@@ -22,7 +22,7 @@ use Rattle.cw_game.specs.Places.{IsLaidOut}
 use Rattle.cw_game.specs.Pairs.{is_live, leads, all_states}
 use Rattle.cw_game.specs.Closed.{rows_ok, is_closed_table}
 use Rattle.cw_game.specs.Standing.{Meaning}
-use Rattle.cw_game.proofs.Moves.{way_is}
+use Rattle.cw_model.proofs.Moving.{way_is}
 use Rattle.cw_game.proofs.Stands.{enters_at, stops_is}
 use Rattle.cw_game.proofs.Truths.{not_true}
 use Rattle.std.proofs.lemmas.Bool.{and_parts}

@@ -12,6 +12,7 @@ use Rattle.cw_points.specs.Points.{points}
 use Rattle.cw_points.proofs.Ways.{StackAt}
 use Rattle.cw_model.specs.Boards.{Problem, Phase, Visit, Asked, Refused as RefusedPhase, Free, FreeSplit, Over, Board, begin, moved, stepped, landed, move_of}
 use Rattle.cw_model.specs.Runs.{State, WovenStep}
+use Rattle.cw_model.proofs.Moving.{way_is}
 use Rattle.cw_game.specs.declared.spots.Spot.{Spot}
 use Rattle.cw_product.specs.Product.{Held}
 use Rattle.cw_run.specs.declared.walk.Here.{Here as HereData}
@@ -25,7 +26,7 @@ use Rattle.cw_eval.specs.declared.halt.Halt.TheVariants as halt
 use Rattle.cw_machine.specs.declared.machine.Machine.{Machine as HeldMachine}
 use Rattle.cw_machine.specs.Shown.{machine_of}
 use Rattle.cw_agree.proofs.Plain.{plain as shown, plain_step}
-use Rattle.cw_agree.proofs.Paired.{Paired, Lands, lands, way_back, same_goes, same_halts, split_may, plain_does, landed_paired}
+use Rattle.cw_agree.proofs.Paired.{Paired, Lands, lands, same_goes, same_halts, split_may, plain_does, landed_paired}
 use Rattle.cw_agree.proofs.Invariants.{Inv, invariant}
 use Rattle.cw_values.specs.Stands.{plan, StandsAt, Passes, Breaks, Advances}
 use Rattle.cw_woven_values.specs.Standing.{IsWoven, IsFresh, problem, policy, EndsBehind, Weaves}
@@ -55,8 +56,8 @@ module _ (h : Held) (s : Source) (t : Table) (w : IsWoven h s t) where
 
   -- the board has a move where the program goes on
   free_moves : (b : Board) (phase : Phase) (way : Way) (next : List Frame) → IsFree phase → pass pr.plan b.stack way ≡ Some next → (to : Board) × (moved pr b phase (move_of way) ≡ Some to)
-  free_moves b Free way next f e = (landed pr None b way next, ap (stepped pr None b) (way_back s pr way) ∙ ap (option_map (landed pr None b way)) e)
-  free_moves b FreeSplit way next f e = (landed pr (Some b.caps) b way next, ap (stepped pr (Some b.caps) b) (way_back s pr way) ∙ ap (option_map (landed pr (Some b.caps) b way)) e)
+  free_moves b Free way next f e = (landed pr None b way next, ap (stepped pr None b) (way_is way) ∙ ap (option_map (landed pr None b way)) e)
+  free_moves b FreeSplit way next f e = (landed pr (Some b.caps) b way next, ap (stepped pr (Some b.caps) b) (way_is way) ∙ ap (option_map (landed pr (Some b.caps) b way)) e)
   free_moves b (Visit i a l) way next f e = absurd f
   free_moves b (Asked i a l) way next f e = absurd f
   free_moves b (RefusedPhase i a l) way next f e = absurd f
