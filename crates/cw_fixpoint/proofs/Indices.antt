@@ -1,11 +1,11 @@
 -- What stands at an index of a list, and what a filter finds.
-use Rattle.std.proofs.Common.{◌≡◌, inl, inr, ℕ, zero, suc, ◌+◌, ◌<◌, List, [], ◌∷◌, ◌++◌, Option, Some, None, filter_map, take, get_or, length, refl, sym, ap, ◌∙◌, subst, arith}
+use Rattle.std.proofs.Common.{◌≡◌, ℕ, zero, suc, ◌+◌, ◌<◌, List, [], ◌∷◌, ◌++◌, Option, Some, filter_map, take, get_or, length, sym, ap, ◌∙◌, arith}
 use Rattle.std.specs.Prelude.{slice_get}
 use Rattle.std.specs.List.{Contains, cons_option}
 use Rattle.std.proofs.lemmas.List.{take_more}
 use Rattle.std.proofs.lemmas.List.Elements.{filter_map-append}
-use Rattle.std.proofs.lemmas.Option.{none-some, same_Some}
-use Rattle.cw_lemmas.proofs.Lists.{contains_none, get_contains, get_front, get_last, head_in, tail_in, in_either}
+use Rattle.std.proofs.lemmas.Option.{none-some}
+use Rattle.cw_lemmas.proofs.Lists.{get_contains, get_front, get_last, from_kept, to_kept}
 use Rattle.cw_fixpoint.specs.Seeing.{named}
 
 -- the key that a hint names
@@ -28,18 +28,7 @@ filtered_more f xs i d old new lt h e =
 
 -- what a filter finds
 pub filtered_from : {A B : Type 0} (f : A → Option B) (xs : List A) (y : B) → Contains (filter_map f xs) y → (x : A) × (f x ≡ Some y)
-filtered_from {A} {B} f [] y c = absurd (contains_none y c)
-filtered_from {A} {B} f (x ∷ xs) y c = by (f x) refl c (filtered_from f xs y)
-  where
-    by : (o : Option B) → f x ≡ o → Contains (cons_option o (filter_map f xs)) y → (Contains (filter_map f xs) y → (z : A) × (f z ≡ Some y)) → (z : A) × (f z ≡ Some y)
-    by None e c rest = rest c
-    by (Some z) e c rest = elim (in_either z (filter_map f xs) y c) [ inl s ↦ (x, e ∙ ap Some s) | inr m ↦ rest m ]
+filtered_from f xs y c = let r = from_kept f xs y c in (r.0, r.2)
 
 pub filtered_to : {A B : Type 0} (f : A → Option B) (xs : List A) (i : ℕ) (x : A) (y : B) → slice_get xs i ≡ Some x → f x ≡ Some y → Contains (filter_map f xs) y
-filtered_to {A} {B} f [] i x y at e = absurd (none-some x at)
-filtered_to {A} {B} f (z ∷ xs) zero x y at e = subst (λ (o : Option B). Contains (cons_option o (filter_map f xs)) y) (sym (ap f (same_Some z x at) ∙ e)) (head_in y (filter_map f xs))
-filtered_to {A} {B} f (z ∷ xs) (suc i) x y at e = by (f z) (filtered_to f xs i x y at e)
-  where
-    by : (o : Option B) → Contains (filter_map f xs) y → Contains (cons_option o (filter_map f xs)) y
-    by None c = c
-    by (Some w) c = tail_in w (filter_map f xs) y c
+filtered_to f xs i x y at e = to_kept f xs x y (get_contains xs i x at) e
