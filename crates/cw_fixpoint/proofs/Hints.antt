@@ -22,7 +22,7 @@ use Rattle.cw_fixpoint.specs.Seen.{SeenIs, Adds}
 use Rattle.cw_fixpoint.proofs.Existing.{in_order}
 use Rattle.cw_fixpoint.proofs.Keys.{inserted_old, inserted_new, inserted_from}
 use Rattle.cw_fixpoint.specs.Seeing.{named, IsFree, IsHinted, IsSeen}
-use Rattle.cw_fixpoint.proofs.Indices.{named_in, named_more, named_last, filtered_from, filtered_to}
+use Rattle.cw_fixpoint.proofs.Entries.{named_in, named_more, named_last, filtered_from, filtered_to}
 use Rattle.cw_fixpoint.proofs.Numbers.{equal_is}
 
 pub adds_new : {K : Type 0} (keys : List K) (k : K) → Adds keys (keys ++ k ∷ []) (k ∷ [])

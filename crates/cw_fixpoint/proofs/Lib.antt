@@ -4,7 +4,7 @@ pub mod Reach
 pub mod Descending
 pub mod Numbers
 mod Holding
-pub mod Indices
+pub mod Entries
 pub mod Hints
 mod Orders
 mod Ending

@@ -1,7 +1,7 @@
 use Rattle.std.proofs.Common.{◌≡◌, ◌+◌, ◌++◌, [], List, ℕ, Option, filter_map, take, sym, ap, ◌∙◌, subst}
 use Rattle.std.specs.List.{cons_option}
 use Rattle.cw_fixpoint.specs.Seeing.{named}
-use Rattle.cw_fixpoint.proofs.Indices.{filtered_more}
+use Rattle.cw_fixpoint.proofs.Entries.{filtered_more}
 use Rattle.cw_fixpoint.proofs.indexed.hinted.Goals as goal
 
 pub loop-hint-preserved : goal.loop-hint-preserved

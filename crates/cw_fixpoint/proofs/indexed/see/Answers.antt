@@ -1,6 +1,6 @@
 use Rattle.std.proofs.lemmas.Option.{slice_get_within}
 use Rattle.cw_fixpoint.proofs.Hints.{adds_put, adds_none, put_hint, put_among, adds_among}
-use Rattle.cw_fixpoint.proofs.Indices.{named_in}
+use Rattle.cw_fixpoint.proofs.Entries.{named_in}
 use Rattle.cw_fixpoint.proofs.indexed.see.Goals as goal
 
 pub put_hinted-requires : goal.put_hinted-requires
