@@ -14,13 +14,14 @@ ghost use Rattle.cw_answers.specs.Reading.{name_of, by_name, is_behind, last_of,
 use crate::fault::AnswersFault;
 use crate::lines::{after_end, after_head, next_call, next_name, next_try};
 use cw_certs::Move;
+use cw_core::limits::FILE_BYTES_IN_FORMAT_2;
 use cw_value::Answers;
 use std::alloc::Global;
 
 /// The answers whose text this is: its head, a line for each name with its value, ascending strictly by name, each try and each call, and
 /// `end`, each with its LF. Otherwise Line with the number of the first line that doesn't fit, from 1. A text has at most 33,554,432 bytes.
 pub fn read_answers(alloc: Global, text: &[u8]) -> Result<Answers, AnswersFault>
-    requires { length text.now ≤ 33554432 }
+    requires { length text.now ≤ FILE_BYTES_IN_FORMAT_2 }
     ensures ok { IfOk result (λ answers. Spells text.now (answers_of answers)) }
     ensures in_order { IfOk result (λ answers. AreInOrder (answers_of answers)) }
     ensures fault { IfErr result (λ fault. IsCause text.now fault) }

@@ -1,5 +1,7 @@
 -- What an audit promises.
 use Rattle.std.specs.Prelude.{◌≡◌, ℕ, ◌<◌, ◌≤◌, [], Option, Some, None}
+use Rattle.cw_core.specs.Quantities.{limit_of}
+use Rattle.cw_core.specs.declared.quantity.Quantity.TheVariants.{Rows, AuditMoves}
 use Rattle.cw_model.specs.Boards.{Problem}
 use Rattle.cw_game.specs.Games.{Game}
 use Rattle.cw_audit_table.specs.Plays.{IsViolating}
@@ -15,7 +17,7 @@ use Rattle.cw_audit.specs.declared.fault.AuditFault.TheVariants.{TooManyRows, To
 -- a distance that is told
 abbrev pub IsFew : Option ℕ → Type 0
 IsFew None = Unit {0}
-IsFew (Some T) = T ≤ 65536
+IsFew (Some T) = T ≤ limit_of AuditMoves
 
 -- without a distance there are no moves
 abbrev pub AreNeeded : Audit → Type 0
@@ -31,18 +33,18 @@ pub record IsAuditOf (g : Game) (functions : ℕ) (t : Audit) : Type 0 where
   pub good : IsGoodAudit g functions t
   pub shown : IsShown g t
   pub needed : AreNeeded t
-  pub few_rows : row_count t ≤ 65536
+  pub few_rows : row_count t ≤ limit_of Rows
   pub few_moves : IsFew t.distance
 
 -- each table of the game has more rows than are written
 abbrev pub AreManyRows : Game → Type 0
-AreManyRows g = (t : Audit) → IsStated g t → 65536 < row_count t
+AreManyRows g = (t : Audit) → IsStated g t → limit_of Rows < row_count t
 
 -- Some run comes to a bad pair, each by more moves than are written; no table of the game that is in order has too many rows.
 pub record AreManyMoves (g : Game) : Type 0 where
   pub hit : (n : ℕ) × IsHit g n
-  pub far : (n : ℕ) → IsHit g n → 65536 < n
-  pub few_rows : (t : Audit) → AreInOrder t.groups → IsStated g t → row_count t ≤ 65536
+  pub far : (n : ℕ) → IsHit g n → limit_of AuditMoves < n
+  pub few_rows : (t : Audit) → AreInOrder t.groups → IsStated g t → row_count t ≤ limit_of Rows
 
 abbrev pub IsFaultOf : Game → AuditFault → Type 0
 IsFaultOf g TooManyRows = AreManyRows g

@@ -1,5 +1,7 @@
 -- As far as which rows a search is settled.
 use Rattle.std.specs.Prelude.{◌≡◌, ℕ, ◌+◌, ◌<◌, ◌≤◌, List, [], Bool, false, cond, Option, Some, None, min, nat_le, nat_lt}
+use Rattle.cw_core.specs.Quantities.{limit_of}
+use Rattle.cw_core.specs.declared.quantity.Quantity.TheVariants.{AuditMoves}
 use Rattle.cw_certs.specs.declared.moves.Move.{Move}
 use Rattle.cw_game.specs.Games.{Game}
 use Rattle.cw_audit_store.specs.declared.row_key.Hit.{Hit}
@@ -8,7 +10,7 @@ use Rattle.cw_audit_moves.specs.Writing.{IsRunTo}
 -- to the nearest violation; or everywhere, where there is none that wasn't cut
 abbrev pub bound_of : Option Hit → ℕ
 bound_of None = 65538
-bound_of (Some h) = cond (nat_le h.distance 65536) h.distance 65538
+bound_of (Some h) = cond (nat_le h.distance (limit_of AuditMoves)) h.distance 65538
 
 -- past the key, and not past the nearest violation
 abbrev pub early_bound : Option Hit → ℕ → ℕ
@@ -21,7 +23,7 @@ IsEarly (Some h) bound = (0 < bound) × (bound ≤ 65537) × (bound ≤ h.distan
 
 abbrev pub is_far : Option Hit → Bool
 is_far None = false
-is_far (Some h) = nat_lt 65536 h.distance
+is_far (Some h) = nat_lt (limit_of AuditMoves) h.distance
 
 -- there is no violation, or one that can be told
 abbrev pub IsNoted : Option Hit → Type 0

@@ -121,7 +121,7 @@ fn table_of(
     requires settled { IsSettled (game_of game.now) (found_of search.now.store) (bound_of search.now.store.hit) }
     requires near { IsNoted search.now.store.hit }
     requires below { AreAllBelow search.now.store (bound_of search.now.store.hit) row_keys.items }
-    requires few { length row_keys.items ≤ 65536 }
+    requires few { length row_keys.items ≤ ROWS }
     ensures { IfOk result (λ t. IsAuditOf (game_of game.now) (functions_of game.now) (audit_of t)) }
 {
     let moves = moves_of(alloc, game, search)?;

@@ -22,6 +22,7 @@ use cw_audit_store::Store;
 use cw_audit_table::AuditTable;
 use cw_audit_visits::{Search, begin, settle, visit};
 use cw_core::NoMemory;
+use cw_core::limits::ROWS;
 use cw_product::Game;
 use std::alloc::Global;
 
@@ -140,7 +141,7 @@ pub fn audit(alloc: Global, game: &Game) -> Result<AuditTable, AuditFault>
     ensures good { IfOk result (λ t. IsGoodAudit (game_of game.now) (functions_of game.now) (audit_of t)) }
     ensures shown { IfOk result (λ t. IsShown (game_of game.now) (audit_of t)) }
     ensures needed { IfOk result (λ t. AreNeeded (audit_of t)) }
-    ensures few_rows { IfOk result (λ t. row_count (audit_of t) ≤ 65536) }
+    ensures few_rows { IfOk result (λ t. row_count (audit_of t) ≤ ROWS) }
     ensures few_moves { IfOk result (λ t. IsFew t.distance) }
     ensures verdict { IfOk result (λ t. (p : Problem) → IsGameOf p (game_of game.now) → IsVerdict p t.distance) }
     ensures plays { IfOk result (λ t. (p : Problem) → IsGameOf p (game_of game.now) → IsPlayed p (audit_of t)) }

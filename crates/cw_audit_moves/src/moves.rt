@@ -10,6 +10,7 @@ use crate::todo::{Todo, put_call, put_way};
 use cw_audit_store::{Hit, Store};
 use cw_certs::Move;
 use cw_core::NoMemory;
+use cw_core::limits::AUDIT_MOVES;
 use cw_product::Game;
 use std::alloc::Global;
 
@@ -50,7 +51,7 @@ fn write(
 pub fn tell(alloc: Global, game: &Game, store: &Store, hit: Hit) -> Result<Vec<Move>, NoMemory>
     requires ready { IsReady (game_of game.now) (length game.now.graph.parts.items) (found_of store.now) (ways_of store.now) }
     requires hit { store.now.hit ≡ Some hit }
-    requires few { hit.distance ≤ 65536 }
+    requires few { hit.distance ≤ AUDIT_MOVES }
     requires least { (n : ℕ) → IsHit (game_of game.now) n → hit.distance ≤ n }
     ensures run { IfOk result (λ moves. IsRunTo (game_of game.now) moves.items hit.distance) }
 {

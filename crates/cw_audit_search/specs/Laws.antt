@@ -1,6 +1,8 @@
 -- What follows of a search that is settled: the laws of this crate.
 use Rattle.std.specs.Prelude.{◌≡◌, ◌⊎◌, ℕ, ◌+◌, ◌<◌, ◌≤◌, List, true, Option, Some, length, slice_get}
 use Rattle.std.specs.List.{IsDistinct}
+use Rattle.cw_core.specs.Quantities.{limit_of}
+use Rattle.cw_core.specs.declared.quantity.Quantity.TheVariants.{AuditMoves}
 use Rattle.cw_certs.specs.declared.moves.Move.{Move}
 use Rattle.cw_model.specs.Boards.{Problem}
 use Rattle.cw_game.specs.declared.spots.Spot.{Spot}
@@ -37,7 +39,7 @@ pub record IsDone (g : Game) (functions : ℕ) (s : Found) (bound : ℕ) (D : Op
 -- The table that lists it, where the distance is the nearest violation's and wasn't cut, meets the conditions and is the game's table.
 abbrev pub ListingsAreStated : Type 0
 ListingsAreStated = (g : Game) (functions : ℕ) (s : Found) (bound : ℕ) (D : Option ℕ) (t : Audit) → IsDone g functions s bound D → IsListing g s D t
-    → s.best ≡ D → ((d : ℕ) → D ≡ Some d → d ≤ 65536) → IsGoodAudit g functions t × IsStated g t
+    → s.best ≡ D → ((d : ℕ) → D ≡ Some d → d ≤ limit_of AuditMoves) → IsGoodAudit g functions t × IsStated g t
 
 -- a row that is below the distance, or any row where that was cut
 abbrev pub IsCounted : Found → Option ℕ → (f q p x : ℕ) → Type 0
@@ -57,11 +59,11 @@ StatedRowsAreFound = (g : Game) (functions : ℕ) (s : Found) (row_keys : List R
 -- Where all is settled and the nearest violation was cut some run hits, and each by more than 65,536 moves.
 abbrev pub CutHitsAreFar : Type 0
 CutHitsAreFar = (g : Game) (functions : ℕ) (s : Found) → IsFair g functions → IsSound g functions s → IsSettled g s 65538 → s.best ≡ Some 65537
-    → ((n : ℕ) × IsHit g n) × ((n : ℕ) → IsHit g n → 65536 < n)
+    → ((n : ℕ) × IsHit g n) × ((n : ℕ) → IsHit g n → limit_of AuditMoves < n)
 
 -- What the ways stand for is a run to a bad pair, of as many moves as the distance, where no run is shorter.
 abbrev pub WaysAreShown : Type 0
-WaysAreShown = (g : Game) (functions : ℕ) (s : Found) (w : Ways) (T : ℕ) → IsFair g functions → IsSound g functions s → AreWays g s w → s.best ≡ Some T → T ≤ 65536
+WaysAreShown = (g : Game) (functions : ℕ) (s : Found) (w : Ways) (T : ℕ) → IsFair g functions → IsSound g functions s → AreWays g s w → s.best ≡ Some T → T ≤ limit_of AuditMoves
     → ((n : ℕ) → IsHit g n → T ≤ n)
     → (h : BadWay) × (w.hit ≡ Some h) × ((ms : List Move) × Unfolds g w (unfold_hit g h) ms × (length ms ≡ T) × ((c : Config) × Goes g (start_at g) ms c × (is_bad_at g c ≡ true)))
 

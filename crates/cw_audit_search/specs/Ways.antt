@@ -1,5 +1,7 @@
 -- How each row, each group and the nearest violation were come to, and the moves that this stands for.
 use Rattle.std.specs.Prelude.{◌≡◌, ℕ, ◌+◌, ◌*◌, ◌≤◌, List, [], ◌∷◌, ◌++◌, true, cond, Option, Some, None, unwrap_or, slice_get}
+use Rattle.cw_core.specs.Quantities.{limit_of}
+use Rattle.cw_core.specs.declared.quantity.Quantity.TheVariants.{AuditMoves}
 use Rattle.cw_certs.specs.declared.moves.Move.{Move}
 use Rattle.cw_certs.specs.declared.moves.Move.TheVariants.{On}
 use Rattle.cw_game.specs.declared.spots.Spot.TheVariants.{Call}
@@ -120,8 +122,8 @@ weight s (todo ∷ todos) = weight_of s todo + weight s todos
 
 -- each row and group that is to be written is there, with a number that wasn't cut
 abbrev pub IsLow : Found → Todo → Type 0
-IsLow s (Reach f q) = (r : ℕ) × (s.reach f q ≡ Some r) × (r ≤ 65536)
-IsLow s (Row f q p x) = (a : ℕ) × (s.number f q p x ≡ Some a) × (a ≤ 65536)
+IsLow s (Reach f q) = (r : ℕ) × (s.reach f q ≡ Some r) × (r ≤ limit_of AuditMoves)
+IsLow s (Row f q p x) = (a : ℕ) × (s.number f q p x ≡ Some a) × (a ≤ limit_of AuditMoves)
 IsLow s (Step by) = Unit {0}
 
 abbrev pub AreLow : Found → List Todo → Type 0

@@ -11,6 +11,7 @@ use crate::fault::AuditTextFault;
 use crate::printing::print_audit;
 use crate::reading::read_audit;
 use cw_audit_table::AuditTable;
+use cw_core::limits::FILE_BYTES_IN_FORMAT_2;
 use cw_io::SureSink;
 use std::alloc::Global;
 
@@ -27,7 +28,7 @@ pub fn some_answer(text: &[u8])
 /// What is printed is read again as the value: the audit, where it has a text, which isn't longer than one that is read; or want of memory.
 pub fn read_again(alloc: Global, table: &AuditTable) -> Result<AuditTable, AuditTextFault>
     requires fits { Fits (audit_of table.now) }
-    requires short { length (audit_text (audit_of table.now)) ≤ 33554432 }
+    requires short { length (audit_text (audit_of table.now)) ≤ FILE_BYTES_IN_FORMAT_2 }
     ensures same { IfOk result (λ again. audit_of again ≡ audit_of table.now) }
     ensures memory { IfErr result (λ fault. fault ≡ OutOfMemory) }
 {

@@ -16,6 +16,7 @@ use crate::fault::AuditTextFault;
 use crate::text_line::{TextLine, read_line};
 use cw_audit_table::{AuditTable, Group};
 use cw_certs::Move;
+use cw_core::limits::FILE_BYTES_IN_FORMAT_2;
 use cw_core::{PosId, StateId};
 use cw_text::next_line;
 use std::alloc::Global;
@@ -230,7 +231,7 @@ fn lines_in(groups: &[Group]) -> usize
 /// The audit whose text this is: its head, the number of states, the verdict with the moves behind a distance, a line for each group and its
 /// rows, and `end`, each with its LF. Otherwise the first line at fault is answered. A text has at most 33,554,432 bytes.
 pub fn read_audit(alloc: Global, text: &[u8]) -> Result<AuditTable, AuditTextFault>
-    requires { length text.now ≤ 33554432 }
+    requires { length text.now ≤ FILE_BYTES_IN_FORMAT_2 }
     ensures spells { IfOk result (λ table. Spells text.now (audit_of table)) }
     ensures few { IfOk result (λ table. AreFew table.groups.items) }
     ensures fault { IfErr result (λ fault. IsCause text.now fault) }

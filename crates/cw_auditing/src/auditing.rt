@@ -17,6 +17,7 @@ use cw_audit::{AuditFault, audit};
 use cw_audit_table::AuditTable;
 use cw_audit_text::put_audit;
 use cw_commands::{Outcome, Reply};
+use cw_core::limits::SOURCE_BYTES;
 use cw_core::{NoMemory, Quantity};
 use cw_io::{Sink, Writer};
 use cw_policy::read_policy;
@@ -84,7 +85,7 @@ fn read<O: Sink>(
     source: &[u8],
     out: &mut O,
 ) -> Result<Text<O>, Stop>
-    requires short { length source.now ≤ 262144 }
+    requires short { length source.now ≤ SOURCE_BYTES }
     requires valid { IsValid (policy_of policy.now) }
     ensures due { let whole = policy_of policy.now in
         Answers whole source.now (WithSource (AfterPair source.now whole) source.now whole) result }
@@ -102,7 +103,7 @@ pub fn audit_due<O: Sink, N: Sink>(
     out: &mut O,
     note: &mut N,
 ) -> Result<Outcome<O, N>, NoMemory>
-    requires short { length source.now ≤ 262144 }
+    requires short { length source.now ≤ SOURCE_BYTES }
     ensures due { IfOk result (λ outcome. IsAuditDue policy.now source.now (due_of outcome)) }
     ensures puts { Starts O.taken O.faults O.refused out.old out.new result }
     ensures notes { StartsLine N.taken N.faults N.refused note.old note.new result }

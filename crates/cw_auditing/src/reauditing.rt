@@ -17,6 +17,7 @@ use cw_audit_check::{BadGroup, check_audit, shows};
 use cw_audit_table::AuditTable;
 use cw_commands::{Outcome, Reply};
 use cw_core::NoMemory;
+use cw_core::limits::{FILE_BYTES_IN_FORMAT_2, SOURCE_BYTES};
 use cw_io::Sink;
 use cw_policy::read_policy;
 use cw_product::Game;
@@ -78,7 +79,7 @@ fn spelled<O: Sink>(
     out: &mut O,
 ) -> Result<Text<O>, Stop>
     requires is { IsReading reading.now }
-    requires short { length text.now ≤ 33554432 }
+    requires short { length text.now ≤ FILE_BYTES_IN_FORMAT_2 }
     ensures due { let whole = whole_of reading.now in let source = source_of reading.now in
         Answers whole source (AfterPair source text.now whole (file_in reading.now)) result }
     ensures puts { StartsText O.taken O.faults O.refused out.old out.new result }
@@ -98,8 +99,8 @@ fn read<O: Sink>(
     text: &[u8],
     out: &mut O,
 ) -> Result<Text<O>, Stop>
-    requires short { length source.now ≤ 262144 }
-    requires short_text { length text.now ≤ 33554432 }
+    requires short { length source.now ≤ SOURCE_BYTES }
+    requires short_text { length text.now ≤ FILE_BYTES_IN_FORMAT_2 }
     requires valid { IsValid (policy_of policy.now) }
     ensures due { let whole = policy_of policy.now in
         Answers whole source.now (WithSource (AfterPair source.now text.now whole) source.now whole) result }
@@ -118,8 +119,8 @@ pub fn reaudit_due<O: Sink, N: Sink>(
     out: &mut O,
     note: &mut N,
 ) -> Result<Outcome<O, N>, NoMemory>
-    requires short { length source.now ≤ 262144 }
-    requires short_audit { length audit.now ≤ 33554432 }
+    requires short { length source.now ≤ SOURCE_BYTES }
+    requires short_audit { length audit.now ≤ FILE_BYTES_IN_FORMAT_2 }
     ensures due { IfOk result (λ outcome. IsReauditDue policy.now source.now audit.now (due_of outcome)) }
     ensures puts { Starts O.taken O.faults O.refused out.old out.new result }
     ensures notes { StartsLine N.taken N.faults N.refused note.old note.new result }

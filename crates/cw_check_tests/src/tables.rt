@@ -9,6 +9,7 @@ ghost use Rattle.cw_wcheck.specs.Checking.{HasFewRows};
 
 use crate::lines::{FILE, RECURSION, SPLIT, STOP, TWO_PROMISES, Texts};
 use cw_certs::WeaverCert;
+use cw_core::limits::POINTS;
 use cw_core::{MemId, PosId};
 use cw_points::Graph;
 use cw_points::build::build;
@@ -77,7 +78,7 @@ fn tells(rt: &impl Abort, alloc: Global, policy: &Policy, game: &Game, text: &st
 fn graph_of(alloc: Global, policy: &Policy, source: &[u8]) -> Option<Graph>
     requires valid { IsValid (policy_of policy.now) }
     ensures drawn { IfSome result (IsProgramsGraph (policy_of policy.now)) }
-    ensures few { IfSome result (λ g. length g.nodes.items ≤ 8192) }
+    ensures few { IfSome result (λ g. length g.nodes.items ≤ POINTS) }
 {
     if source.len() > 262144 {
         return None;

@@ -1,5 +1,7 @@
 -- Working definitions: what the code of `check` answers of a game and a table.
 use Rattle.std.specs.Prelude.{◌≡◌, ◌⊎◌, ◌≤◌, length, Some, option_map}
+use Rattle.cw_core.specs.Quantities.{limit_of}
+use Rattle.cw_core.specs.declared.quantity.Quantity.TheVariants.{Limits}
 use Rattle.cw_certs.specs.Tables.{Table}
 use Rattle.cw_model.specs.Boards.{Problem}
 use Rattle.cw_model.specs.Runs.{Sound}
@@ -15,7 +17,7 @@ use Rattle.cw_stages.specs.Refusals.{yes}
 
 -- the table is sound for every program of which that is the game
 abbrev pub IsSoundBy : Game → Table → Type 0
-IsSoundBy g t = (p : Problem) → IsGameOf p g → length p.policy.limits ≤ 12 → Sound p t
+IsSoundBy g t = (p : Problem) → IsGameOf p g → length p.policy.limits ≤ limit_of Limits → Sound p t
 
 abbrev pub IsCheckedBy : Game → Table → Due → Type 0
 IsCheckedBy g t due =

@@ -17,6 +17,7 @@ ghost use Rattle.cw_checking.specs.CheckingHeld.{IsCheckedBy};
 use cw_certs::WeaverCert;
 use cw_commands::{Outcome, Reply};
 use cw_core::NoMemory;
+use cw_core::limits::{FILE_BYTES_IN_FORMAT_2, POINTS};
 use cw_io::Sink;
 use cw_points::Graph;
 use cw_policy::read_policy;
@@ -53,7 +54,7 @@ fn fitted<O: Sink>(
 ) -> Result<Text<O>, Stop>
     requires is { IsReading reading.now }
     requires graph { IsGraph (names_of (whole_of reading.now)) (source_of reading.now) (file_in reading.now) graph.now }
-    requires points { length graph.now.nodes.items ≤ 8192 }
+    requires points { length graph.now.nodes.items ≤ POINTS }
     requires few { HasFewRows table.now }
     ensures due { let whole = whole_of reading.now in let source = source_of reading.now in
         Answers whole source (AfterWoven source whole (file_in reading.now) table.now) result }
@@ -92,7 +93,7 @@ fn unwoven<O: Sink, N: Sink>(
     note: &mut N,
 ) -> Result<Outcome<O, N>, NoMemory>
     requires valid { IsValid (policy_of policy.now) }
-    requires short { length text.now ≤ 33554432 }
+    requires short { length text.now ≤ FILE_BYTES_IN_FORMAT_2 }
     ensures due { IfOk result (λ outcome. AfterPolicy text.now (policy_of policy.now) (due_of outcome)) }
     ensures puts { Starts O.taken O.faults O.refused out.old out.new result }
     ensures notes { StartsLine N.taken N.faults N.refused note.old note.new result }
@@ -116,7 +117,7 @@ pub fn check_due<O: Sink, N: Sink>(
     out: &mut O,
     note: &mut N,
 ) -> Result<Outcome<O, N>, NoMemory>
-    requires short { length text.now ≤ 33554432 }
+    requires short { length text.now ≤ FILE_BYTES_IN_FORMAT_2 }
     ensures due { IfOk result (λ outcome. IsCheckDue policy.now text.now (due_of outcome)) }
     ensures puts { Starts O.taken O.faults O.refused out.old out.new result }
     ensures notes { StartsLine N.taken N.faults N.refused note.old note.new result }

@@ -14,6 +14,7 @@ ghost use Rattle.cw_checking.specs.Refuting.{AfterPair, IsJudgedBy, IsRefuteDue}
 use cw_certs::EnvCert;
 use cw_commands::{Outcome, Reply};
 use cw_core::NoMemory;
+use cw_core::limits::SOURCE_BYTES;
 use cw_echeck::check_env;
 use cw_io::Sink;
 use cw_policy::read_policy;
@@ -64,7 +65,7 @@ fn read<O: Sink>(
     text: &[u8],
     out: &mut O,
 ) -> Result<Text<O>, Stop>
-    requires short { length source.now ≤ 262144 }
+    requires short { length source.now ≤ SOURCE_BYTES }
     requires valid { IsValid (policy_of policy.now) }
     ensures due { let whole = policy_of policy.now in
         Answers whole source.now (WithSource (AfterPair source.now text.now whole) source.now whole) result }
@@ -83,7 +84,7 @@ pub fn refute_due<O: Sink, N: Sink>(
     out: &mut O,
     note: &mut N,
 ) -> Result<Outcome<O, N>, NoMemory>
-    requires short { length source.now ≤ 262144 }
+    requires short { length source.now ≤ SOURCE_BYTES }
     ensures due { IfOk result (λ outcome. IsRefuteDue policy.now source.now strategy.now (due_of outcome)) }
     ensures puts { Starts O.taken O.faults O.refused out.old out.new result }
     ensures notes { StartsLine N.taken N.faults N.refused note.old note.new result }

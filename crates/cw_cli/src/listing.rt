@@ -9,6 +9,7 @@ ghost use Rattle.cw_commands.specs.Starts.{Starts, StartsLine};
 ghost use Rattle.cw_cli.specs.Listings.{IsListed, IsListingDue};
 
 use cw_commands::{Outcome, Reply};
+use cw_core::limits::SOURCE_BYTES;
 use cw_core::{NoMemory, Quantity};
 use cw_io::{Sink, Writer};
 use cw_listing::{Names, put_graph};
@@ -71,7 +72,7 @@ pub fn listing_due<O: Sink, N: Sink>(
     out: &mut O,
     note: &mut N,
 ) -> Result<Outcome<O, N>, NoMemory>
-    requires short { length source.now ≤ 262144 }
+    requires short { length source.now ≤ SOURCE_BYTES }
     ensures due { IfOk result (λ outcome. IsListingDue source.now (due_of outcome)) }
     ensures puts { Starts O.taken O.faults O.refused out.old out.new result }
     ensures notes { StartsLine N.taken N.faults N.refused note.old note.new result }

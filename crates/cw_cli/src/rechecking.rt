@@ -9,7 +9,7 @@ ghost use Rattle.cw_cli.specs.Weaving.{IsWeaveDue};
 use cw_checking::{check_due, refute_due};
 use cw_commands::{Outcome, Reply};
 use cw_core::NoMemory;
-use cw_core::limits::FILE_BYTES_IN_FORMAT_2;
+use cw_core::limits::{FILE_BYTES_IN_FORMAT_2, SOURCE_BYTES};
 use cw_io::{Sink, SinkFault, SureSink, Writer};
 use std::alloc::Global;
 
@@ -42,7 +42,7 @@ fn is_yes(outcome: &Outcome<SureSink, SureSink>) -> bool
 
 /// Has `check` go through a woven text that is due for `weave`, unless it is longer than a file may be: it answers yes.
 fn check_text(alloc: Global, policy: &[u8], source: &[u8], text: &[u8]) -> Result<(), NoMemory>
-    requires short { length source.now ≤ 262144 }
+    requires short { length source.now ≤ SOURCE_BYTES }
     requires due { IsWeaveDue policy.now source.now (Told Yes text.now) }
 {
     let _ = source;
@@ -60,7 +60,7 @@ fn check_text(alloc: Global, policy: &[u8], source: &[u8], text: &[u8]) -> Resul
 
 /// Has `refute` go through a strategy that is due for `weave`, unless it is longer than a file may be: it answers yes.
 fn refute_text(alloc: Global, policy: &[u8], source: &[u8], text: &[u8]) -> Result<(), NoMemory>
-    requires short { length source.now ≤ 262144 }
+    requires short { length source.now ≤ SOURCE_BYTES }
     requires due { IsWeaveDue policy.now source.now (Told No text.now) }
 {
     if text.len() > FILE_BYTES {
@@ -90,7 +90,7 @@ pub(crate) fn go_through(
     source: &[u8],
     text: &[u8],
 ) -> Result<(), NoMemory>
-    requires short { length source.now ≤ 262144 }
+    requires short { length source.now ≤ SOURCE_BYTES }
     requires due { IsWeaveDue policy.now source.now (Told reply text.now) }
 {
     match reply {

@@ -18,6 +18,7 @@ use crate::telling::summary;
 use crate::weaving::weave;
 use cw_commands::{Command, Outcome};
 use cw_core::NoMemory;
+use cw_core::limits::SOURCE_BYTES;
 use cw_io::{Sink, SureSink};
 use cw_policy::read_policy;
 use cw_rights::Policy;
@@ -30,7 +31,7 @@ fn texts_of(alloc: Global, number: u32) -> Result<(Vec<u8>, Vec<u8>), NoMemory>
     requires { HasSample number }
     ensures policy { IfOk result (λ texts. texts.0.items ≡ sample_policy) }
     ensures source { IfOk result (λ texts. texts.1.items ≡ sample_source number) }
-    ensures short { IfOk result (λ texts. length texts.1.items ≤ 262144) }
+    ensures short { IfOk result (λ texts. length texts.1.items ≤ SOURCE_BYTES) }
 {
     match make_sample(alloc, number) {
         Ok(texts) => Ok(texts),
@@ -48,7 +49,7 @@ fn sampled<O: Sink>(
     source: &[u8],
     out: &mut O,
 ) -> Result<Text<O>, Stop>
-    requires short { length source.now ≤ 262144 }
+    requires short { length source.now ≤ SOURCE_BYTES }
     requires valid { IsValid (policy_of whole.now) }
     requires spells { Spells policy.now (policy_of whole.now) }
     ensures due { Answers (policy_of whole.now) source.now (AfterPolicy number source.now (policy_of whole.now)) result }

@@ -13,6 +13,7 @@ ghost use Rattle.cw_cli.specs.Weaving.{AfterPair, IsWeaveDue};
 
 use cw_commands::Outcome;
 use cw_core::NoMemory;
+use cw_core::limits::SOURCE_BYTES;
 use cw_io::Sink;
 use cw_policy::read_policy;
 use cw_rights::Policy;
@@ -44,7 +45,7 @@ pub(crate) fn weave<O: Sink>(
     source: &[u8],
     out: &mut O,
 ) -> Result<Verdict<O>, Stop>
-    requires short { length source.now ≤ 262144 }
+    requires short { length source.now ≤ SOURCE_BYTES }
     requires valid { IsValid (policy_of policy.now) }
     ensures due { let whole = policy_of policy.now in
         Decides whole source.now (λ numbers. WithSource (λ file. AfterPair (IsCounted numbers whole source.now file) source.now whole file) source.now whole)
@@ -65,7 +66,7 @@ fn woven<O: Sink>(
     source: &[u8],
     out: &mut O,
 ) -> Result<Text<O>, Stop>
-    requires short { length source.now ≤ 262144 }
+    requires short { length source.now ≤ SOURCE_BYTES }
     requires valid { IsValid (policy_of policy.now) }
     ensures due { let whole = policy_of policy.now in
         Answers whole source.now (WithSource (λ file. AfterPair (IsVerdict whole source.now file) source.now whole file) source.now whole) result }
@@ -84,7 +85,7 @@ pub fn weave_due<O: Sink, N: Sink>(
     out: &mut O,
     note: &mut N,
 ) -> Result<Outcome<O, N>, NoMemory>
-    requires short { length source.now ≤ 262144 }
+    requires short { length source.now ≤ SOURCE_BYTES }
     ensures due { IfOk result (λ outcome. IsWeaveDue policy.now source.now (due_of outcome)) }
     ensures puts { Starts O.taken O.faults O.refused out.old out.new result }
     ensures notes { StartsLine N.taken N.faults N.refused note.old note.new result }

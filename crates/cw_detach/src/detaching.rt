@@ -19,6 +19,7 @@ use crate::names::is_among;
 use crate::nesting::are_shallow;
 use crate::spans::{first_result, spans};
 use crate::tokens::taken;
+use cw_core::limits::SOURCE_BYTES;
 use cw_core::{NoMemory, Quantity, limits};
 use cw_resolve::Scene;
 use cw_rights::Policy;
@@ -130,7 +131,7 @@ fn text_fault(
     statements: &[Nested],
     form: &[u8],
 ) -> Result<Option<ProcFault>, NoMemory>
-    requires short { length checked.now.source.now ≤ 262144 }
+    requires short { length checked.now.source.now ≤ SOURCE_BYTES }
     requires reads { ReadsAs checked.now.source.now (file_of checked.now.program) }
     requires statements { map nested_of statements.now ≡ every_statement (file_of checked.now.program) }
     requires form { form.now ≡ form_of checked.now.source.now (lists detached.now) (file_of checked.now.program) }
@@ -147,11 +148,11 @@ fn text_fault(
 
 /// The form, where the rules behind those on names are kept.
 fn text(alloc: Global, checked: &Checked, detached: &[Vec<u8>]) -> Result<Vec<u8>, ProcFault>
-    requires short { length checked.now.source.now ≤ 262144 }
+    requires short { length checked.now.source.now ≤ SOURCE_BYTES }
     requires reads { ReadsAs checked.now.source.now (file_of checked.now.program) }
     ensures form { IfOk result (λ form. form.items ≡ form_of checked.now.source.now (lists detached.now) (file_of checked.now.program)) }
     ensures clear { IfOk result (λ _. IsTextFault checked.now.source.now (file_of checked.now.program) (lists detached.now) None) }
-    ensures few { IfOk result (λ form. length form.items ≤ 262144) }
+    ensures few { IfOk result (λ form. length form.items ≤ SOURCE_BYTES) }
     ensures shallow { IfOk result (λ _. is_shallow checked.now.source.now (file_of checked.now.program) (lists detached.now) ≡ true) }
     ensures fault { IfErr result (λ fault. (fault ≡ ProcFault.NoMemory) ⊎ IsTextFault checked.now.source.now (file_of checked.now.program) (lists detached.now) (Some fault)) }
 {
@@ -195,10 +196,10 @@ fn name_fault_under(
 /// Public source: fork(2), _exit(2); ISO/IEC 9899:2011, 6.8 and 6.9.
 pub fn detach(alloc: Global, checked: &Checked, policy: &Policy) -> Result<Vec<u8>, ProcFault>
     requires valid { IsValid (policy_of policy.now) }
-    requires short { length checked.now.source.now ≤ 262144 }
+    requires short { length checked.now.source.now ≤ SOURCE_BYTES }
     requires reads { ReadsAs checked.now.source.now (file_of checked.now.program) }
     ensures form { IfOk result (λ form. form.items ≡ form_of checked.now.source.now (policy_of policy.now).detached (file_of checked.now.program)) }
-    ensures few { IfOk result (λ form. length form.items ≤ 262144) }
+    ensures few { IfOk result (λ form. length form.items ≤ SOURCE_BYTES) }
     ensures shallow { IfOk result (λ _. is_shallow checked.now.source.now (file_of checked.now.program) (policy_of policy.now).detached ≡ true) }
     ensures clear { IfOk result (λ _. IsFirstFault checked.now.source.now (file_of checked.now.program) (policy_of policy.now) None) }
     ensures fault { IfErr result (IsDetachFault checked.now.source.now (file_of checked.now.program) (policy_of policy.now)) }

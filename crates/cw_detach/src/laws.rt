@@ -10,6 +10,8 @@ ghost use Rattle.cw_detach.specs.declared.faults.ProcFault.{ProcFault};
 ghost use Rattle.cw_detach.specs.Faults.{taken, IsFirstFault};
 ghost use Rattle.cw_detach.specs.Form.{form_of, kept_from, spans, AreApart};
 
+use cw_core::limits::SOURCE_BYTES;
+
 /// The calls for which a form has something else stand one behind the other in a source that is read, none within another. Without the two
 /// texts the form is the source, byte for byte, and with them it is 32 bytes longer a call.
 pub fn what_a_form_keeps()
@@ -28,6 +30,6 @@ pub fn what_a_form_keeps()
 pub fn without_detached_functions()
     ensures same { (source : List ℕ) (file : File) → form_of source [] file ≡ source }
     ensures taken { (source : List ℕ) (tokens : List Token) (file : File) (policy : PlainPolicy) (fault : Option ProcFault)
-        → ReadsAs source file → length source ≤ 262144 → policy.detached ≡ [] → AreTokens source tokens
+        → ReadsAs source file → length source ≤ SOURCE_BYTES → policy.detached ≡ [] → AreTokens source tokens
         → IsFirstFault source file policy fault → fault ≡ taken source tokens }
 {}

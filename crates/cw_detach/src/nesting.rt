@@ -8,6 +8,7 @@ ghost use Rattle.cw_resolve.specs.Held.{lists};
 
 use crate::spans::calls_one;
 use cw_core::limits;
+use cw_core::limits::NESTING;
 use cw_syntax::program::{Function, Stmt, What};
 
 /// Whether what stands in the form for a statement nests at most so deep.
@@ -52,7 +53,7 @@ fn are_within(source: &[u8], names: &[Vec<u8>], statements: &[Stmt], most: u32) 
 
 /// Whether what stands in the form for the bodies of these functions nests no deeper than a source may.
 pub(crate) fn are_shallow(source: &[u8], names: &[Vec<u8>], functions: &[Function]) -> bool
-    ensures { result ≡ list_all (λ f. nat_le (nesting_all source.now (lists names.now) f.body) 64) (map definition_of functions.now) }
+    ensures { result ≡ list_all (λ f. nat_le (nesting_all source.now (lists names.now) f.body) NESTING) (map definition_of functions.now) }
 {
     for function in functions {
         if !are_within(source, names, &function.body, limits::NESTING as u32) {

@@ -9,6 +9,7 @@ ghost use Rattle.cw_detach.specs.Faults.{is_taken, taken};
 
 use crate::faults::ProcFault;
 use cw_core::NoMemory;
+use cw_core::limits::SOURCE_BYTES;
 use cw_lex::{LexFault, Token, lex};
 use cw_syntax::checked::Checked;
 use cw_syntax::names::slice;
@@ -24,7 +25,7 @@ fn has_name(source: &[u8]) -> bool
 
 /// The tokens of a source that was read.
 fn tokens_of(alloc: Global, checked: &Checked) -> Result<Vec<Token>, NoMemory>
-    requires short { length checked.now.source.now ≤ 262144 }
+    requires short { length checked.now.source.now ≤ SOURCE_BYTES }
     requires reads { ReadsAs checked.now.source.now (file_of checked.now.program) }
     ensures { IfOk result (λ tokens. AreTokens checked.now.source.now tokens.items) }
 {
@@ -60,7 +61,7 @@ fn first_taken(source: &[u8], tokens: &[Token]) -> Option<ProcFault>
 
 /// The first token of a source that is a name which the form brings in. Most sources have no such name anywhere in their bytes, and aren't cut into tokens again.
 pub(crate) fn taken(alloc: Global, checked: &Checked) -> Result<Option<ProcFault>, NoMemory>
-    requires short { length checked.now.source.now ≤ 262144 }
+    requires short { length checked.now.source.now ≤ SOURCE_BYTES }
     requires reads { ReadsAs checked.now.source.now (file_of checked.now.program) }
     ensures { IfOk result (λ fault. (tokens : List TokenOf) × AreTokens checked.now.source.now tokens × (fault ≡ taken checked.now.source.now tokens)) }
 {

@@ -4,6 +4,8 @@ use Rattle.std.specs.Int.RustNames.{bit_and}
 use Rattle.std.specs.List.{Contains, filter_map}
 use Rattle.std.specs.List.Sorted.{IsStrictlySortedBy}
 use Rattle.std.specs.Ordering.{nat_cmp}
+use Rattle.cw_core.specs.Quantities.{limit_of}
+use Rattle.cw_core.specs.declared.quantity.Quantity.TheVariants.{PolicyStates}
 use Rattle.cw_rights.specs.Policies.{PlainRule}
 use Rattle.cw_rights.specs.declared.words.Letter.{Letter}
 use Rattle.cw_dfa.specs.Positions.{bad_of}
@@ -48,7 +50,7 @@ abbrev pub AreReached : List PlainRule → List ℕ → List ℕ → Type 0
 AreReached rules masks sets = (letters : List Letter) → AreMasks rules letters masks → Exactly (Reached rules letters) sets
 
 abbrev pub AreMany : List PlainRule → List ℕ → Type 0
-AreMany rules masks = (letters : List Letter) → AreMasks rules letters masks → HasMore (Reached rules letters) 64
+AreMany rules masks = (letters : List Letter) → AreMasks rules letters masks → HasMore (Reached rules letters) (limit_of PolicyStates)
 
 -- ---- Working definitions: what the program keeps of its search
 

@@ -1,6 +1,8 @@
 -- Working definitions: what may follow, whatever the letter is, and what reads a letter.
 use Rattle.std.specs.Prelude.{◌≡◌, ℕ, ◌+◌, ◌^◌, List, [], ◌∷◌, Bool, true, false, ◌&&◌, ◌||◌, cond, ◌<◌, slice_index, nat_eq, zero, suc, Option, Some, None}
 use Rattle.std.specs.Int.RustNames.{bit_or, bit_and}
+use Rattle.cw_core.specs.Quantities.{limit_of}
+use Rattle.cw_core.specs.declared.quantity.Quantity.TheVariants.{RulePositions}
 use Rattle.cw_rights.specs.declared.capabilities.Caps.{Caps}
 use Rattle.cw_rights.specs.declared.words.Letter.{Letter}
 use Rattle.cw_rights.specs.Words.{fits, label_fits, tests_hold}
@@ -60,7 +62,7 @@ followers (maybe r) k p = followers r k p
 
 -- a row gains, at each literal, those that follow it in the expression
 abbrev pub Gains : Tree → ℕ → List ℕ → List ℕ → Type 0
-Gains r k old new = (p : ℕ) → p < 64 → slice_index new p ≡ bit_or (slice_index old p) (followers r k p)
+Gains r k old new = (p : ℕ) → p < limit_of RulePositions → slice_index new p ≡ bit_or (slice_index old p) (followers r k p)
 
 -- the literals that a test of literals picks
 abbrev pub picked : (Literal → Bool) → Tree → ℕ → ℕ

@@ -8,6 +8,7 @@ ghost use Rattle.cw_dfa.specs.Positions.{bad_of};
 ghost use Rattle.cw_dfa.specs.Verdicts.{rules_of};
 
 use crate::tables::single;
+use cw_core::limits::RULE_POSITIONS;
 use cw_rights::{Caps, Letter, Lit, Regex, Rule, lit_matches};
 
 /// What is left of a budget after the literals of an expression, where they fit.
@@ -82,7 +83,7 @@ pub struct PickedLiterals {
 
 /// The set of a literal's own position `k` where it is sought, else the empty set.
 fn literal(lit: &Lit, k: u32, sought: Sought) -> u64
-    requires { k < 64 }
+    requires { k < RULE_POSITIONS }
     ensures { result ≡ cond (picks sought (literal_of lit.now)) (2 ^ k) 0 }
 {
     if picks(lit, sought) { single(k) } else { 0 }
@@ -93,7 +94,7 @@ fn literal(lit: &Lit, k: u32, sought: Sought) -> u64
 #[cycle(picked)]
 #[tactic(auto, using(cw_rights::proofs::Rows::cat_of, crate::proofs::Rows::or_picked, crate::proofs::Rows::or_count))]
 pub fn picked(r: &Regex, k: u32, sought: Sought) -> PickedLiterals
-    requires { k + count (tree_of r.now) ≤ 64 }
+    requires { k + count (tree_of r.now) ≤ RULE_POSITIONS }
     ensures next { result.next ≡ k + count (tree_of r.now) }
     ensures set { result.set ≡ picked (picks sought) (tree_of r.now) k }
 {
@@ -110,7 +111,7 @@ pub fn picked(r: &Regex, k: u32, sought: Sought) -> PickedLiterals
 /// The same for parts that stand one after the other.
 #[cycle(picked)]
 fn picked_row(parts: &[Regex], k: u32, sought: Sought) -> PickedLiterals
-    requires { k + count (seq_of parts.now) ≤ 64 }
+    requires { k + count (seq_of parts.now) ≤ RULE_POSITIONS }
     ensures next { result.next ≡ k + count (seq_of parts.now) }
     ensures set { result.set ≡ picked (picks sought) (seq_of parts.now) k }
 {
@@ -126,7 +127,7 @@ fn picked_row(parts: &[Regex], k: u32, sought: Sought) -> PickedLiterals
 
 /// The literals of all rules, numbered from 1, that are as sought.
 pub fn picked_rules(rules: &[Rule], sought: Sought) -> u64
-    requires { count (bad_of (rules_of rules.now)) < 64 }
+    requires { count (bad_of (rules_of rules.now)) < RULE_POSITIONS }
     ensures { result ≡ picked (picks sought) (bad_of (rules_of rules.now)) 1 }
 {
     let mut next = 1;

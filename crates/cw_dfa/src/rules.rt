@@ -10,6 +10,7 @@ ghost use Rattle.cw_dfa.specs.Verdicts.{rules_of, IsVerdict, verdict, next_of, w
 
 use crate::matching::{Sought, picked_rules, spare_rules};
 use crate::tables::{Tables, first_met, following, make_tables};
+use cw_core::limits::{RULE_POSITIONS, RULES};
 use cw_rights::{Caps, Letter, Rule};
 use std::marker::Model;
 use thiserror::Error;
@@ -56,10 +57,10 @@ impl<'r> Rules<'r> {
     /// calls here and in `step` go as deep as the expressions do; in a valid policy at most 64 parts that need
     /// parentheses stand each within the one before.
     pub fn make(rules: &'r [Rule]) -> Result<Rules<'r>, DfaFault>
-        requires { length rules.now ≤ 32 }
+        requires { length rules.now ≤ RULES }
         ensures kept { IfOk result (λ r. r ≡ rules.now) }
-        ensures few { IfOk result (λ _. count (bad_of (rules_of rules.now)) + 1 ≤ 64) }
-        ensures many { IfErr result (λ _. 64 < count (bad_of (rules_of rules.now)) + 1) }
+        ensures few { IfOk result (λ _. count (bad_of (rules_of rules.now)) + 1 ≤ RULE_POSITIONS) }
+        ensures many { IfErr result (λ _. RULE_POSITIONS < count (bad_of (rules_of rules.now)) + 1) }
         ensures fault { IfErr result (λ e. e ≡ DfaFault.TooManyPositions) }
     {
         match spare_rules(rules, 63) {

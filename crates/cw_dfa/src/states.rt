@@ -86,7 +86,7 @@ fn put_some(keys: &mut Vec<u64>, next: Option<u64>) -> Result<(), AllocError>
 // The policy states in order, where they are at most 64.
 fn reach(alloc: Global, rules: &Rules, masks: &[u64]) -> Result<Option<Vec<u64>>, AllocError>
     ensures some { IfOk result (λ keys. IfSome keys (λ v. AreReached (rules_of rules.now) masks.now v.items)) }
-    ensures few { IfOk result (λ keys. IfSome keys (λ v. length v.items ≤ 64)) }
+    ensures few { IfOk result (λ keys. IfSome keys (λ v. length v.items ≤ POLICY_STATES)) }
     ensures none { IfOk result (λ keys. IfNone keys (AreMany (rules_of rules.now) masks.now)) }
 {
     let following = Following { rules, masks };
@@ -98,7 +98,7 @@ fn reach(alloc: Global, rules: &Rules, masks: &[u64]) -> Result<Option<Vec<u64>>
 /// letters, through sets without violation, ascending as numbers. The masks may stand in any order, each once or more.
 pub fn states_by_masks(alloc: Global, rules: &Rules, masks: &[u64]) -> Result<Vec<u64>, DfaFault>
     ensures states { IfOk result (λ v. AreReached (rules_of rules.now) masks.now v.items) }
-    ensures few { IfOk result (λ v. length v.items ≤ 64) }
+    ensures few { IfOk result (λ v. length v.items ≤ POLICY_STATES) }
     ensures many { result ≡ Err DfaFault.TooManyStates → AreMany (rules_of rules.now) masks.now }
     ensures positions { result ≡ Err DfaFault.TooManyPositions → ⊥ }
 {
@@ -113,8 +113,8 @@ pub fn states_by_masks(alloc: Global, rules: &Rules, masks: &[u64]) -> Result<Ve
 /// violation, ascending as numbers.
 pub fn all_states(alloc: Global, rules: &Rules, letters: &[Letter]) -> Result<Vec<u64>, DfaFault>
     ensures states { IfOk result (λ v. Exactly (Reached (rules_of rules.now) letters.now) v.items) }
-    ensures few { IfOk result (λ v. length v.items ≤ 64) }
-    ensures many { result ≡ Err DfaFault.TooManyStates → HasMore (Reached (rules_of rules.now) letters.now) 64 }
+    ensures few { IfOk result (λ v. length v.items ≤ POLICY_STATES) }
+    ensures many { result ≡ Err DfaFault.TooManyStates → HasMore (Reached (rules_of rules.now) letters.now) POLICY_STATES }
     ensures positions { result ≡ Err DfaFault.TooManyPositions → ⊥ }
 {
     match masks(alloc, rules, letters) {

@@ -9,6 +9,7 @@ ghost use Rattle.cw_dfa.specs.Parts.{IsPart, IsTables};
 ghost use Rattle.cw_dfa.specs.Positions.{bad_of};
 ghost use Rattle.cw_dfa.specs.Verdicts.{rules_of};
 
+use cw_core::limits::{RULE_POSITIONS, RULES};
 use cw_rights::{Regex, Rule};
 
 /// Of an expression whose literals are numbered: the number after its last, whether it matches the empty word, and
@@ -47,18 +48,18 @@ fn only_if(wanted: bool, set: u64) -> u64
 
 /// Lets each position of `to` follow each position of `from`.
 fn link(follow: &mut [u64], from: u64, to: u64)
-    requires { length follow.old ≡ 64 }
-    ensures { (p : ℕ) → p < 64 →
+    requires { length follow.old ≡ RULE_POSITIONS }
+    ensures { (p : ℕ) → p < RULE_POSITIONS →
         slice_index follow.new p ≡ bit_or (slice_index follow.old p) (linked from to p) }
 {
-    for p in 0..64 {
+    for p in 0..RULE_POSITIONS {
         follow[p] |= only_if(has(from, p as u32), to);
     }
 }
 
 /// A literal at position `k`: it is the first, the last, and not skipped.
 fn literal(k: u32) -> Part
-    requires { k < 64 }
+    requires { k < RULE_POSITIONS }
     ensures next { result.next ≡ k + 1 }
     ensures skips { result.skips ≡ false }
     ensures first { result.first ≡ 2 ^ k }
@@ -107,8 +108,8 @@ fn alternative(p: Part, q: Part) -> Part
 #[cycle(part)]
 #[tactic(auto, using(cw_rights::proofs::Rows::cat_of, cw_rights::proofs::Rows::or_of))]
 pub fn add_part(r: &Regex, k: u32, follow: &mut [u64]) -> Part
-    requires room { k + count (tree_of r.now) ≤ 64 }
-    requires rows { length follow.old ≡ 64 }
+    requires room { k + count (tree_of r.now) ≤ RULE_POSITIONS }
+    requires rows { length follow.old ≡ RULE_POSITIONS }
     ensures is { IsPart (tree_of r.now) k result }
     ensures gains { Gains (tree_of r.now) k follow.old follow.new }
 {
@@ -136,8 +137,8 @@ pub fn add_part(r: &Regex, k: u32, follow: &mut [u64]) -> Part
 /// Parts one after the other, the first literal at position `k`; what may follow what is added to `follow`.
 #[cycle(part)]
 fn sequence_of(parts: &[Regex], k: u32, follow: &mut [u64]) -> Part
-    requires room { k + count (seq_of parts.now) ≤ 64 }
-    requires rows { length follow.old ≡ 64 }
+    requires room { k + count (seq_of parts.now) ≤ RULE_POSITIONS }
+    requires rows { length follow.old ≡ RULE_POSITIONS }
     ensures is { IsPart (seq_of parts.now) k result }
     ensures gains { Gains (seq_of parts.now) k follow.old follow.new }
 {
@@ -160,8 +161,8 @@ fn sequence_of(parts: &[Regex], k: u32, follow: &mut [u64]) -> Part
 /// Parts of which one is taken, the first literal at position `k`; what may follow what is added to `follow`.
 #[cycle(part)]
 fn alternative_of(parts: &[Regex], k: u32, follow: &mut [u64]) -> Part
-    requires room { k + count (alt_of parts.now) ≤ 64 }
-    requires rows { length follow.old ≡ 64 }
+    requires room { k + count (alt_of parts.now) ≤ RULE_POSITIONS }
+    requires rows { length follow.old ≡ RULE_POSITIONS }
     ensures is { IsPart (alt_of parts.now) k result }
     ensures gains { Gains (alt_of parts.now) k follow.old follow.new }
 {
@@ -185,18 +186,18 @@ fn alternative_of(parts: &[Regex], k: u32, follow: &mut [u64]) -> Part
 #[derive(Drop)]
 pub struct Tables {
     pub first: u64,
-    pub follow: [u64; 64],
-    pub last: [u64; 32],
+    pub follow: [u64; RULE_POSITIONS],
+    pub last: [u64; RULES],
 }
 
 /// Makes the tables.
 pub fn make_tables(rules: &[Rule]) -> Tables
-    requires room { count (bad_of (rules_of rules.now)) < 64 }
-    requires few { length rules.now ≤ 32 }
+    requires room { count (bad_of (rules_of rules.now)) < RULE_POSITIONS }
+    requires few { length rules.now ≤ RULES }
     ensures { IsTables (rules_of rules.now) result }
 {
-    let mut follow = [0; 64];
-    let mut last = [0; 32];
+    let mut follow = [0; RULE_POSITIONS];
+    let mut last = [0; RULES];
     let mut first = 0;
     let mut at = 1;
     for (i, rule) in rules.iter().enumerate() {
@@ -217,7 +218,7 @@ pub fn following(tables: &Tables, set: u64) -> u64
     ensures { result ≡ bit_or (cond (has set 0) tables.now.first 0) (unite (slice_index tables.now.follow) 64 set) }
 {
     let mut next = only_if(has(set, 0), tables.first);
-    for p in 0..64 {
+    for p in 0..RULE_POSITIONS {
         next |= only_if(has(set, p as u32), tables.follow[p]);
     }
     next
@@ -225,7 +226,7 @@ pub fn following(tables: &Tables, set: u64) -> u64
 
 /// The number of the first row that has a member of the set.
 pub fn first_met(last: &[u64], set: u64) -> Option<u8>
-    requires { length last.now ≤ 32 }
+    requires { length last.now ≤ RULES }
     ensures { result ≡ first_met last.now 0 set }
 {
     for (i, row) in last.iter().enumerate() {

@@ -153,7 +153,7 @@ fn by_rule_at<'t>(
     rule: Rule,
     tokens: &'t [Lexeme],
 ) -> Result<Found<'t>, Refusal>
-    requires deep { depth < 64 }
+    requires deep { depth < NESTING }
     requires rule { IsInRange rule }
     ensures gives { Gives got result (by_rule (read_at depth) depth rule tokens.now) }
     ensures fits { IfOk result (λ x. x.depth ≤ depth + 1) }
@@ -174,7 +174,7 @@ fn level_called<'t>(
     level: u32,
     tokens: &'t [Lexeme],
 ) -> Result<Found<'t>, Refusal>
-    requires deep { depth < 64 }
+    requires deep { depth < NESTING }
     requires level { level ≤ 10 }
     ensures gives { Gives got result (chain (read_at depth) depth level tokens.now) }
     ensures fits { IfOk result (λ x. x.depth ≤ depth + 1) }
@@ -185,7 +185,7 @@ fn level_called<'t>(
 /// `unary_at` by a call.
 #[cycle(parser)]
 fn unary_called<'t>(alloc: Global, depth: u32, tokens: &'t [Lexeme]) -> Result<Found<'t>, Refusal>
-    requires deep { depth < 64 }
+    requires deep { depth < NESTING }
     ensures gives { Gives got result (unary (read_at depth) depth tokens.now) }
     ensures fits { IfOk result (λ x. x.depth ≤ depth + 1) }
 {
@@ -195,7 +195,7 @@ fn unary_called<'t>(alloc: Global, depth: u32, tokens: &'t [Lexeme]) -> Result<F
 /// `postfix_at` by a call.
 #[cycle(parser)]
 fn postfix_called<'t>(alloc: Global, depth: u32, tokens: &'t [Lexeme]) -> Result<Found<'t>, Refusal>
-    requires deep { depth < 64 }
+    requires deep { depth < NESTING }
     ensures gives { Gives got result (postfix (read_at depth) depth tokens.now) }
     ensures fits { IfOk result (λ x. x.depth ≤ depth + 1) }
 {
@@ -206,7 +206,7 @@ fn postfix_called<'t>(alloc: Global, depth: u32, tokens: &'t [Lexeme]) -> Result
 #[cycle(parser)]
 #[tactic(auto, unfolding(crate::specs::Reading::expression, cw_grammar::specs::Expressions::loosest))]
 fn expression_at<'t>(alloc: Global, depth: u32, tokens: &'t [Lexeme]) -> Result<Found<'t>, Refusal>
-    requires deep { depth < 64 }
+    requires deep { depth < NESTING }
     ensures gives { Gives got result (expression (read_at depth) depth tokens.now) }
     ensures fits { IfOk result (λ x. x.depth ≤ depth + 1) }
 {
@@ -233,7 +233,7 @@ fn assigned_at<'t>(
     number: u8,
     target: Found<'t>,
 ) -> Result<Found<'t>, Refusal>
-    requires deep { depth < 64 }
+    requires deep { depth < NESTING }
     requires target { target.depth ≤ depth + 1 }
     ensures gives { Gives got result (assigned (read_at depth) depth number (got target.entry)) }
     ensures fits { IfOk result (λ x. x.depth ≤ depth + 1) }
@@ -254,7 +254,7 @@ fn level_at<'t>(
     level: u32,
     tokens: &'t [Lexeme],
 ) -> Result<Found<'t>, Refusal>
-    requires deep { depth < 64 }
+    requires deep { depth < NESTING }
     requires level { level ≤ 10 }
     ensures gives { Gives got result (chain (read_at depth) depth level tokens.now) }
     ensures fits { IfOk result (λ x. x.depth ≤ depth + 1) }
@@ -278,7 +278,7 @@ fn joined_at<'t>(
     below: u32,
     first: Found<'t>,
 ) -> Result<Found<'t>, Refusal>
-    requires deep { depth < 64 }
+    requires deep { depth < NESTING }
     requires level { below < 10 }
     requires first { first.depth ≤ depth + 1 }
     ensures gives { Gives got result (joined (read_at depth) depth below (got first.entry)) }
@@ -299,7 +299,7 @@ fn joined_at<'t>(
 #[cycle(parser)]
 #[tactic(auto, unfolding(crate::specs::Reading::operand))]
 fn operand_at<'t>(alloc: Global, depth: u32, tokens: &'t [Lexeme]) -> Result<Found<'t>, Refusal>
-    requires deep { depth < 64 }
+    requires deep { depth < NESTING }
     ensures gives { Gives got result (operand (read_at depth) depth tokens.now) }
     ensures fits { IfOk result (λ x. x.depth ≤ depth + 1) }
 {
@@ -317,7 +317,7 @@ fn operand_at<'t>(alloc: Global, depth: u32, tokens: &'t [Lexeme]) -> Result<Fou
 #[cycle(parser)]
 #[tactic(auto, unfolding(crate::specs::Reading::cast))]
 fn cast_at<'t>(alloc: Global, depth: u32, tokens: &'t [Lexeme]) -> Result<Found<'t>, Refusal>
-    requires deep { depth < 64 }
+    requires deep { depth < NESTING }
     ensures gives { Gives got result (cast (read_at depth) depth tokens.now) }
     ensures fits { IfOk result (λ x. x.depth ≤ depth + 1) }
 {
@@ -331,7 +331,7 @@ fn cast_at<'t>(alloc: Global, depth: u32, tokens: &'t [Lexeme]) -> Result<Found<
 #[cycle(parser)]
 #[tactic(auto, unfolding(crate::specs::Reading::unary))]
 fn unary_at<'t>(alloc: Global, depth: u32, tokens: &'t [Lexeme]) -> Result<Found<'t>, Refusal>
-    requires deep { depth < 64 }
+    requires deep { depth < NESTING }
     ensures gives { Gives got result (unary (read_at depth) depth tokens.now) }
     ensures fits { IfOk result (λ x. x.depth ≤ depth + 1) }
 {
@@ -364,7 +364,7 @@ fn prefixed_at<'t>(
     prefix: Lexeme,
     tokens: &'t [Lexeme],
 ) -> Result<Found<'t>, Refusal>
-    requires deep { depth < 64 }
+    requires deep { depth < NESTING }
     requires rule { IsInRange rule }
     ensures gives { Gives got result (prefixed (read_at depth) depth number rule prefix tokens.now) }
     ensures fits { IfOk result (λ x. x.depth ≤ depth + 1) }
@@ -382,7 +382,7 @@ fn size_of_at<'t>(
     keyword: Lexeme,
     tokens: &'t [Lexeme],
 ) -> Result<Found<'t>, Refusal>
-    requires deep { depth < 64 }
+    requires deep { depth < NESTING }
     ensures gives { Gives got result (size_of (read_at depth) depth keyword tokens.now) }
     ensures fits { IfOk result (λ x. x.depth ≤ depth + 1) }
 {
@@ -399,7 +399,7 @@ fn size_of_at<'t>(
 #[cycle(parser)]
 #[tactic(auto, unfolding(crate::specs::Reading::postfix))]
 fn postfix_at<'t>(alloc: Global, depth: u32, tokens: &'t [Lexeme]) -> Result<Found<'t>, Refusal>
-    requires deep { depth < 64 }
+    requires deep { depth < NESTING }
     ensures gives { Gives got result (postfix (read_at depth) depth tokens.now) }
     ensures fits { IfOk result (λ x. x.depth ≤ depth + 1) }
 {
@@ -411,7 +411,7 @@ fn postfix_at<'t>(alloc: Global, depth: u32, tokens: &'t [Lexeme]) -> Result<Fou
 #[inline(always)]
 #[cycle(parser)]
 fn suffixed_all<'t>(alloc: Global, depth: u32, first: Found<'t>) -> Result<Found<'t>, Refusal>
-    requires deep { depth < 64 }
+    requires deep { depth < NESTING }
     requires first { first.depth ≤ depth + 1 }
     ensures gives { Gives got result (repeat rest_of is_suffixed (suffixed (read_at depth) depth) (suc (length first.entry.rest.now)) (got first.entry)) }
     ensures fits { IfOk result (λ x. x.depth ≤ depth + 1) }
@@ -428,7 +428,7 @@ fn suffixed_all<'t>(alloc: Global, depth: u32, first: Found<'t>) -> Result<Found
 #[cycle(parser)]
 #[tactic(auto, unfolding(crate::specs::Reading::suffixed))]
 fn suffixed_at<'t>(alloc: Global, depth: u32, first: Found<'t>) -> Result<Found<'t>, Refusal>
-    requires deep { depth < 64 }
+    requires deep { depth < NESTING }
     requires first { first.depth ≤ depth + 1 }
     ensures gives { Gives got result (suffixed (read_at depth) depth (got first.entry)) }
     ensures fits { IfOk result (λ x. x.depth ≤ depth + 1) }
@@ -465,7 +465,7 @@ fn suffixed_at<'t>(alloc: Global, depth: u32, first: Found<'t>) -> Result<Found<
 #[cycle(parser)]
 #[tactic(auto, unfolding(crate::specs::Reading::primary))]
 fn primary_at<'t>(alloc: Global, depth: u32, tokens: &'t [Lexeme]) -> Result<Found<'t>, Refusal>
-    requires deep { depth < 64 }
+    requires deep { depth < NESTING }
     ensures gives { Gives got result (primary (read_at depth) depth tokens.now) }
     ensures fits { IfOk result (λ x. x.depth ≤ depth + 1) }
 {
@@ -501,7 +501,7 @@ fn between_at<'t>(
     before: Lexeme,
     tokens: &'t [Lexeme],
 ) -> Result<Found<'t>, Refusal>
-    requires deep { depth < 64 }
+    requires deep { depth < NESTING }
     ensures gives { Gives got result (between (read_at depth) depth before tokens.now) }
     ensures fits { IfOk result (λ x. x.depth ≤ depth + 1) }
 {
@@ -527,7 +527,7 @@ fn named_at<'t>(
     name: Lexeme,
     tokens: &'t [Lexeme],
 ) -> Result<Found<'t>, Refusal>
-    requires deep { depth < 64 }
+    requires deep { depth < NESTING }
     ensures gives { Gives got result (named (read_at depth) depth name tokens.now) }
     ensures fits { IfOk result (λ x. x.depth ≤ depth + 1) }
 {
@@ -551,7 +551,7 @@ fn arguments_at<'t>(
     depth: u32,
     tokens: &'t [Lexeme],
 ) -> Result<FoundList<'t>, Refusal>
-    requires deep { depth < 64 }
+    requires deep { depth < NESTING }
     ensures gives { Gives got_arguments result (arguments (read_at depth) depth tokens.now) }
     ensures fits { IfOk result (λ x. x.depth ≤ depth) }
 {
@@ -579,7 +579,7 @@ fn arguments_all<'t>(
     depth: u32,
     first: FoundList<'t>,
 ) -> Result<FoundList<'t>, Refusal>
-    requires deep { depth < 64 }
+    requires deep { depth < NESTING }
     requires first { first.depth ≤ depth }
     ensures gives { Gives got_arguments result (repeat rest_of_arguments (begins Comma) (argument (read_at depth) depth) (suc (length first.entry.rest.now)) (got_arguments first.entry)) }
     ensures fits { IfOk result (λ x. x.depth ≤ depth) }
@@ -600,7 +600,7 @@ fn argument_at<'t>(
     depth: u32,
     before: FoundList<'t>,
 ) -> Result<FoundList<'t>, Refusal>
-    requires deep { depth < 64 }
+    requires deep { depth < NESTING }
     requires before { before.depth ≤ depth }
     ensures gives { Gives got_arguments result (argument (read_at depth) depth (got_arguments before.entry)) }
     ensures fits { IfOk result (λ x. x.depth ≤ depth) }

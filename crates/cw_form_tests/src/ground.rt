@@ -4,6 +4,7 @@ ghost use Rattle.std.specs.Prelude.{◌≤◌, length};
 ghost use Rattle.cw_rights.specs.Policies.{policy_of};
 ghost use Rattle.cw_rights.specs.Valid.{IsValid};
 
+use cw_core::limits::SOURCE_BYTES;
 use cw_detach::detach;
 use cw_policy::read_policy;
 use cw_rights::Policy;
@@ -37,7 +38,7 @@ fn spelled(rt: &impl Abort, alloc: Global, text: &str) -> Vec<u8> {
 /// The form of a source under a policy that is read, or why there is none.
 fn under(rt: &impl Abort, alloc: Global, policy: &Policy, source: &[u8]) -> Vec<u8>
     requires valid { IsValid (policy_of policy.now) }
-    requires short { length source.now ≤ 262144 }
+    requires short { length source.now ≤ SOURCE_BYTES }
 {
     let Ok(checked) = read_source(alloc, source) else {
         panic!(rt; "a source that isn't read");

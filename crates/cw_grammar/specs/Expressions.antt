@@ -1,6 +1,8 @@
 -- Expressions, by recursion on the nesting: each definition is a rule of the grammar. P says what the parts are.
 -- Public source: ISO/IEC 9899:2011, 6.5 (expressions; each level groups to the left), 6.4.5 (adjacent strings are one).
 use Rattle.std.specs.Prelude.{◌≡◌, ℕ, zero, suc, ◌⊎◌, Some, List, [], ◌∷◌, ◌++◌}
+use Rattle.cw_core.specs.Quantities.{limit_of}
+use Rattle.cw_core.specs.declared.quantity.Quantity.TheVariants.{Nesting}
 use Rattle.cw_syntax.specs.declared.program.CType.{CType}
 use Rattle.cw_syntax.specs.declared.program.Op.{Op}
 use Rattle.cw_syntax.specs.declared.program.Op.TheVariants as op
@@ -19,7 +21,7 @@ loosest = 10
 
 -- the greatest nesting that is allowed, of expressions and of statements
 unfoldable pub nesting_limit : ℕ
-nesting_limit = 64
+nesting_limit = limit_of Nesting
 
 abbrev pub Derives : Type 1
 Derives = Rule → List Lexeme → Tree → Type 0

@@ -1,6 +1,8 @@
 -- Working definitions: the rows of keys, as functions of the game and the memories.
 use Rattle.std.specs.Prelude.{ℕ, ◌≤◌, List, Bool, cond, Option, Some, None, option_map, nat_eq, length}
 use Rattle.std.specs.List.Sorted.{IsStrictlySortedBy}
+use Rattle.cw_core.specs.Quantities.{limit_of}
+use Rattle.cw_core.specs.declared.quantity.Quantity.TheVariants.{Rows}
 use Rattle.cw_core.specs.declared.ids.StateId.{StateId}
 use Rattle.cw_core.specs.declared.ids.MemId.{MemId}
 use Rattle.cw_core.specs.declared.ids.PosId.{PosId}
@@ -27,7 +29,7 @@ Memories = List (StateId × ℕ)
 -- memories in order, and not too many
 pub record AreMemories (ms : Memories) : Type 0 where
   pub order : IsStrictlySortedBy mem_cmp ms
-  pub few : length ms ≤ 65536
+  pub few : length ms ≤ limit_of Rows
 
 -- the index of a state and a promise among the memories, and how many they are where it is none of them
 abbrev pub number : Memories → (q e : ℕ) → ℕ

@@ -1,5 +1,7 @@
 -- Working definitions: what is live in a game, and its memories.
 use Rattle.std.specs.Prelude.{◌≤◌, List, length}
+use Rattle.cw_core.specs.Quantities.{limit_of}
+use Rattle.cw_core.specs.declared.quantity.Quantity.TheVariants.{Rows}
 use Rattle.cw_certs.specs.Ascending.{mem_cmp}
 use Rattle.cw_fixpoint.specs.Closures.{Exactly}
 use Rattle.cw_game.specs.Games.{Game}
@@ -18,7 +20,7 @@ pub record AreLive (h : HeldGame) (keys : List Key) : Type 0 where
   pub begins : CanBegin (game_of h) (length h.graph.parts.items)
   pub low : HeightsAreLow (game_of h)
   pub are : Exactly key_cmp (IsMember (choices (game_of h)) (start_of (game_of h))) keys
-  pub few : length keys ≤ 65536
+  pub few : length keys ≤ limit_of Rows
 
 -- all its pairs of a call and an exit
 pub record AreReturns (h : HeldGame) (pairs : List (Key × Key)) : Type 0 where
@@ -29,4 +31,4 @@ pub record AreReturns (h : HeldGame) (pairs : List (Key × Key)) : Type 0 where
 -- all its memories
 pub record AreAllMemories (g : Game) (ms : Memories) : Type 0 where
   pub are : Exactly mem_cmp (IsMemory g) ms
-  pub few : length ms ≤ 65536
+  pub few : length ms ≤ limit_of Rows

@@ -15,6 +15,7 @@ use crate::choice::{is_lost, promised};
 use crate::key::Key;
 use crate::promises::promise_number;
 use cw_certs::Move;
+use cw_core::limits::POSITIONS_TIMES_STATES;
 use cw_core::{PosId, StateId, StateSet};
 use cw_fixpoint::Joins;
 use cw_product::{Game, Turn};
@@ -100,7 +101,7 @@ fn put_going_on(
 /// The key after a visit: that of the skip, or that of the try where the skip is lost.
 fn chosen(game: &Game, solved: &Solved, promises: &[StateSet], key: &Key) -> Key
     requires ready { IsReady game.now solved.now }
-    requires short { key.now.pos + 2 ≤ 1048576 }
+    requires short { key.now.pos + 2 ≤ POSITIONS_TIMES_STATES }
     requires within { key.now.promise < length promises.now }
     requires there { IsUnder (game_of game.now) (key.now.pos + 2) (slice_index promises.now key.now.promise) }
     requires state { IsState (game_of game.now) key.now.state }

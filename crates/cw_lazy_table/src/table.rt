@@ -199,7 +199,7 @@ fn table_of(
 
 /// Whether a table has more than 65,536 rows in all its lists.
 fn is_long(table: &WeaverCert) -> bool
-    ensures { result ≡ nat_lt 65536 (table_rows table.now) }
+    ensures { result ≡ nat_lt ROWS (table_rows table.now) }
 {
     let rows = table.mems().len();
     let rows = rows.saturating_add(table.live().len());
@@ -220,8 +220,8 @@ fn table_within(
 ) -> Result<Option<WeaverCert>, AllocError>
     requires ready { IsReady game.now solved.now }
     ensures lazy { IfOk result (λ o. IfSome o (λ t. IsLazyTable (game_of game.now) t)) }
-    ensures few { IfOk result (λ o. IfSome o (λ t. table_rows t ≤ 65536)) }
-    ensures many { IfOk result (λ o. IfNone o ((t : Table) → IsLazyTable (game_of game.now) t → 65536 < table_rows t)) }
+    ensures few { IfOk result (λ o. IfSome o (λ t. table_rows t ≤ ROWS)) }
+    ensures many { IfOk result (λ o. IfNone o ((t : Table) → IsLazyTable (game_of game.now) t → ROWS < table_rows t)) }
 {
     let found = promises_of(alloc, game, solved)?;
     let promises = found.as_slice();
@@ -267,9 +267,9 @@ pub fn weaver_table(alloc: Global, game: &Game, solved: &Solved) -> Result<Weave
     ensures ascends { IfOk result (λ t. Ascends t) }
     ensures good { IfOk result (λ t. IsGoodTable (game_of game.now) t) }
     ensures lost { IfOk result (λ t. TriesOnlyLost (game_of game.now) t) }
-    ensures few { IfOk result (λ t. table_rows t ≤ 65536) }
-    ensures many { IfErr result (λ fault. fault ≡ TableFault.TooManyRows → (t : Table) → IsLazyTable (game_of game.now) t → 65536 < table_rows t) }
-    ensures there { IfErr result (λ fault. fault ≡ TableFault.TooManyRows → (t : Table) × IsLazyTable (game_of game.now) t × (65536 < table_rows t)) }
+    ensures few { IfOk result (λ t. table_rows t ≤ ROWS) }
+    ensures many { IfErr result (λ fault. fault ≡ TableFault.TooManyRows → (t : Table) → IsLazyTable (game_of game.now) t → ROWS < table_rows t) }
+    ensures there { IfErr result (λ fault. fault ≡ TableFault.TooManyRows → (t : Table) × IsLazyTable (game_of game.now) t × (ROWS < table_rows t)) }
 {
     solved.fact_contexts_are_needed();
     solved.fact_heights_are_low();

@@ -1,5 +1,7 @@
 -- Working definitions: a strategy in two lists, of the keys with the numbers of their aims and of what is done at each.
 use Rattle.std.specs.Prelude.{◌≡◌, ℕ, ◌+◌, ◌<◌, ◌≤◌, List, [], ◌∷◌, Contains, map, length, slice_index, sum_by}
+use Rattle.cw_core.specs.Quantities.{limit_of}
+use Rattle.cw_core.specs.declared.quantity.Quantity.TheVariants.{Rows}
 use Rattle.cw_certs.specs.declared.strategy.How.{How as HowData}
 use Rattle.cw_certs.specs.Strategies.{How, Row, Strategy, how_of}
 use Rattle.cw_fixpoint.specs.Closures.{Reached, Exactly}
@@ -35,4 +37,4 @@ pub record AreParts (g : Game) (aims : List ℕ) (start : Key) (keys : List Smal
   pub ranked : AreRanked aims keys
   pub exactly : Exactly key_cmp (Reached (named g) (start ∷ [])) (wholes aims keys)
   pub done : map how_of hows ≡ map (how_in g aims keys) keys
-  pub few : length keys + sum_by (backs_for g aims keys) keys ≤ 65536
+  pub few : length keys + sum_by (backs_for g aims keys) keys ≤ limit_of Rows

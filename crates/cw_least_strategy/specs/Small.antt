@@ -4,6 +4,8 @@ use Rattle.std.specs.Prelude.{ℕ, ◌<◌, ◌≤◌, List, [], ◌∷◌, Cont
 use Rattle.std.specs.List.Sorted.{IsStrictlySortedBy}
 use Rattle.std.specs.declared.cmp.Ordering.{Ordering}
 use Rattle.std.specs.Ordering.{ordering_then, nat_cmp}
+use Rattle.cw_core.specs.Quantities.{limit_of}
+use Rattle.cw_core.specs.declared.quantity.Quantity.TheVariants.{Rows}
 use Rattle.cw_certs.specs.Strategies.{Row}
 use Rattle.cw_core.specs.declared.ids.StateId.{StateId}
 use Rattle.cw_fixpoint.specs.Closures.{Reached, then}
@@ -60,7 +62,7 @@ pub record AreRanked (aims : List ℕ) (keys : List SmallKey) : Type 0 where
   pub ascend : Ascend aims
   pub within : (k : SmallKey) → Contains keys k → k.aim < length aims
   pub order : IsStrictlySortedBy small_cmp keys
-  pub few : length keys ≤ 65536
+  pub few : length keys ≤ limit_of Rows
 
 -- the keys that small ones stand for, the row of one, and how many backs that has
 abbrev pub wholes : List ℕ → List SmallKey → List Key

@@ -114,8 +114,8 @@ pub(crate) fn hows_within(
     requires keys { (k : SmallKey) → Contains keys.now k → IsKey (game_of solved.now.game) (length solved.now.game.graph.parts.items) (whole aims.now k) }
     requires ranked { AreRanked aims.now keys.now }
     ensures hows { IfOk result (λ o. IfSome o (λ v. map how_of v.items ≡ map (how_in (game_of solved.now.game) aims.now keys.now) keys.now)) }
-    ensures few { IfOk result (λ o. IfSome o (λ _. length keys.now + sum_by (backs_for (game_of solved.now.game) aims.now keys.now) keys.now ≤ 65536)) }
-    ensures many { IfOk result (λ o. IfNone o (65536 < length keys.now + sum_by (backs_for (game_of solved.now.game) aims.now keys.now) keys.now)) }
+    ensures few { IfOk result (λ o. IfSome o (λ _. length keys.now + sum_by (backs_for (game_of solved.now.game) aims.now keys.now) keys.now ≤ ROWS)) }
+    ensures many { IfOk result (λ o. IfNone o (ROWS < length keys.now + sum_by (backs_for (game_of solved.now.game) aims.now keys.now) keys.now)) }
 {
     let mut hows = Vec::with_capacity(alloc, keys.len())?;
     let mut left = ROWS - keys.len();

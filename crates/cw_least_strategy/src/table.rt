@@ -68,7 +68,7 @@ fn parts_within(
     requires aims { AreAims solved.now aims.now }
     requires start { IsStartKey (game_of solved.now.game) start.now }
     ensures parts { IfOk result (λ o. IfSome o (λ (keys, hows). AreParts (game_of solved.now.game) aims.now start.now keys.items hows.items)) }
-    ensures many { IfOk result (λ o. IfNone o ((s : Strategy) → IsLeastStrategy (game_of solved.now.game) s → 65536 < rows_of s)) }
+    ensures many { IfOk result (λ o. IfNone o ((s : Strategy) → IsLeastStrategy (game_of solved.now.game) s → ROWS < rows_of s)) }
 {
     let entries = Entries::make(alloc, solved)?;
     let first = small(aims, start);
@@ -93,8 +93,8 @@ fn strategy_within(alloc: Global, solved: &Solved) -> Result<Option<LeastStrateg
     requires made { IsMade solved.now.game }
     requires lost { IsLost (game_of solved.now.game) }
     ensures least { IfOk result (λ o. IfSome o (λ s. IsLeastStrategy (game_of solved.now.game) s)) }
-    ensures few { IfOk result (λ o. IfSome o (λ s. rows_of s ≤ 65536)) }
-    ensures many { IfOk result (λ o. IfNone o ((s : Strategy) → IsLeastStrategy (game_of solved.now.game) s → 65536 < rows_of s)) }
+    ensures few { IfOk result (λ o. IfSome o (λ s. rows_of s ≤ ROWS)) }
+    ensures many { IfOk result (λ o. IfNone o ((s : Strategy) → IsLeastStrategy (game_of solved.now.game) s → ROWS < rows_of s)) }
 {
     let start = start_key(solved);
     if ROWS < start.height as usize {
@@ -127,9 +127,9 @@ pub fn least_strategy(
     ensures least { IfOk result (λ s. IsLeastStrategy (game_of game.now) s) }
     ensures ascend { IfOk result (λ s. BacksAscend s) }
     ensures good { IfOk result (λ s. IsGoodStrategy (game_of game.now) s) }
-    ensures few { IfOk result (λ s. rows_of s ≤ 65536) }
-    ensures many { IfErr result (λ fault. fault ≡ TableFault.TooManyRows → (s : Strategy) → IsLeastStrategy (game_of game.now) s → 65536 < rows_of s) }
-    ensures there { IfErr result (λ fault. fault ≡ TableFault.TooManyRows → (s : Strategy) × IsLeastStrategy (game_of game.now) s × (65536 < rows_of s)) }
+    ensures few { IfOk result (λ s. rows_of s ≤ ROWS) }
+    ensures many { IfErr result (λ fault. fault ≡ TableFault.TooManyRows → (s : Strategy) → IsLeastStrategy (game_of game.now) s → ROWS < rows_of s) }
+    ensures there { IfErr result (λ fault. fault ≡ TableFault.TooManyRows → (s : Strategy) × IsLeastStrategy (game_of game.now) s × (ROWS < rows_of s)) }
 {
     let _ = game;
     match strategy_within(alloc, solved) {
@@ -148,9 +148,9 @@ pub fn env_table(alloc: Global, game: &Game, solved: &Solved) -> Result<EnvCert,
     ensures least { IfOk result (λ s. IsLeastStrategy (game_of game.now) (strategy_of s)) }
     ensures ascend { IfOk result (λ s. BacksAscend (strategy_of s)) }
     ensures good { IfOk result (λ s. IsGoodStrategy (game_of game.now) (strategy_of s)) }
-    ensures few { IfOk result (λ s. rows_of (strategy_of s) ≤ 65536) }
-    ensures many { IfErr result (λ fault. fault ≡ TableFault.TooManyRows → (s : Strategy) → IsLeastStrategy (game_of game.now) s → 65536 < rows_of s) }
-    ensures there { IfErr result (λ fault. fault ≡ TableFault.TooManyRows → (s : Strategy) × IsLeastStrategy (game_of game.now) s × (65536 < rows_of s)) }
+    ensures few { IfOk result (λ s. rows_of (strategy_of s) ≤ ROWS) }
+    ensures many { IfErr result (λ fault. fault ≡ TableFault.TooManyRows → (s : Strategy) → IsLeastStrategy (game_of game.now) s → ROWS < rows_of s) }
+    ensures there { IfErr result (λ fault. fault ≡ TableFault.TooManyRows → (s : Strategy) × IsLeastStrategy (game_of game.now) s × (ROWS < rows_of s)) }
 {
     match least_strategy(alloc, game, solved) {
         Err(fault) => Err(fault),

@@ -12,6 +12,7 @@ use crate::bytes::tail;
 use crate::front::{Defect, Front, front_of, is_fresh_behind};
 use crate::punctuators::first_marker;
 use crate::tokens::Token;
+use cw_core::limits::SOURCE_BYTES;
 use std::alloc::{AllocError, AllocFailed, Global};
 use thiserror::Error;
 
@@ -71,7 +72,7 @@ fn fault_at(defect: Defect, at: u32) -> LexFault
 
 /// The front at an index, given whether no token stands before it on its line.
 fn front_from(source: &[u8], at: usize, fresh: bool) -> Front
-    requires short { length source.now ≤ 262144 }
+    requires short { length source.now ≤ SOURCE_BYTES }
     requires in_range { at < length source.now }
     ensures value { result ≡ front_at fresh (drop at source.now) }
     ensures within { IsWithin (length source.now - at) result }
@@ -89,7 +90,7 @@ fn is_fresh(source: &[u8], at: usize, fresh: bool, count: usize) -> bool
 
 /// The tokens of a source of at most 262,144 bytes without markers, or what is wrong first.
 fn read(alloc: Global, source: &[u8]) -> Result<Vec<Token>, LexFault>
-    requires short { length source.now ≤ 262144 }
+    requires short { length source.now ≤ SOURCE_BYTES }
     requires unmarked { HasNoMarker source.now }
     ensures tokens { IfOk result (λ v. AreTokens source.now v.items) }
     ensures fault { IfErr result (λ f. (f ≡ NoMemory) ⊎ IsFault source.now f) }
@@ -126,7 +127,7 @@ fn read(alloc: Global, source: &[u8]) -> Result<Vec<Token>, LexFault>
 /// Refused are first of all markers, `cw{*` and `*}cw`, wherever they stand: the fault names the least place where one begins. Where
 /// there is none, the fault is the one at the least place.
 pub fn lex(alloc: Global, source: &[u8]) -> Result<Vec<Token>, LexFault>
-    requires short { length source.now ≤ 262144 }
+    requires short { length source.now ≤ SOURCE_BYTES }
     ensures tokens { IfOk result (λ v. AreTokens source.now v.items) }
     ensures fault { IfErr result (λ f. (f ≡ NoMemory) ⊎ IsFault source.now f) }
 {

@@ -1,6 +1,8 @@
 -- Working definitions: how much is left to do.
 use Rattle.std.specs.Prelude.{ℕ, zero, suc, ◌+◌, ◌-◌, ◌*◌, List, Option, Some, None, length, slice_get, count_by, sum_by}
 use Rattle.std.specs.List.{range_with_len}
+use Rattle.cw_core.specs.Quantities.{limit_of}
+use Rattle.cw_core.specs.declared.quantity.Quantity.TheVariants.{Cells}
 use Rattle.cw_game.specs.Games.{Game}
 use Rattle.cw_game.specs.Pairs.{has}
 use Rattle.cw_solve.specs.declared.contexts.Context.{Context}
@@ -23,6 +25,6 @@ ties_left g contexts (suc i) = promised_in g (slice_get contexts i)
 -- The cells that may still come, each with its height and its link's ties, the cells without a height, and the ties of the links that are there.
 abbrev pub work_left : Game → Work → ℕ
 work_left g w =
-    (4194304 - length w.store.heights) * (g.states.count + 2)
+    (limit_of Cells - length w.store.heights) * (g.states.count + 2)
     + count_by is_none w.store.heights
     + sum_by (ties_left g w.blocks.contexts.items) w.store.to

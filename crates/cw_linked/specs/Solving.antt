@@ -1,5 +1,7 @@
 -- Working definitions: a game is solved step by step.
 use Rattle.std.specs.Prelude.{◌≡◌, ℕ, ◌+◌, ◌<◌, [], Option, Some, None, length, slice_index, Contains}
+use Rattle.cw_core.specs.Quantities.{limit_of}
+use Rattle.cw_core.specs.declared.quantity.Quantity.TheVariants.{Cells}
 use Rattle.cw_game.specs.Games.{Game}
 use Rattle.cw_solve.specs.declared.contexts.Context.{Context}
 use Rattle.cw_solve.specs.Contexts.{size, HeightIs, IsNeeded}
@@ -25,7 +27,7 @@ pub record IsAllKnown (g : Game) (t : Known) : Type 0 where
 -- a context that is needed and not tabled, and whose cells are too many beside those that are there
 pub record IsBeyond (g : Game) (t : Known) (c : Context) : Type 0 where
   pub missing : IsMissing g t.blocks c
-  pub many : 4194304 < length t.heights + size g c.function
+  pub many : limit_of Cells < length t.heights + size g c.function
 
 -- what comes of all steps
 abbrev pub Ends : Game → Known → Option Context → Type 0

@@ -18,6 +18,7 @@ ghost use Rattle.cw_linked.specs.Works.{known_of, IsKnown, heights_of, AreUpTo};
 use crate::block::{Block, index_in};
 use crate::work::Work;
 use cw_certs::Move;
+use cw_core::limits::{CELLS, PRODUCT_STATES_IN_FORMAT_2};
 use cw_core::{PosId, StateId};
 use cw_game::Spot;
 use cw_product::Game;
@@ -63,10 +64,10 @@ fn height_to(
     requires cell { HasCell (game_of game.now) work.now.blocks at.now pos.0 state.0 }
     requires block { IsBlock (game_of game.now) work.now.blocks at.now block.now }
     requires leads { next_at (game_of game.now) pos.0 state.0 by ≡ Some (to, state.0) }
-    requires high { AreUpTo work.now.store.heights 4194304 }
+    requires high { AreUpTo work.now.store.heights CELLS }
     ensures tells { (n : ℕ) → holds_by n result ≡ holds_after (implied (heights_of (game_of game.now) (known_of work.now)) at.now.number n)
         (has at.now.context.promise) (next_at (game_of game.now) pos.0 state.0 by) }
-    ensures high { result ≤ 4194304 }
+    ensures high { result ≤ CELLS }
     ensures most { (most : ℕ) → AreUpTo work.now.store.heights most → result ≤ most }
 {
     let _ = pos;
@@ -90,10 +91,10 @@ fn height_after(
     requires long { AreLong work.now }
     requires cell { HasCell (game_of game.now) work.now.blocks at.now pos.0 state.0 }
     requires block { IsBlock (game_of game.now) work.now.blocks at.now block.now }
-    requires high { AreUpTo work.now.store.heights 4194304 }
+    requires high { AreUpTo work.now.store.heights CELLS }
     ensures tells { (n : ℕ) → holds_by n result ≡ holds_after (implied (heights_of (game_of game.now) (known_of work.now)) at.now.number n)
         (has at.now.context.promise) (next_at (game_of game.now) pos.0 state.0 by) }
-    ensures high { result ≤ 4194304 }
+    ensures high { result ≤ CELLS }
     ensures most { (most : ℕ) → AreUpTo work.now.store.heights most → result ≤ most }
 {
     match game.next(pos, state, by) {
@@ -104,7 +105,7 @@ fn height_after(
 
 /// One more than a height, 0 where there is none.
 fn one_more(height: u32) -> u32
-    requires high { height ≤ 4194304 }
+    requires high { height ≤ CELLS }
     ensures tells { (n : ℕ) → holds_by (suc n) result ≡ holds_by n height }
     ensures high { result ≤ height + 1 }
 {
@@ -113,7 +114,7 @@ fn one_more(height: u32) -> u32
 
 /// One more than the greater of two heights, 0 where one of them isn't there.
 fn both(a: u32, b: u32) -> u32
-    requires high { (a ≤ 4194304) × (b ≤ 4194304) }
+    requires high { (a ≤ CELLS) × (b ≤ CELLS) }
     ensures tells { (n : ℕ) → holds_by (suc n) result ≡ (holds_by n a || holds_by n b) }
     ensures high { (result ≤ a + 1) ⊎ (result ≤ b + 1) }
 {
@@ -122,7 +123,7 @@ fn both(a: u32, b: u32) -> u32
 
 /// One more than the lesser of two heights, or than the one that is there.
 fn either(a: u32, b: u32) -> u32
-    requires high { (a ≤ 4194304) × (b ≤ 4194304) }
+    requires high { (a ≤ CELLS) × (b ≤ CELLS) }
     ensures tells { (n : ℕ) → holds_by (suc n) result ≡ (holds_by n a && holds_by n b) }
     ensures high { (result ≤ a + 1) ⊎ (result ≤ b + 1) }
 {
@@ -152,7 +153,7 @@ fn step_bound(
     requires cell { HasCell (game_of game.now) work.now.blocks at.now pos.0 state.0 }
     requires block { IsBlock (game_of game.now) work.now.blocks at.now block.now }
     requires step { slice_get (game_of game.now).spots pos.0 ≡ Some (Spot.Step next) }
-    requires high { AreUpTo work.now.store.heights 4194304 }
+    requires high { AreUpTo work.now.store.heights CELLS }
     ensures tells { (n : ℕ) → holds_by (suc n) result ≡ holds_by_moves (game_of game.now)
         (implied (heights_of (game_of game.now) (known_of work.now)) at.now.number n) pos.0 state.0 (has at.now.context.promise) (slice_get (game_of game.now).spots pos.0) }
     ensures high { (most : ℕ) → AreUpTo work.now.store.heights most → result ≤ most + 1 }
@@ -176,7 +177,7 @@ pub(crate) fn visit_bound(
     requires cell { HasCell (game_of game.now) work.now.blocks at.now pos.0 state.0 }
     requires block { IsBlock (game_of game.now) work.now.blocks at.now block.now }
     requires visit { weavers_in (slice_get (game_of game.now).spots pos.0) ≡ true }
-    requires high { AreUpTo work.now.store.heights 4194304 }
+    requires high { AreUpTo work.now.store.heights CELLS }
     ensures tells { (n : ℕ) → holds_by (suc n) result ≡ holds_by_moves (game_of game.now)
         (implied (heights_of (game_of game.now) (known_of work.now)) at.now.number n) pos.0 state.0 (has at.now.context.promise) (slice_get (game_of game.now).spots pos.0) }
     ensures high { (most : ℕ) → AreUpTo work.now.store.heights most → result ≤ most + 1 }
@@ -204,7 +205,7 @@ fn branch_bound(
     requires cell { HasCell (game_of game.now) work.now.blocks at.now pos.0 state.0 }
     requires block { IsBlock (game_of game.now) work.now.blocks at.now block.now }
     requires branch { slice_get (game_of game.now).spots pos.0 ≡ Some (Spot.Branch left right) }
-    requires high { AreUpTo work.now.store.heights 4194304 }
+    requires high { AreUpTo work.now.store.heights CELLS }
     ensures tells { (n : ℕ) → holds_by (suc n) result ≡ holds_by_moves (game_of game.now)
         (implied (heights_of (game_of game.now) (known_of work.now)) at.now.number n) pos.0 state.0 (has at.now.context.promise) (slice_get (game_of game.now).spots pos.0) }
     ensures high { (most : ℕ) → AreUpTo work.now.store.heights most → result ≤ most + 1 }
@@ -232,7 +233,7 @@ fn moves_bound(
     requires cell { HasCell (game_of game.now) work.now.blocks at.now pos.0 state.0 }
     requires block { IsBlock (game_of game.now) work.now.blocks at.now block.now }
     requires spot { Some spot ≡ slice_get (game_of game.now).spots pos.0 }
-    requires high { AreUpTo work.now.store.heights 4194304 }
+    requires high { AreUpTo work.now.store.heights CELLS }
     ensures tells { (n : ℕ) → holds_by (suc n) result ≡ holds_by_moves (game_of game.now)
         (implied (heights_of (game_of game.now) (known_of work.now)) at.now.number n) pos.0 state.0 (has at.now.context.promise) (slice_get (game_of game.now).spots pos.0) }
     ensures high { (most : ℕ) → AreUpTo work.now.store.heights most → result ≤ most + 1 }
@@ -256,7 +257,7 @@ fn moves_bound(
 fn exit_bound(game: &Game, blocks: &Blocks, at: &Tabled, function: u32, state: StateId) -> u32
     requires tabled { IsTabled blocks.now at.now }
     requires state { IsState (game_of game.now) state.0 }
-    requires few { (game_of game.now).states.count ≤ 1024 }
+    requires few { (game_of game.now).states.count ≤ PRODUCT_STATES_IN_FORMAT_2 }
     ensures tells { (n : ℕ) → holds_by (suc n) result ≡ (nat_eq function (game_of game.now).main || has at.now.context.promise state.0) }
     ensures most { result ≤ 1 }
 {
@@ -283,7 +284,7 @@ pub(crate) fn bound(
     requires long { AreLong work.now }
     requires cell { HasCell (game_of game.now) work.now.blocks at.now pos.0 state.0 }
     requires block { IsBlock (game_of game.now) work.now.blocks at.now block.now }
-    requires high { AreUpTo work.now.store.heights 4194304 }
+    requires high { AreUpTo work.now.store.heights CELLS }
     ensures implied { is_call_in (slice_get (game_of game.now).spots pos.0) ≡ false
         → IsBound (game_of game.now) (heights_of (game_of game.now) (known_of work.now)) at.now.number pos.0 state.0 at.now.context.promise result }
     ensures call { is_call_in (slice_get (game_of game.now).spots pos.0) ≡ true → result ≡ 0 }

@@ -1,5 +1,6 @@
 //! Division of rows by a number that stays the same.
 
+use cw_core::limits::{CELLS, POSITIONS_TIMES_STATES};
 use std::marker::Model;
 
 /// A number by which rows are divided.
@@ -30,7 +31,7 @@ impl Divisor {
     /// The divisor by a number.
     pub fn of(by: u32) -> Divisor
         requires some { 0 < by }
-        requires few { by ≤ 1048576 }
+        requires few { by ≤ POSITIONS_TIMES_STATES }
         ensures { result ≡ by }
     {
         Divisor {
@@ -58,7 +59,7 @@ impl Divisor {
 
     /// How often the number goes into a row.
     pub fn quotient(&self, row: u32) -> u32
-        requires { row < 4194304 }
+        requires { row < CELLS }
         ensures { result ≡ row / self.now }
     {
         ((u64::from(row) * self.inverse) >> 42) as u32

@@ -18,6 +18,7 @@ ghost use Rattle.cw_linked.specs.Waiting.{keeps_state, is_step, source_at, lone,
 use crate::divisor::Divisor;
 use crate::waiting::list_of;
 use cw_certs::Move;
+use cw_core::limits::POSITIONS_TIMES_STATES;
 use cw_core::{NoMemory, PosId, StateId};
 use cw_game::Spot;
 use cw_links::{Chains, Flags, Rows};
@@ -170,7 +171,7 @@ fn make_sources(alloc: Global, game: &Game) -> Result<Rows<Source>, NoMemory>
 
 /// The second position to which a primitive may lead that is asked at one: behind a call, where it splits.
 fn second_asked(pos: PosId, prim: Primitive) -> Option<u32>
-    requires { pos.0 < 1048576 }
+    requires { pos.0 < POSITIONS_TIMES_STATES }
     ensures { result ≡ second_asked pos.0 prim }
 {
     match prim {
@@ -181,7 +182,7 @@ fn second_asked(pos: PosId, prim: Primitive) -> Option<u32>
 
 /// The first position to which moves may lead from where this stands that may change the state.
 fn first_target(pos: PosId, spot: Spot) -> Option<u32>
-    requires { pos.0 < 1048576 }
+    requires { pos.0 < POSITIONS_TIMES_STATES }
     ensures { result ≡ first_target pos.0 (Some spot) }
 {
     match spot {
@@ -196,7 +197,7 @@ fn first_target(pos: PosId, spot: Spot) -> Option<u32>
 
 /// And the second one.
 fn second_target(pos: PosId, spot: Spot) -> Option<u32>
-    requires { pos.0 < 1048576 }
+    requires { pos.0 < POSITIONS_TIMES_STATES }
     ensures { result ≡ second_target pos.0 (Some spot) }
 {
     match spot {
@@ -220,7 +221,7 @@ fn flag_target(flags: &mut [bool], to: Option<u32>)
 /// Flags the positions to which the moves of a position may lead that may change the state, whatever the state is.
 fn flag_pairs(game: &Game, flags: &mut [bool], pos: PosId)
     requires position { IsPosition (game_of game.now) pos.0 }
-    requires short { length (game_of game.now).spots ≤ 1048576 }
+    requires short { length (game_of game.now).spots ≤ POSITIONS_TIMES_STATES }
     requires before { AreReachedTo (game_of game.now) flags.old pos.0 0 }
     ensures { AreReachedTo (game_of game.now) flags.new (pos.0 + 1) 0 }
 {
@@ -233,7 +234,7 @@ fn flag_pairs(game: &Game, flags: &mut [bool], pos: PosId)
 /// Flags the positions to which a move leads that may change the state.
 fn flag_all(game: &Game, flags: &mut [bool])
     requires long { length flags.old ≡ length (game_of game.now).spots }
-    requires short { length (game_of game.now).spots ≤ 1048576 }
+    requires short { length (game_of game.now).spots ≤ POSITIONS_TIMES_STATES }
     ensures { AreReached (game_of game.now) flags.new }
 {
     for p in 0..game.positions() {
@@ -243,7 +244,7 @@ fn flag_all(game: &Game, flags: &mut [bool])
 
 /// The flags, with how many come before an index.
 fn ranked(alloc: Global, flags: &[bool]) -> Result<Flags, NoMemory>
-    requires { length flags.now ≤ 1048576 }
+    requires { length flags.now ≤ POSITIONS_TIMES_STATES }
     ensures { IfOk result (λ all. all ≡ flags.now) }
 {
     let mut all = Flags::make(alloc);
@@ -405,7 +406,7 @@ fn make_changes(alloc: Global, game: &Game) -> Result<Changes, NoMemory>
 /// Puts a position into the list of the one to which it returns, if a call stands there.
 fn add_return(game: &Game, returns: &mut Chains<PosId>, pos: PosId) -> Result<(), NoMemory>
     requires position { IsPosition (game_of game.now) pos.0 }
-    requires few { length (game_of game.now).spots ≤ 1048576 }
+    requires few { length (game_of game.now).spots ≤ POSITIONS_TIMES_STATES }
     requires before { AreReturnsTo (game_of game.now) returns.old pos.0 }
     ensures { OnOk result (AreReturnsTo (game_of game.now) returns.new (pos.0 + 1)) }
 {
@@ -422,7 +423,7 @@ fn add_return(game: &Game, returns: &mut Chains<PosId>, pos: PosId) -> Result<()
 
 /// For each position those of the calls that return there.
 fn make_returns(alloc: Global, game: &Game) -> Result<Rows<PosId>, NoMemory>
-    requires few { length (game_of game.now).spots ≤ 1048576 }
+    requires few { length (game_of game.now).spots ≤ POSITIONS_TIMES_STATES }
     ensures { IfOk result (AreReturns (game_of game.now)) }
 {
     let mut returns = Chains::make(alloc, game.positions())?;

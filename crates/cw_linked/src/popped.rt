@@ -5,6 +5,7 @@ ghost use Rattle.cw_linked.specs.Popped.{Pops};
 ghost use Rattle.cw_linked.specs.Queues.{AreLong};
 
 use crate::work::Work;
+use cw_core::limits::CELLS;
 use cw_links::Popped as Taken;
 
 /// What waited under the least key.
@@ -20,7 +21,7 @@ pub(crate) enum Popped {
 /// Takes what waits under the least key: a cell has its height then, a link doesn't wait any more.
 pub(crate) fn pop(work: &mut Work) -> Popped
     requires long { AreLong work.old }
-    requires counted { work.old.written ≤ 4194304 }
+    requires counted { work.old.written ≤ CELLS }
     ensures { Pops work.old work.new result }
 {
     match work.store.pop() {

@@ -11,6 +11,7 @@ ghost use Rattle.cw_linked.specs.Added.{PushesIndices, PushesNext, PushesContext
 ghost use Rattle.cw_linked.specs.Founds.{class_of};
 
 use crate::calls::{class_at, is_call};
+use cw_core::limits::CELLS;
 use cw_core::{NoMemory, PosId, StateId};
 use cw_game::Spot;
 use cw_links::Store;
@@ -42,7 +43,7 @@ fn push_next(
 ) -> Result<u32, NoMemory>
     requires position { IsPosition (game_of game.now) pos.0 }
     requires state { IsState (game_of game.now) state.0 }
-    requires few { length store.old.flags + (plain + 1) ≤ 4194304 }
+    requires few { length store.old.flags + (plain + 1) ≤ CELLS }
     ensures { IfOk result (λ more. PushesNext (game_of game.now) store.old store.new pos.0 state.0 plain more) }
 {
     if is_link(game, pos, state) {
@@ -59,7 +60,7 @@ fn push_state(game: &Game, store: &mut Store, function: u16, state: StateId) -> 
     requires routed { AreRouted (game_of game.now) (length game.now.graph.parts.items) }
     requires there { IsThere (game_of game.now) (length game.now.graph.parts.items) function }
     requires state { IsState (game_of game.now) state.0 }
-    requires few { length store.old.flags + positions (game_of game.now) function ≤ 4194304 }
+    requires few { length store.old.flags + positions (game_of game.now) function ≤ CELLS }
     ensures indices { OnOk result (PushesIndices store.old store.new (positions (game_of game.now) function)) }
     ensures flagged { OnOk result (FlagsState (game_of game.now) store.old.flags store.new.flags function state.0 (positions (game_of game.now) function)) }
 {
@@ -114,7 +115,7 @@ fn has_splits(game: &Game, function: u16) -> bool
 fn push_plain(game: &Game, store: &mut Store, function: u16) -> Result<(), NoMemory>
     requires routed { AreRouted (game_of game.now) (length game.now.graph.parts.items) }
     requires there { IsThere (game_of game.now) (length game.now.graph.parts.items) function }
-    requires few { length store.old.flags + size (game_of game.now) function ≤ 4194304 }
+    requires few { length store.old.flags + size (game_of game.now) function ≤ CELLS }
     requires plain { (p : ℕ) → IsOf (game_of game.now) function p → is_call_in (slice_get (game_of game.now).spots p) ≡ false }
     ensures indices { OnOk result (PushesIndices store.old store.new (size (game_of game.now) function)) }
     ensures flagged { OnOk result (FlagsLinks (game_of game.now) store.old.flags store.new.flags function (size (game_of game.now) function)) }
@@ -128,7 +129,7 @@ fn push_plain(game: &Game, store: &mut Store, function: u16) -> Result<(), NoMem
 fn push_states(game: &Game, store: &mut Store, function: u16) -> Result<(), NoMemory>
     requires routed { AreRouted (game_of game.now) (length game.now.graph.parts.items) }
     requires there { IsThere (game_of game.now) (length game.now.graph.parts.items) function }
-    requires few { length store.old.flags + size (game_of game.now) function ≤ 4194304 }
+    requires few { length store.old.flags + size (game_of game.now) function ≤ CELLS }
     ensures indices { OnOk result (PushesIndices store.old store.new (size (game_of game.now) function)) }
     ensures flagged { OnOk result (FlagsLinks (game_of game.now) store.old.flags store.new.flags function (size (game_of game.now) function)) }
 {
@@ -143,7 +144,7 @@ fn push_states(game: &Game, store: &mut Store, function: u16) -> Result<(), NoMe
 fn push_first(game: &Game, store: &mut Store, function: u16) -> Result<(), NoMemory>
     requires routed { AreRouted (game_of game.now) (length game.now.graph.parts.items) }
     requires there { IsThere (game_of game.now) (length game.now.graph.parts.items) function }
-    requires few { length store.old.flags + size (game_of game.now) function ≤ 4194304 }
+    requires few { length store.old.flags + size (game_of game.now) function ≤ CELLS }
     requires whole { (p : ℕ) (call : Called) → IsOf (game_of game.now) function p → call_in (slice_get (game_of game.now).spots p) ≡ Some call → call.split ≡ false }
     ensures indices { OnOk result (PushesIndices store.old store.new (size (game_of game.now) function)) }
     ensures flagged { OnOk result (FlagsLinks (game_of game.now) store.old.flags store.new.flags function (size (game_of game.now) function)) }
@@ -159,7 +160,7 @@ fn push_first(game: &Game, store: &mut Store, function: u16) -> Result<(), NoMem
 fn push_called(game: &Game, store: &mut Store, function: u16) -> Result<(), NoMemory>
     requires routed { AreRouted (game_of game.now) (length game.now.graph.parts.items) }
     requires there { IsThere (game_of game.now) (length game.now.graph.parts.items) function }
-    requires few { length store.old.flags + size (game_of game.now) function ≤ 4194304 }
+    requires few { length store.old.flags + size (game_of game.now) function ≤ CELLS }
     ensures indices { OnOk result (PushesIndices store.old store.new (size (game_of game.now) function)) }
     ensures flagged { OnOk result (FlagsLinks (game_of game.now) store.old.flags store.new.flags function (size (game_of game.now) function)) }
 {
@@ -173,7 +174,7 @@ fn push_called(game: &Game, store: &mut Store, function: u16) -> Result<(), NoMe
 pub(crate) fn push_indices(game: &Game, store: &mut Store, function: u16) -> Result<(), NoMemory>
     requires routed { AreRouted (game_of game.now) (length game.now.graph.parts.items) }
     requires there { IsThere (game_of game.now) (length game.now.graph.parts.items) function }
-    requires few { length store.old.flags + size (game_of game.now) function ≤ 4194304 }
+    requires few { length store.old.flags + size (game_of game.now) function ≤ CELLS }
     ensures indices { OnOk result (PushesIndices store.old store.new (size (game_of game.now) function)) }
     ensures flagged { OnOk result (FlagsLinks (game_of game.now) store.old.flags store.new.flags function (size (game_of game.now) function)) }
 {

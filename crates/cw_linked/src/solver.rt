@@ -28,6 +28,7 @@ use crate::links::{Stepped, take_link};
 use crate::popped::{Popped, pop};
 use crate::work::{Work, cell_by};
 use cw_core::NoMemory;
+use cw_core::limits::CELLS;
 use cw_links::Store;
 use cw_product::Game;
 use cw_solve::table::{Blocks, Table, main_context};
@@ -223,7 +224,7 @@ pub fn solve<'g>(alloc: Global, game: &'g Game<'g>) -> Result<Solved<'g>, SolveF
     requires made { IsMade game.now }
     ensures game { IfOk result (λ s. s.game ≡ game.now) }
     ensures contexts { IfOk result (λ s. AreTheNeeded (game_of game.now) s.contexts) }
-    ensures few { IfOk result (λ s. cells_of (game_of game.now) s.contexts ≤ 4194304) }
+    ensures few { IfOk result (λ s. cells_of (game_of game.now) s.contexts ≤ CELLS) }
     ensures cause { IfErr result (λ fault. IsCause (game_of game.now) fault) }
 {
     let mut indices = Indices::make(alloc);

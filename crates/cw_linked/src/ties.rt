@@ -25,6 +25,7 @@ use crate::bounds::height_in;
 use crate::calls::ask_call;
 use crate::returns::ask_return;
 use crate::work::{Cell, Work};
+use cw_core::limits::CELLS;
 use cw_core::{NoMemory, PosId, StateId, StateSet};
 use cw_product::Game;
 use cw_solve::table::Tabled;
@@ -82,10 +83,10 @@ pub(crate) fn promise_of(
 fn tie(work: &mut Work, index: usize, callee: &Tabled, moves: u32)
     requires long { AreLong work.old }
     requires callers { AreCallers work.old }
-    requires few { length work.old.store.heights ≤ 4194304 }
+    requires few { length work.old.store.heights ≤ CELLS }
     requires within { index < length work.old.store.heights }
     requires flagged { is_flagged work.old.store.flags index ≡ true }
-    requires contexts { length work.old.blocks.contexts.items ≤ 4194304 }
+    requires contexts { length work.old.blocks.contexts.items ≤ CELLS }
     requires number { callee.now.number < length work.old.blocks.contexts.items }
     ensures { TiesLink work.old work.new index callee.now.number moves }
 {

@@ -1,5 +1,7 @@
 -- Links by number: where each goes, and the list of those that go there.
 use Rattle.std.specs.Prelude.{◌≡◌, ℕ, ◌<◌, ◌≤◌, List, length, slice_index, Contains}
+use Rattle.cw_core.specs.Quantities.{limit_of}
+use Rattle.cw_core.specs.declared.quantity.Quantity.TheVariants.{Cells}
 use Rattle.cw_links.specs.Lists.{Chained, list_at}
 
 -- the number of the list of each link, the links of each list, and how many more links have their memory already
@@ -16,7 +18,7 @@ pub record AreLinkedBy (to : List ℕ) (chains : Chained ℕ) (lists many : ℕ)
 
 -- all do, and there are few
 pub record AreLinked (to : List ℕ) (chains : Chained ℕ) (lists : ℕ) : Type 0 where
-  pub few : length to ≤ 4194304
+  pub few : length to ≤ limit_of Cells
   pub some : 0 < lists
   pub within : (k : ℕ) → slice_index to k < lists
   pub linked : AreLinkedBy to chains lists (length to)

@@ -1,5 +1,7 @@
 -- Heights and keys of cells and keys of links, by number, and the queue in which they wait.
 use Rattle.std.specs.Prelude.{◌≡◌, ℕ, ◌/◌, ◌%◌, ◌<◌, ◌≤◌, ◌||◌, if◌then◌else◌, nat_eq, nat_lt, List, length, slice_index, slice_set, Contains}
+use Rattle.cw_core.specs.Quantities.{limit_of}
+use Rattle.cw_core.specs.declared.quantity.Quantity.TheVariants.{Cells}
 use Rattle.cw_links.specs.Cells.{may_wait}
 use Rattle.cw_links.specs.Lists.{list_at}
 use Rattle.cw_links.specs.declared.popped.Popped.{Popped}
@@ -28,8 +30,8 @@ pub record AreWaiting (asked due : List ℕ) (stacks : List (List ℕ)) : Type 0
 
 -- these are few, and the queue has their elements
 pub record AreQueued (asked due : List ℕ) (stacks : List (List ℕ)) : Type 0 where
-  pub few_cells : length asked ≤ 4194304
-  pub few_links : length due ≤ 4194304
+  pub few_cells : length asked ≤ limit_of Cells
+  pub few_links : length due ≤ limit_of Cells
   pub waiting : AreWaiting asked due stacks
 
 -- the keys with this one at an index, unless a lower one stands there

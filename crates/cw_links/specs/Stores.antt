@@ -1,5 +1,7 @@
 -- What a solver keeps by indices: a height and a key for each cell, and of the few indices that are links their keys, where they go and for how long.
 use Rattle.std.specs.Prelude.{◌≡◌, ℕ, ◌/◌, ◌<◌, ◌≤◌, List, [], ◌∷◌, ◌++◌, Bool, true, false, length, replicate, slice_set}
+use Rattle.cw_core.specs.Quantities.{limit_of}
+use Rattle.cw_core.specs.declared.quantity.Quantity.TheVariants.{Cells}
 use Rattle.cw_links.specs.Flags.{is_flagged, number, rank, spread}
 use Rattle.cw_links.specs.declared.popped.Popped.{Popped}
 use Rattle.cw_links.specs.declared.popped.Popped.TheVariants.{Nothing as Empty, Cell as OfCell, Link as OfLink}
@@ -19,7 +21,7 @@ pub record Stored : Type 0 where
 
 -- there is a key for each index, and values for each link
 pub record AreStored (flags : List Bool) (keys : Keyed) (callers : Calling) (waves : List ℕ) : Type 0 where
-  pub few : length flags ≤ 4194304
+  pub few : length flags ≤ limit_of Cells
   pub keys_of_cells : length keys.asked ≡ length flags
   pub keys_of_links : length keys.due ≡ number flags
   pub lists_of_links : length callers.to ≡ number flags

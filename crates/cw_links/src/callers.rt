@@ -6,6 +6,7 @@ ghost use Rattle.cw_links.specs.Callers.{AreLinkedBy};
 
 use crate::Chains;
 use cw_core::NoMemory;
+use cw_core::limits::CELLS;
 use std::alloc::Global;
 use std::marker::Model;
 
@@ -72,7 +73,7 @@ impl Callers {
 
     /// Adds a link, which stands in the list 0.
     pub(crate) fn push(&mut self)
-        requires few { length self.old.to < 4194304 }
+        requires few { length self.old.to < CELLS }
         requires room { 0 < self.old.spare }
         ensures to { self.new.to ≡ self.old.to ++ 0 ∷ [] }
         ensures lists { length self.new.lists ≡ length self.old.lists }
@@ -133,7 +134,7 @@ impl Callers {
 /// Adds a link in front of the list 0.
 fn push_in(chains: &mut Chains<u8>)
     requires some { 0 < length chains.old.lists }
-    requires few { length chains.old.values < 4194304 }
+    requires few { length chains.old.values < CELLS }
     requires room { 0 < chains.old.spare }
     ensures lists { chains.new.lists ≡ with_front chains.old.lists 0 (length chains.old.values) }
     ensures values { chains.new.values ≡ chains.old.values ++ 0 ∷ [] }
@@ -144,7 +145,7 @@ fn push_in(chains: &mut Chains<u8>)
 
 /// The links of the numbers that a vector has, each in its list.
 fn linked(alloc: Global, to: &[u32], lists: u32) -> Result<Chains<u8>, NoMemory>
-    requires few { length to.now ≤ 4194304 }
+    requires few { length to.now ≤ CELLS }
     requires within { (k : ℕ) → k < length to.now → slice_index to.now k < lists }
     ensures { IfOk result (λ chains. AreLinkedBy to.now chains lists (length to.now)) }
 {

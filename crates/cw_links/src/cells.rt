@@ -4,6 +4,7 @@ ghost use Rattle.std.specs.Prelude.{◌≡◌, ◌+◌, ◌*◌, ◌<◌, ◌≤
 ghost use Rattle.cw_links.specs.Cells.{height_in, key_in, may_wait};
 
 use cw_core::NoMemory;
+use cw_core::limits::CELLS;
 use std::alloc::Global;
 use std::marker::Model;
 
@@ -99,7 +100,7 @@ impl Cells {
 
     /// Adds so many cells, of which nothing is known.
     pub(crate) fn push(&mut self, many: usize)
-        requires few { length self.old.asked + many ≤ 4194304 }
+        requires few { length self.old.asked + many ≤ CELLS }
         requires room { many ≤ self.old.spare }
         ensures heights { self.new.heights ≡ self.old.heights ++ replicate many 0 }
         ensures asked { self.new.asked ≡ self.old.asked ++ replicate many 0 }

@@ -7,6 +7,7 @@ use crate::NearQueue;
 use crate::cells::Cells;
 use crate::popped::Popped;
 use cw_core::NoMemory;
+use cw_core::limits::CELLS;
 use std::alloc::Global;
 use std::marker::Model;
 
@@ -24,6 +25,8 @@ pub(crate) struct Keys {
 
 impl Model for Keys {
     ghost use Rattle.std.specs.Prelude.{◌-◌, length, min, vec_len, vec_capacity};
+    ghost use Rattle.cw_core.specs.Quantities.{limit_of};
+    ghost use Rattle.cw_core.specs.declared.quantity.Quantity.TheVariants.{Cells as CellCount};
     ghost use Rattle.cw_links.specs.Keys.{Keyed, AreQueued};
 
     ghost Value = { Keyed };
@@ -32,8 +35,8 @@ impl Model for Keys {
       heights = k.cells.heights;
       asked = k.cells.asked;
       due = k.due.items;
-      spare_cells = min (4194304 - length k.cells.asked) k.cells.spare;
-      spare_links = min (4194304 - length k.due.items) (vec_capacity k.due - vec_len k.due);
+      spare_cells = min (limit_of CellCount - length k.cells.asked) k.cells.spare;
+      spare_links = min (limit_of CellCount - length k.due.items) (vec_capacity k.due - vec_len k.due);
     } };
 
     ghost invariant = { λ k. AreQueued k.cells.asked k.due.items k.queue };
@@ -127,7 +130,7 @@ impl Keys {
 
     /// Takes the memory of so many more cells. The one error is want of memory; heights and keys stay as they are.
     pub(crate) fn reserve_cells(&mut self, more: usize) -> Result<(), NoMemory>
-        requires few { length self.old.asked + more ≤ 4194304 }
+        requires few { length self.old.asked + more ≤ CELLS }
         ensures room { OnOk result (more ≤ self.new.spare_cells) }
         ensures links { self.new.spare_links ≡ self.old.spare_links }
         ensures heights { self.new.heights ≡ self.old.heights }
@@ -140,7 +143,7 @@ impl Keys {
 
     /// Takes the memory of one more link. The one error is want of memory; heights and keys stay as they are.
     pub(crate) fn reserve_link(&mut self) -> Result<(), NoMemory>
-        requires few { length self.old.due < 4194304 }
+        requires few { length self.old.due < CELLS }
         ensures room { OnOk result (0 < self.new.spare_links) }
         ensures cells { self.new.spare_cells ≡ self.old.spare_cells }
         ensures heights { self.new.heights ≡ self.old.heights }

@@ -11,6 +11,7 @@ use crate::callers::Callers;
 use crate::keys::Keys;
 use crate::popped::Popped;
 use cw_core::NoMemory;
+use cw_core::limits::CELLS;
 use std::alloc::Global;
 use std::marker::Model;
 
@@ -166,7 +167,7 @@ impl Store {
     /// Adds an index, which is a link or not. Its cell has no height, its cell and its link don't wait, and the link stands in the list 0.
     /// The one error is want of memory, which changes nothing.
     pub fn push(&mut self, flag: bool) -> Result<(), NoMemory>
-        requires few { length self.old.flags < 4194304 }
+        requires few { length self.old.flags < CELLS }
         ensures pushed { OnOk result (Pushes self.old self.new flag) }
         ensures refused { OnErr result (self.new ≡ self.old) }
     {
@@ -179,7 +180,7 @@ impl Store {
 
     /// Adds so many indices, of which none is a link, has a height or waits. The one error is want of memory, which changes nothing.
     pub fn push_plain(&mut self, many: u32) -> Result<(), NoMemory>
-        requires few { length self.old.flags + many ≤ 4194304 }
+        requires few { length self.old.flags + many ≤ CELLS }
         ensures pushed { OnOk result (PushesPlain self.old self.new many) }
         ensures refused { OnErr result (self.new ≡ self.old) }
     {
@@ -191,7 +192,7 @@ impl Store {
 
     /// Adds an index that is a link, as `push` does.
     fn push_link(&mut self) -> Result<(), NoMemory>
-        requires few { length self.old.flags < 4194304 }
+        requires few { length self.old.flags < CELLS }
         ensures pushed { OnOk result (Pushes self.old self.new true) }
         ensures refused { OnErr result (self.new ≡ self.old) }
     {
@@ -279,7 +280,7 @@ fn is_index(flags: &Flags, index: usize, link: usize) -> bool
 
 /// The index of a link: the one that was noted, mostly. Where that isn't it, the indices are halved at each step.
 fn index_of(flags: &Flags, indices: &[u32], link: usize) -> usize
-    requires few { length flags.now ≤ 4194304 }
+    requires few { length flags.now ≤ CELLS }
     requires known { link < number flags.now }
     ensures flagged { is_flagged flags.now result ≡ true }
     ensures rank { rank flags.now result ≡ link }
@@ -293,7 +294,7 @@ fn index_of(flags: &Flags, indices: &[u32], link: usize) -> usize
 
 /// What is taken, with the index in the stead of a link's number.
 fn at_index(flags: &Flags, indices: &[u32], popped: Popped) -> Popped
-    requires few { length flags.now ≤ 4194304 }
+    requires few { length flags.now ≤ CELLS }
     requires known { IsKnown flags.now popped }
     ensures { IsAt flags.now popped result }
 {
@@ -306,7 +307,7 @@ fn at_index(flags: &Flags, indices: &[u32], popped: Popped) -> Popped
 
 /// Adds a link.
 fn add_link(keys: &mut Keys, callers: &mut Callers, waves: &mut Vec<u32>)
-    requires few { length callers.old.to < 4194304 }
+    requires few { length callers.old.to < CELLS }
     requires keys { 0 < keys.old.spare_links }
     requires callers { 0 < callers.old.spare }
     requires waves { vec_len waves.old < vec_capacity waves.old }

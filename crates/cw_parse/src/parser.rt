@@ -8,6 +8,7 @@ ghost use Rattle.cw_parse.specs.Faults.{place_of, IsFaultIn, IsParsed, IsParseFa
 
 use crate::fault::ParseFault;
 use crate::files::read_file;
+use cw_core::limits::SOURCE_BYTES;
 use cw_expressions::refusal::Refusal;
 use cw_grammar::spelling::lexemes;
 use cw_grammar::terminals::Lexeme;
@@ -18,7 +19,7 @@ use std::alloc::Global;
 
 /// Where a token begins, or the length of the source where there is none.
 fn place_of(source: &[u8], lexemes: &[Lexeme], at: usize) -> u32
-    requires short { length source.now ≤ 262144 }
+    requires short { length source.now ≤ SOURCE_BYTES }
     ensures { result ≡ place_of source.now (slice_get lexemes.now at) }
 {
     match lexemes.get(at) {
@@ -30,7 +31,7 @@ fn place_of(source: &[u8], lexemes: &[Lexeme], at: usize) -> u32
 /// Why tokens that are no program are refused: by the place where they leave the grammar, however deep they nest, and by the
 /// nesting only where they don't leave it.
 fn fault_of(alloc: Global, source: &[u8], lexemes: &[Lexeme]) -> ParseFault
-    requires short { length source.now ≤ 262144 }
+    requires short { length source.now ≤ SOURCE_BYTES }
     requires refused { (file : File) → ¬ (IsProgram lexemes.now file) }
     ensures { IsFaultIn source.now lexemes.now result }
 {
@@ -43,7 +44,7 @@ fn fault_of(alloc: Global, source: &[u8], lexemes: &[Lexeme]) -> ParseFault
 
 /// The program of these tokens. Whether they leave the grammar, and where, is only asked where no program is read.
 fn program_of(alloc: Global, source: &[u8], lexemes: &[Lexeme]) -> Result<Program, ParseFault>
-    requires short { length source.now ≤ 262144 }
+    requires short { length source.now ≤ SOURCE_BYTES }
     ensures program { IfOk result (λ program. IsProgram lexemes.now (file_of program)) }
     ensures fault { IfErr result (IsFaultIn source.now lexemes.now) }
 {
@@ -63,7 +64,7 @@ fn program_of(alloc: Global, source: &[u8], lexemes: &[Lexeme]) -> Result<Progra
 ///
 /// Public source: ISO/IEC 9899:2011, 6.5, 6.7, 6.8 and 6.9.
 pub fn parse(alloc: Global, source: &[u8], tokens: &[Token]) -> Result<Program, ParseFault>
-    requires short { length source.now ≤ 262144 }
+    requires short { length source.now ≤ SOURCE_BYTES }
     requires tokens { AreTokens source.now tokens.now }
     ensures program { IfOk result (λ program. IsParsed source.now tokens.now (file_of program)) }
     ensures fault { IfErr result (IsParseFault source.now tokens.now) }

@@ -20,6 +20,7 @@ ghost use Rattle.cw_parting.specs.Parting.{AfterForm, IsParted, IsProcsDue, OfFo
 use crate::refusals::form_refusal;
 use cw_commands::Outcome;
 use cw_core::NoMemory;
+use cw_core::limits::SOURCE_BYTES;
 use cw_detach::{ProcFault, detach};
 use cw_io::Sink;
 use cw_policy::read_policy;
@@ -64,7 +65,7 @@ fn parted<O: Sink>(
     form: &[u8],
     out: &mut O,
 ) -> Result<Text<O>, Stop>
-    requires short { length form.now ≤ 262144 }
+    requires short { length form.now ≤ SOURCE_BYTES }
     requires valid { IsValid (policy_of policy.now) }
     requires read { (file : File) × ReadsAs form.now file × (descriptor_fault form.now file (policy_of policy.now) ≡ None) }
     ensures due { Answers (policy_of policy.now) form.now (OfForm (policy_of policy.now) form.now) result }
@@ -80,9 +81,9 @@ fn parted<O: Sink>(
 /// The form of what has been read, or why there is none. The program of the source goes, before that of the form comes.
 fn form_in(alloc: Global, reading: Reading) -> Result<Vec<u8>, ProcFault>
     requires is { IsReading reading }
-    requires short { length (source_of reading) ≤ 262144 }
+    requires short { length (source_of reading) ≤ SOURCE_BYTES }
     ensures form { IfOk result (λ form. form.items ≡ form_of (source_of reading.entry) (whole_of reading.entry).detached (file_in reading.entry)) }
-    ensures few { IfOk result (λ form. length form.items ≤ 262144) }
+    ensures few { IfOk result (λ form. length form.items ≤ SOURCE_BYTES) }
     ensures clear { IfOk result (λ _. IsFirstFault (source_of reading.entry) (file_in reading.entry) (whole_of reading.entry) None) }
     ensures fault { IfErr result (IsDetachFault (source_of reading.entry) (file_in reading.entry) (whole_of reading.entry)) }
 {
@@ -97,7 +98,7 @@ fn of_source<O: Sink, N: Sink>(
     out: &mut O,
     note: &mut N,
 ) -> Result<Outcome<O, N>, NoMemory>
-    requires short { length source.now ≤ 262144 }
+    requires short { length source.now ≤ SOURCE_BYTES }
     requires valid { IsValid (policy_of policy.now) }
     ensures due { IfOk result (λ outcome. WithSource (AfterForm source.now (policy_of policy.now)) source.now (policy_of policy.now) (due_of outcome)) }
     ensures puts { Starts O.taken O.faults O.refused out.old out.new result }
@@ -121,7 +122,7 @@ pub fn procs_due<O: Sink, N: Sink>(
     out: &mut O,
     note: &mut N,
 ) -> Result<Outcome<O, N>, NoMemory>
-    requires short { length source.now ≤ 262144 }
+    requires short { length source.now ≤ SOURCE_BYTES }
     ensures due { IfOk result (λ outcome. IsProcsDue policy.now source.now (due_of outcome)) }
     ensures puts { Starts O.taken O.faults O.refused out.old out.new result }
     ensures notes { StartsLine N.taken N.faults N.refused note.old note.new result }

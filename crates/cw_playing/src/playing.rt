@@ -16,6 +16,7 @@ use crate::telling::play_told;
 use cw_certs::{EnvCert, Move};
 use cw_commands::Outcome;
 use cw_core::NoMemory;
+use cw_core::limits::{FILE_BYTES_IN_FORMAT_2, SOURCE_BYTES};
 use cw_echeck::check_env;
 use cw_io::{Sink, Writer};
 use cw_play::play_env;
@@ -66,7 +67,7 @@ fn spelled<O: Sink>(
     out: &mut O,
 ) -> Result<Text<O>, Stop>
     requires is { IsReading reading.now }
-    requires short { length tape.now ≤ 33554432 }
+    requires short { length tape.now ≤ FILE_BYTES_IN_FORMAT_2 }
     ensures due { let whole = whole_of reading.now in let source = source_of reading.now in
         Answers whole source (AfterPair source text.now tape.now whole (file_in reading.now)) result }
     ensures puts { StartsText O.taken O.faults O.refused out.old out.new result }
@@ -85,8 +86,8 @@ fn read<O: Sink>(
     tape: &[u8],
     out: &mut O,
 ) -> Result<Text<O>, Stop>
-    requires short { length source.now ≤ 262144 }
-    requires short_tape { length tape.now ≤ 33554432 }
+    requires short { length source.now ≤ SOURCE_BYTES }
+    requires short_tape { length tape.now ≤ FILE_BYTES_IN_FORMAT_2 }
     requires valid { IsValid (policy_of policy.now) }
     ensures due { let whole = policy_of policy.now in
         Answers whole source.now (WithSource (AfterPair source.now text.now tape.now whole) source.now whole) result }
@@ -106,8 +107,8 @@ pub fn play_due<O: Sink, N: Sink>(
     out: &mut O,
     note: &mut N,
 ) -> Result<Outcome<O, N>, NoMemory>
-    requires short { length source.now ≤ 262144 }
-    requires short_tape { length tape.now ≤ 33554432 }
+    requires short { length source.now ≤ SOURCE_BYTES }
+    requires short_tape { length tape.now ≤ FILE_BYTES_IN_FORMAT_2 }
     ensures due { IfOk result (λ outcome. IsPlayDue policy.now source.now strategy.now tape.now (due_of outcome)) }
     ensures puts { Starts O.taken O.faults O.refused out.old out.new result }
     ensures notes { StartsLine N.taken N.faults N.refused note.old note.new result }

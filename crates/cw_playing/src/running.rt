@@ -17,6 +17,7 @@ use crate::telling::run_told;
 use cw_certs::{Move, WeaverCert};
 use cw_commands::Outcome;
 use cw_core::NoMemory;
+use cw_core::limits::{FILE_BYTES_IN_FORMAT_2, POINTS};
 use cw_io::{Sink, Writer};
 use cw_points::Graph;
 use cw_policy::read_policy;
@@ -41,7 +42,7 @@ fn fitted<O: Sink>(
 ) -> Result<Text<O>, Stop>
     requires is { IsReading reading.now }
     requires graph { IsGraph (names_of (whole_of reading.now)) (source_of reading.now) (file_in reading.now) graph.now }
-    requires points { length graph.now.nodes.items ≤ 8192 }
+    requires points { length graph.now.nodes.items ≤ POINTS }
     requires few { HasFewRows table.now }
     requires tape { length tape.now < 2 ^ 32 }
     ensures due { let whole = whole_of reading.now in let source = source_of reading.now in let file = file_in reading.now in
@@ -78,7 +79,7 @@ fn accepted<O: Sink>(
 ) -> Result<Text<O>, Stop>
     requires valid { IsValid (policy_of policy.now) }
     requires unwoven { IsUnwoven (policy_of policy.now) parts.now }
-    requires short { length tape.now ≤ 33554432 }
+    requires short { length tape.now ≤ FILE_BYTES_IN_FORMAT_2 }
     ensures due { Answers (policy_of policy.now) parts.now.source.items (AfterPolicy parts.now.text.now tape.now (policy_of policy.now)) result }
     ensures puts { StartsText O.taken O.faults O.refused out.old out.new result }
 {
@@ -97,8 +98,8 @@ fn unwoven<O: Sink, N: Sink>(
     note: &mut N,
 ) -> Result<Outcome<O, N>, NoMemory>
     requires valid { IsValid (policy_of policy.now) }
-    requires short { length text.now ≤ 33554432 }
-    requires short_tape { length tape.now ≤ 33554432 }
+    requires short { length text.now ≤ FILE_BYTES_IN_FORMAT_2 }
+    requires short_tape { length tape.now ≤ FILE_BYTES_IN_FORMAT_2 }
     ensures due { IfOk result (λ outcome. AfterPolicy text.now tape.now (policy_of policy.now) (due_of outcome)) }
     ensures puts { Starts O.taken O.faults O.refused out.old out.new result }
     ensures notes { StartsLine N.taken N.faults N.refused note.old note.new result }
@@ -123,8 +124,8 @@ pub fn run_due<O: Sink, N: Sink>(
     out: &mut O,
     note: &mut N,
 ) -> Result<Outcome<O, N>, NoMemory>
-    requires short { length text.now ≤ 33554432 }
-    requires short_tape { length tape.now ≤ 33554432 }
+    requires short { length text.now ≤ FILE_BYTES_IN_FORMAT_2 }
+    requires short_tape { length tape.now ≤ FILE_BYTES_IN_FORMAT_2 }
     ensures due { IfOk result (λ outcome. IsRunDue policy.now text.now tape.now (due_of outcome)) }
     ensures puts { Starts O.taken O.faults O.refused out.old out.new result }
     ensures notes { StartsLine N.taken N.faults N.refused note.old note.new result }

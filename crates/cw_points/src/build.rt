@@ -20,6 +20,7 @@ use crate::fault::PointsFault;
 use crate::graph::{Graph, Part, Point};
 use crate::lay::{function_number, lay_all};
 use cw_core::PointId;
+use cw_core::limits::POINTS;
 use cw_resolve::Scene;
 use cw_rights::Policy;
 use cw_syntax::checked::Checked;
@@ -36,7 +37,7 @@ fn lay_function(
     requires labels { length scene.now.names.labels ≤ 65535 }
     requires descriptors { length scene.now.names.descriptors ≤ 255 }
     requires functions { length scene.now.functions ≤ 65535 }
-    requires few { length draft.old.nodes.items + size_all (definition_of function.now).body + 2 ≤ 8192 }
+    requires few { length draft.old.nodes.items + size_all (definition_of function.now).body + 2 ≤ POINTS }
     ensures drawn { OnOk result (drawn_of draft.new ≡ laid_one scene.now number (definition_of function.now) (drawn_of draft.old)) }
     ensures part { IfOk result (λ p. p ≡ part (length draft.old.nodes.items) (length draft.old.nodes.items + 1 + size_all (definition_of function.now).body) (split_of scene.now (definition_of function.now))) }
 {
@@ -76,7 +77,7 @@ fn draw(alloc: Global, scene: &Scene, program: &Program) -> Result<Graph, AllocE
     requires labels { length scene.now.names.labels ≤ 65535 }
     requires descriptors { length scene.now.names.descriptors ≤ 255 }
     requires functions { length scene.now.functions ≤ 65535 }
-    requires few { size_from (map definition_of program.now.functions.items) ≤ 8192 }
+    requires few { size_from (map definition_of program.now.functions.items) ≤ POINTS }
     ensures { IfOk result (λ g. IsGraph scene.now.names scene.now.source (file_of program.now) g) }
 {
     let mut draft = Draft::new(alloc);

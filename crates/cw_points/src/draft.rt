@@ -4,6 +4,7 @@ ghost use Rattle.std.specs.Prelude.{◌≡◌, ◌≤◌, [], ◌∷◌, length,
 ghost use Rattle.cw_points.specs.Graphs.{point_id, first, step, branch, step_nodes, test_node, node};
 
 use crate::graph::{Node, Point, Seam};
+use cw_core::limits::POINTS;
 use cw_core::{PointId, SeamId};
 use cw_syntax::program::Name;
 use std::alloc::{AllocError, Global};
@@ -57,7 +58,7 @@ impl Draft {
 
     /// The number of the point that is put next.
     pub(crate) fn next_point(&self) -> u32
-        requires few { length self.now.nodes.items ≤ 8192 }
+        requires few { length self.now.nodes.items ≤ POINTS }
         ensures { result ≡ length self.now.nodes.items }
     {
         self.nodes.len() as u32
@@ -65,7 +66,7 @@ impl Draft {
 
     /// The number of the seam that is put next.
     fn next_seam(&self) -> u32
-        requires few { length self.now.nodes.items ≤ 8192 }
+        requires few { length self.now.nodes.items ≤ POINTS }
         ensures { result ≡ length self.now.seams.items }
     {
         self.seams.len() as u32
@@ -162,7 +163,7 @@ impl Draft {
         place: u32,
         taken: Option<Name>,
     ) -> Result<(), AllocError>
-        requires few { length self.old.nodes.items ≤ 8192 }
+        requires few { length self.old.nodes.items ≤ POINTS }
         ensures { OnOk result (drawn_of self.new ≡ with_seam point function next place taken (drawn_of self.old)) }
     {
         let at = self.next_point();

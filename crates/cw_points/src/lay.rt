@@ -11,6 +11,7 @@ ghost use Rattle.cw_points.specs.Drawing.{drawn_of, looped, before, with_nodes, 
 use crate::count::{count, count_all};
 use crate::draft::{Draft, Ways, first};
 use crate::graph::Point;
+use cw_core::limits::POINTS;
 use cw_resolve::{Act, Scene, action_of};
 use cw_syntax::program::{Expr, Head, Stmt, What};
 use std::alloc::AllocError;
@@ -61,7 +62,7 @@ fn lay_expression(
 ) -> Result<(), AllocError>
     requires descriptors { length scene.now.names.descriptors ≤ 255 }
     requires functions { length scene.now.functions ≤ 65535 }
-    requires few { length draft.old.nodes.items ≤ 8192 }
+    requires few { length draft.old.nodes.items ≤ POINTS }
     ensures { OnOk result ((to : ℕ) → drawn_of draft.new ≡ laid scene.now function (Stated (Evaluates (tree_of e.now)) place to) ways (drawn_of draft.old)) }
 {
     match action_of(scene, e) {
@@ -93,8 +94,8 @@ fn put_head(
     body: u32,
     next: u32,
 ) -> Result<u32, AllocError>
-    requires few { length draft.old.nodes.items ≤ 8192 }
-    requires body { body ≤ 8192 }
+    requires few { length draft.old.nodes.items ≤ POINTS }
+    requires body { body ≤ POINTS }
     ensures turn { IfOk result (λ turn. turn ≡ length draft.old.nodes.items + one_if (is_some (out-Head head.now).init) + one_if (is_some (out-Head head.now).step)) }
     ensures drawn { IfOk result (λ turn. (test : ℕ) → test ≡ length draft.old.nodes.items + one_if (is_some (out-Head head.now).init) →
         drawn_of draft.new ≡ with_nodes (step_nodes function (is_some (out-Head head.now).step) test) (with_node (test_node function (is_some (out-Head head.now).test) (first body (turn + 1) turn) next) (with_nodes (step_nodes function (is_some (out-Head head.now).init) test) (drawn_of draft.old)))) }
@@ -127,7 +128,7 @@ fn lay(
     requires labels { length scene.now.names.labels ≤ 65535 }
     requires descriptors { length scene.now.names.descriptors ≤ 255 }
     requires functions { length scene.now.functions ≤ 65535 }
-    requires few { length draft.old.nodes.items + size (statement_of statement.now) ≤ 8192 }
+    requires few { length draft.old.nodes.items + size (statement_of statement.now) ≤ POINTS }
     ensures { OnOk result (drawn_of draft.new ≡ laid scene.now function (statement_of statement.now) ways (drawn_of draft.old)) }
 {
     match &statement.what {
@@ -193,7 +194,7 @@ pub(crate) fn lay_all(
     requires labels { length scene.now.names.labels ≤ 65535 }
     requires descriptors { length scene.now.names.descriptors ≤ 255 }
     requires functions { length scene.now.functions ≤ 65535 }
-    requires few { length draft.old.nodes.items + size_all (statements_of statements.now) ≤ 8192 }
+    requires few { length draft.old.nodes.items + size_all (statements_of statements.now) ≤ POINTS }
     ensures { OnOk result (drawn_of draft.new ≡ laid_all scene.now function (statements_of statements.now) ways (drawn_of draft.old)) }
 {
     let mut left = count_all(statements);

@@ -8,6 +8,7 @@ ghost use Rattle.cw_positions.specs.Positions.{base_of, bases, free, number, pri
 
 use crate::visits::put_visits;
 use crate::widths::{is_split, width};
+use cw_core::limits::{LIMITS, POINTS};
 use cw_core::{NoMemory, PointId, PosId, SeamId};
 use cw_game::Spot;
 use cw_points::{Graph, Node, Part, Point};
@@ -24,7 +25,7 @@ pub struct Positions {
 /// Where the positions of each point begin, and where they all end.
 fn bases(alloc: Global, graph: &Graph, policy: &Policy) -> Result<Vec<u32>, AllocError>
     requires valid { IsValid (policy_of policy.now) }
-    requires few { length graph.now.nodes.items ≤ 8192 }
+    requires few { length graph.now.nodes.items ≤ POINTS }
     ensures bases { IfOk result (λ v. v.items ≡ bases graph.now (policy_of policy.now)) }
 {
     let mut bases = Vec::new(alloc);
@@ -122,7 +123,7 @@ fn put_primitives(
     point: Point,
     seam: u32,
 ) -> Result<(), AllocError>
-    requires few { length policy.now.limits.items ≤ 12 }
+    requires few { length policy.now.limits.items ≤ LIMITS }
     ensures { OnOk result (spots.new.items ≡ spots.old.items ++ visits seam 0 (primitives_at (policy_of policy.now) parts.now point)) }
 {
     match point {
@@ -186,7 +187,7 @@ impl Positions {
     /// Where memory is refused.
     pub fn make(alloc: Global, graph: &Graph, policy: &Policy) -> Result<Positions, NoMemory>
         requires valid { IsValid (policy_of policy.now) }
-        requires few { length graph.now.nodes.items ≤ 8192 }
+        requires few { length graph.now.nodes.items ≤ POINTS }
         ensures spots { IfOk result (λ r. r.spots.items ≡ spots graph.now (policy_of policy.now)) }
         ensures bases { IfOk result (λ r. r.bases.items ≡ bases graph.now (policy_of policy.now)) }
     {

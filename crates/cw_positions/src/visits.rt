@@ -4,6 +4,7 @@ ghost use Rattle.std.specs.Prelude.{◌≡◌, ◌≤◌, ◌++◌, [], ◌∷�
 ghost use Rattle.cw_rights.specs.Policies.{policy_of, primitives};
 ghost use Rattle.cw_positions.specs.Positions.{visits};
 
+use cw_core::limits::LIMITS;
 use cw_game::Spot;
 use cw_rights::capabilities::{Limit, Primitive};
 use cw_rights::policy::Policy;
@@ -25,7 +26,7 @@ fn put_visit(
 
 /// Appends the visits of the policy's limits at a seam.
 fn put_limits(spots: &mut Vec<Spot>, seam: u32, limits: &[Limit]) -> Result<(), AllocError>
-    requires few { length limits.now ≤ 12 }
+    requires few { length limits.now ≤ LIMITS }
     ensures { OnOk result (spots.new.items ≡ spots.old.items ++ visits seam 0 (map (λ limit. Primitive.Limit limit) limits.now)) }
 {
     let mut stage = 0;
@@ -44,7 +45,7 @@ pub(crate) fn put_visits(
     policy: &Policy,
     split: bool,
 ) -> Result<(), AllocError>
-    requires few { length policy.now.limits.items ≤ 12 }
+    requires few { length policy.now.limits.items ≤ LIMITS }
     ensures { OnOk result (spots.new.items ≡ spots.old.items ++ visits seam 0 (primitives (policy_of policy.now) split)) }
 {
     put_limits(spots, seam, &policy.limits)?;

@@ -5,6 +5,7 @@ ghost use Rattle.cw_rights.specs.Policies.{policy_of};
 ghost use Rattle.cw_rights.specs.Valid.{IsValid};
 ghost use Rattle.cw_positions.specs.Positions.{is_split, width, spots};
 
+use cw_core::limits::{LIMITS, POINTS};
 use cw_points::{Graph, Part, Point};
 use cw_rights::policy::Policy;
 
@@ -20,7 +21,7 @@ pub(crate) fn is_split(parts: &[Part], function: u16) -> bool
 
 /// How many positions a point has.
 pub(crate) fn width(policy: &Policy, parts: &[Part], point: Point) -> u32
-    requires few { length policy.now.limits.items ≤ 12 }
+    requires few { length policy.now.limits.items ≤ LIMITS }
     ensures width { result ≡ width (policy_of policy.now) parts.now point }
     ensures small { result ≤ 30 }
 {
@@ -36,7 +37,7 @@ pub(crate) fn width(policy: &Policy, parts: &[Part], point: Point) -> u32
 /// How many positions a program has under a policy. No position is made for it.
 pub fn count(graph: &Graph, policy: &Policy) -> u32
     requires valid { IsValid (policy_of policy.now) }
-    requires few { length graph.now.nodes.items ≤ 8192 }
+    requires few { length graph.now.nodes.items ≤ POINTS }
     ensures count { result ≡ length (spots graph.now (policy_of policy.now)) }
     ensures small { result ≤ 30 * length graph.now.nodes.items }
 {

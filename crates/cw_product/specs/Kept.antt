@@ -1,7 +1,7 @@
 -- Working definitions: what a value of `Game` keeps.
 use Rattle.std.specs.Prelude.{◌≡◌, ℕ, ◌+◌, ◌*◌, ◌<◌, ◌≤◌, Option, Some, None, length, slice_get, nat_lt, Contains, true}
 use Rattle.std.specs.List.{list_any}
-use Rattle.cw_core.specs.declared.quantity.Quantity.TheVariants.{PositionsTimesStates}
+use Rattle.cw_core.specs.declared.quantity.Quantity.TheVariants.{PositionsTimesStates, Points}
 use Rattle.cw_core.specs.Quantities.{limit_of}
 use Rattle.cw_rights.specs.declared.capabilities.Primitive.{Primitive}
 use Rattle.cw_rights.specs.declared.capabilities.Primitive.TheVariants.{Split}
@@ -61,7 +61,7 @@ IsPart graph part = (part.entry.0 < length graph.nodes.items) × (part.exit.0 < 
 
 -- What is true of the graph of a program that can be run, and of its game.
 pub record IsSound (h : Held) : Type 0 where
-  pub narrow : length h.graph.nodes.items ≤ 8192
+  pub narrow : length h.graph.nodes.items ≤ limit_of Points
   pub few : length (game_of h).spots ≤ limit_of PositionsTimesStates
   pub pairs : length (game_of h).spots * (game_of h).states.count ≤ limit_of PositionsTimesStates
   pub few_states : AreFew (lists_of h.states)

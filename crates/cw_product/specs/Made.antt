@@ -1,6 +1,8 @@
 -- What is asked of a game that is solved: that `Game::make` gives it, of the graph of a program that can be run and of the states of a valid policy
 -- for it, and that the program doesn't call `main`.
 use Rattle.std.specs.Prelude.{◌≡◌, ℕ, ◌*◌, ◌≤◌, Some, length, slice_get}
+use Rattle.cw_core.specs.Quantities.{limit_of}
+use Rattle.cw_core.specs.declared.quantity.Quantity.TheVariants.{PositionsTimesStates}
 use Rattle.cw_rights.specs.Policies.{PlainPolicy, policy_of}
 use Rattle.cw_rights.specs.Valid.{IsValid}
 use Rattle.cw_points.specs.declared.graph.Graph.{Graph}
@@ -21,4 +23,4 @@ pub record IsMade (h : Held) : Type 0 where
   pub leaves : LeavesMain (policy_of h.states.policy) h.graph
   pub lists : AreLists (uses_of (policy_of h.states.policy) h.graph.nodes.items) (lists_of h.states)
   pub few : AreFew (lists_of h.states)
-  pub pairs : length (game_of h).spots * (game_of h).states.count ≤ 1048576
+  pub pairs : length (game_of h).spots * (game_of h).states.count ≤ limit_of PositionsTimesStates

@@ -1,5 +1,7 @@
 -- What is asked of a game: its functions keep to their own positions, and its states are states wherever a position leads.
 use Rattle.std.specs.Prelude.{◌≡◌, ℕ, ◌+◌, ◌*◌, ◌<◌, ◌≤◌, List, [], ◌∷◌, Option, Some, None, slice_get, length, Contains}
+use Rattle.cw_core.specs.Quantities.{limit_in, limit_of}
+use Rattle.cw_core.specs.declared.quantity.Quantity.TheVariants.{PositionsTimesStates, ProductStates}
 use Rattle.cw_rights.specs.declared.capabilities.Primitive.TheVariants.{Split}
 use Rattle.cw_game.specs.declared.spots.Spot.{Spot}
 use Rattle.cw_game.specs.declared.spots.Spot.TheVariants.{Visit, Asked, Step, Branch, Label, Open, Close, Call, SplitCall, Exit}
@@ -38,9 +40,9 @@ pub record IsThere (g : Game) (functions f : ℕ) : Type 0 where
 -- A game is within the limits, and its moves stay within functions that are there.
 pub record AreRouted (g : Game) (functions : ℕ) : Type 0 where
   pub some : 0 < g.states.count
-  pub few : g.states.count ≤ 1024
-  pub short : length g.spots ≤ 1048576
-  pub pairs : length g.spots * g.states.count ≤ 1048576
+  pub few : g.states.count ≤ limit_in 2 ProductStates
+  pub short : length g.spots ≤ limit_of PositionsTimesStates
+  pub pairs : length g.spots * g.states.count ≤ limit_of PositionsTimesStates
   pub closed : AreClosed g (IsState g)
   pub stays : (f p r : ℕ) → f < functions → IsOf g f p → Contains (targets p (slice_get g.spots p)) r → IsOf g f r
   pub main : IsThere g functions g.main

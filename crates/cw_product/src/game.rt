@@ -7,6 +7,7 @@ use crate::stages::stages_of;
 use crate::turn::Turn;
 use crate::uses::uses_of;
 use cw_certs::Move;
+use cw_core::limits::{POINTS, POSITIONS_TIMES_STATES};
 use cw_core::{PointId, PosId, Quantity, SeamId, StateId};
 use cw_game::Spot;
 use cw_points::{Graph, Part};
@@ -83,7 +84,7 @@ impl<'g> Game<'g> {
     pub fn make(alloc: Global, graph: &'g Graph, policy: &'g Policy) -> Result<Game<'g>, GameFault>
         requires valid { IsValid (policy_of policy.now) }
         requires graph { IsProgramsGraph (policy_of policy.now) graph.now }
-        requires few { length graph.now.nodes.items ≤ 8192 }
+        requires few { length graph.now.nodes.items ≤ POINTS }
         ensures graph { IfOk result (λ g. g.graph ≡ graph.now) }
         ensures policy { IfOk result (λ g. g.states.policy ≡ policy.now) }
         ensures lists { IfOk result (λ g.
@@ -284,7 +285,7 @@ impl<'g> Game<'g> {
 
     // The position and the state after a granted primitive.
     fn granted(&self, pos: PosId, state: StateId, prim: Primitive) -> (PosId, StateId)
-        requires position { pos.0 < 1048576 }
+        requires position { pos.0 < POSITIONS_TIMES_STATES }
         requires state { IsState (game_of self.now) state.0 }
         requires primitive { IsPrimitive (game_of self.now) prim }
         ensures { (result.0.0, result.1.0) ≡ pair_of (past_asked (game_of self.now) pos.0 state.0 prim []) }
@@ -306,7 +307,7 @@ impl<'g> Game<'g> {
         prim: Primitive,
         by: Move,
     ) -> Option<(PosId, StateId)>
-        requires position { pos.0 < 1048576 }
+        requires position { pos.0 < POSITIONS_TIMES_STATES }
         requires state { IsState (game_of self.now) state.0 }
         requires primitive { IsPrimitive (game_of self.now) prim }
         ensures { numbers result ≡ next_in (game_of self.now) pos.0 state.0 (Some (Spot.Asked 0 0 prim)) by }
@@ -394,7 +395,7 @@ impl<'g> Game<'g> {
 
     // Where a position leads where this stands.
     fn led(&self, spot: Spot, pos: PosId, state: StateId, by: Move) -> Option<(PosId, StateId)>
-        requires position { pos.0 < 1048576 }
+        requires position { pos.0 < POSITIONS_TIMES_STATES }
         requires fine { IsFine self.now pos.0 spot }
         requires state { IsState (game_of self.now) state.0 }
         ensures { numbers result ≡ next_in (game_of self.now) pos.0 state.0 (Some spot) by }

@@ -6,12 +6,13 @@ ghost use Rattle.cw_game.specs.Games.{Game};
 ghost use Rattle.cw_product.specs.Moves.{numbers, next_in};
 
 use cw_certs::Move;
+use cw_core::limits::POSITIONS_TIMES_STATES;
 use cw_core::{PosId, StateId};
 use cw_game::Spot;
 
 /// Where a visit leads.
 pub(crate) fn visited(pos: PosId, state: StateId, by: Move) -> Option<(PosId, StateId)>
-    requires { pos.0 < 1048576 }
+    requires { pos.0 < POSITIONS_TIMES_STATES }
     ensures { (g : Game) → numbers result ≡ next_in g pos.0 state.0 (Some (Spot.Visit 0 0 Enter)) by }
 {
     match by {

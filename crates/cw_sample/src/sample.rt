@@ -4,6 +4,7 @@ ghost use Rattle.std.specs.Prelude.{◌≡◌, ◌≤◌, ◌++◌, length, OnOk
 ghost use Rattle.cw_sample.specs.Samples.{sample_policy, prototype, next, definition, prototypes, definitions, main_line, sample_source, HasSample, IsSampleFault};
 ghost use Rattle.cw_sample.specs.declared.sample.SampleFault.TheVariants as sample;
 
+use cw_core::limits::SOURCE_BYTES;
 use cw_core::{NoMemory, put_dec};
 use std::alloc::Global;
 use thiserror::Error;
@@ -110,7 +111,7 @@ fn source_text(alloc: Global, n: u32) -> Result<Vec<u8>, NoMemory>
 pub fn make_sample(alloc: Global, n: u32) -> Result<(Vec<u8>, Vec<u8>), SampleFault>
     ensures policy { IfOk result (λ texts. texts.0.items ≡ sample_policy) }
     ensures source { IfOk result (λ texts. texts.1.items ≡ sample_source n) }
-    ensures short { IfOk result (λ texts. length texts.1.items ≤ 262144) }
+    ensures short { IfOk result (λ texts. length texts.1.items ≤ SOURCE_BYTES) }
     ensures range { IfOk result (λ _. HasSample n) }
     ensures fault { IfErr result (IsSampleFault n) }
 {

@@ -1,6 +1,8 @@
 -- The heights of pairs, and the contexts that a game needs: what each function is promised where it is called. Public source: the summaries of
 -- visibly pushdown games of Löding, Madhusudan and Serre (2004).
 use Rattle.std.specs.Prelude.{◌≡◌, ℕ, ◌+◌, ◌-◌, ◌*◌, ◌<◌, List, true, false, ◌&&◌, Option, Some, None, nat_lt, slice_get, sum_by, Contains, AllPairs, ◌≢◌, Bool}
+use Rattle.cw_core.specs.Quantities.{limit_of}
+use Rattle.cw_core.specs.declared.quantity.Quantity.TheVariants.{Cells}
 use Rattle.cw_solve.specs.declared.contexts.Context.{Context}
 use Rattle.cw_game.specs.Games.{Game, returned, Promise, Holds}
 use Rattle.cw_product.specs.Routed.{IsOf}
@@ -59,11 +61,11 @@ pub record AreTheNeeded (g : Game) (contexts : List Context) : Type 0 where
 -- needed contexts whose cells alone are too many
 pub record AreTooMany (g : Game) (contexts : List Context) : Type 0 where
   pub some : AreNeeded g contexts
-  pub many : 4194304 < cells_of g contexts
+  pub many : limit_of Cells < cells_of g contexts
 
 -- Needed contexts whose cells alone are too many are there only where those of all needed contexts are too many.
 abbrev pub TooManyAreSo : Type 0
-TooManyAreSo = (g : Game) (some all : List Context) → AreTooMany g some → AreTheNeeded g all → 4194304 < cells_of g all
+TooManyAreSo = (g : Game) (some all : List Context) → AreTooMany g some → AreTheNeeded g all → limit_of Cells < cells_of g all
 
 -- The needed contexts have one number of cells, in whichever order they are listed.
 abbrev pub CellsAreOneNumber : Type 0

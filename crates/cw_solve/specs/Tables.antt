@@ -1,5 +1,7 @@
 -- Working definitions: what a table of heights keeps.
 use Rattle.std.specs.Prelude.{◌≡◌, ℕ, suc, ◌+◌, ◌<◌, ◌≤◌, List, Bool, Some, nat_eq, length, slice_get, slice_index, slice_set, take, count_by, Contains}
+use Rattle.cw_core.specs.Quantities.{limit_of}
+use Rattle.cw_core.specs.declared.quantity.Quantity.TheVariants.{Cells}
 use Rattle.cw_game.specs.Games.{Game}
 use Rattle.cw_game.specs.Pairs.{all_states, call_spot}
 use Rattle.cw_solve.specs.declared.contexts.Context.{Context}
@@ -18,7 +20,7 @@ pub record AreBlocks (g : Game) (b : Blocks) : Type 0 where
   pub needed : AreNeeded g b.contexts.items
   pub begins : (i : ℕ) → i < length b.contexts.items → slice_index b.bases.items i ≡ cells_of g (take i b.contexts.items)
   pub bases : length b.bases.items ≡ length b.contexts.items
-  pub few : cells_of g b.contexts.items ≤ 4194304
+  pub few : cells_of g b.contexts.items ≤ limit_of Cells
 
 -- A height for each of their cells, and how many aren't 0.
 pub record IsTable (g : Game) (t : Table) : Type 0 where
@@ -78,4 +80,4 @@ pub record IsDone (g : Game) (t : Table) : Type 0 where
 pub record AreTabled (g : Game) (contexts : List Context) : Type 0 where
   pub first : slice_get contexts 0 ≡ Some (context g.main (all_states g))
   pub needed : AreNeeded g contexts
-  pub few : cells_of g contexts ≤ 4194304
+  pub few : cells_of g contexts ≤ limit_of Cells

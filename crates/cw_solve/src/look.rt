@@ -14,6 +14,7 @@ ghost use Rattle.cw_solve.specs.Tables.{IsTable, IsTabled, HasCell, IsInRound, I
 use crate::contexts::Context;
 use crate::table::{Table, Tabled, holds, index_of, numbered, promised, slot};
 use cw_certs::Move;
+use cw_core::limits::CELLS;
 use cw_core::{PosId, StateId};
 use cw_game::Spot;
 use cw_product::{Game, Turn};
@@ -127,7 +128,7 @@ fn write(table: &mut Table, cell: usize, height: u32)
     requires within { cell < length table.old.heights.items }
     requires positive { 0 < height }
     requires counted { table.old.written + count_by is_none table.old.heights.items ≡ length table.old.heights.items }
-    requires few { length table.old.heights.items ≤ 4194304 }
+    requires few { length table.old.heights.items ≤ CELLS }
     ensures written { Writes table.old table.new cell height }
 {
     if table.heights[cell] == 0 {

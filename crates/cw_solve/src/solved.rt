@@ -11,6 +11,7 @@ use crate::fault::SolveFault;
 use crate::indices::Indices;
 use crate::table::{Table, fact_fit, height_in, numbered, slot};
 use crate::tries::solve_table;
+use cw_core::limits::CELLS;
 use cw_core::{PosId, StateId, StateSet};
 use cw_product::Game;
 use std::alloc::Global;
@@ -51,7 +52,7 @@ pub fn solve<'g>(alloc: Global, game: &'g Game<'g>) -> Result<Solved<'g>, SolveF
     requires made { IsMade game.now }
     ensures game { IfOk result (λ s. s.game ≡ game.now) }
     ensures contexts { IfOk result (λ s. AreTheNeeded (game_of game.now) s.contexts) }
-    ensures few { IfOk result (λ s. cells_of (game_of game.now) s.contexts ≤ 4194304) }
+    ensures few { IfOk result (λ s. cells_of (game_of game.now) s.contexts ≤ CELLS) }
     ensures cause { IfErr result (λ fault. IsCause (game_of game.now) fault) }
 {
     let table = solve_table(alloc, game)?;
@@ -83,7 +84,7 @@ impl<'g> Solved<'g> {
     pub(crate) fn fact_is_kept(&self)
         ensures routed { AreRouted (game_of self.now.game) (length self.now.game.graph.parts.items) }
         ensures needed { AreTheNeeded (game_of self.now.game) self.now.contexts }
-        ensures few { cells_of (game_of self.now.game) self.now.contexts ≤ 4194304 }
+        ensures few { cells_of (game_of self.now.game) self.now.contexts ≤ CELLS }
     {
         let _ = &self.table;
     }

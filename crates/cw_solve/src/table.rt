@@ -10,6 +10,7 @@ ghost use Rattle.cw_solve.specs.Rounds.{positions, slot, height_by, AreWritten};
 ghost use Rattle.cw_solve.specs.Tables.{AreBlocks, IsTable, IsTabled, HasCell};
 
 use crate::contexts::Context;
+use cw_core::limits::POSITIONS_TIMES_STATES;
 use cw_core::{PosId, StateId, StateSet};
 use cw_product::Game;
 use std::marker::Model;
@@ -102,7 +103,7 @@ pub fn size(game: &Game, function: u16) -> u32
     requires there { IsThere (game_of game.now) (length game.now.graph.parts.items) function }
     ensures is { result ≡ size (game_of game.now) function }
     ensures some { 0 < result }
-    ensures few { result ≤ 1048576 }
+    ensures few { result ≤ POSITIONS_TIMES_STATES }
 {
     positions(game, function) * u32::from(game.states())
 }

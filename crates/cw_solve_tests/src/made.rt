@@ -6,6 +6,7 @@ ghost use Rattle.cw_rights.specs.Valid.{IsValid};
 ghost use Rattle.cw_product.specs.Product.{IsProgramsGraph};
 ghost use Rattle.cw_product.specs.Made.{LeavesMain};
 
+use cw_core::limits::POINTS;
 use cw_points::Graph;
 use cw_points::build::build;
 use cw_rights::Policy;
@@ -19,7 +20,7 @@ pub fn graph_of(alloc: Global, policy: &Policy, source: &[u8]) -> Option<Graph>
     requires { IsValid (policy_of policy.now) }
     ensures drawn { IfSome result (IsProgramsGraph (policy_of policy.now)) }
     ensures leaves { IfSome result (LeavesMain (policy_of policy.now)) }
-    ensures few { IfSome result (λ g. length g.nodes.items ≤ 8192) }
+    ensures few { IfSome result (λ g. length g.nodes.items ≤ POINTS) }
 {
     if source.len() > 262144 {
         return None;

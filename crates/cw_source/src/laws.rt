@@ -13,6 +13,8 @@ ghost use Rattle.cw_syntax.specs.Frames.{Item};
 ghost use Rattle.cw_syntax.specs.Runnable.{IsRunnable};
 ghost use Rattle.cw_source.specs.Items.{IsPassed, item_kind, item_place};
 
+use cw_core::limits::FUNCTIONS;
+
 /// A source is read as one program, or has one fault but want of memory, and never both.
 pub fn laws_of_sources()
     ensures one_program { (source : List ℕ) (file other : File)
@@ -53,7 +55,7 @@ pub fn programs_are_runnable()
 pub fn functions_are_few()
     ensures few { (names : Names) (source : List ℕ) (file : File)
         → ReadsAs source file
-        → length (plan_of names source file).routines ≤ 512 }
+        → length (plan_of names source file).routines ≤ FUNCTIONS }
 {}
 
 /// In a program that is read the items that paths pass are named by their kind and their place: two of one kind and place are the same.

@@ -6,6 +6,7 @@ ghost use Rattle.cw_lex.specs.Tokens.{AreTokens};
 ghost use Rattle.cw_source.specs.Read.{Derives, IsFaultOf, ReadsAs};
 
 use crate::fault::SourceFault;
+use cw_core::limits::SOURCE_BYTES;
 use cw_lex::{LexFault, Token, lex};
 use cw_parse::{ParseFault, parse};
 use cw_scope::{ScopeFault, check_scope};
@@ -15,7 +16,7 @@ use std::alloc::Global;
 
 /// The tokens of a source.
 fn tokens_of(alloc: Global, source: &[u8]) -> Result<Vec<Token>, SourceFault>
-    requires short { length source.now ≤ 262144 }
+    requires short { length source.now ≤ SOURCE_BYTES }
     ensures tokens { IfOk result (λ v. AreTokens source.now v.items) }
     ensures fault { IfErr result (IsFaultOf source.now) }
 {
@@ -28,7 +29,7 @@ fn tokens_of(alloc: Global, source: &[u8]) -> Result<Vec<Token>, SourceFault>
 
 /// The program that the tokens of a source derive; they are given back before the scope rules are tested.
 fn program_of(alloc: Global, source: &[u8]) -> Result<Program, SourceFault>
-    requires short { length source.now ≤ 262144 }
+    requires short { length source.now ≤ SOURCE_BYTES }
     ensures program { IfOk result (λ program. Derives source.now (file_of program)) }
     ensures fault { IfErr result (IsFaultOf source.now) }
 {
@@ -49,7 +50,7 @@ fn program_of(alloc: Global, source: &[u8]) -> Result<Program, SourceFault>
 ///
 /// Public source: ISO/IEC 9899:2011, 5.1.1.2, 6.2.1 and 6.9.
 pub fn read_source<'s>(alloc: Global, source: &'s [u8]) -> Result<Checked<'s>, SourceFault>
-    requires short { length source.now ≤ 262144 }
+    requires short { length source.now ≤ SOURCE_BYTES }
     ensures source { IfOk result (λ checked. checked.source.now ≡ source.now) }
     ensures program { IfOk result (λ checked. ReadsAs source.now (file_of checked.program)) }
     ensures fault { IfErr result (IsFaultOf source.now) }

@@ -9,6 +9,7 @@ ghost use Rattle.cw_source.specs.Read.{ReadsAs};
 ghost use Rattle.cw_source_graph.specs.Reading.{IsProgramFault};
 
 use crate::fault::ProgramFault;
+use cw_core::limits::SOURCE_BYTES;
 use cw_rights::Policy;
 use cw_scope::check_descriptors;
 use cw_source::read_source;
@@ -21,7 +22,7 @@ pub fn program_under<'s>(
     policy: &Policy,
     source: &'s [u8],
 ) -> Result<Checked<'s>, ProgramFault>
-    requires short { length source.now ≤ 262144 }
+    requires short { length source.now ≤ SOURCE_BYTES }
     requires valid { IsValid (policy_of policy.now) }
     ensures source { IfOk result (λ checked. checked.source.now ≡ source.now) }
     ensures program { IfOk result (λ checked. ReadsAs source.now (file_of checked.program)) }

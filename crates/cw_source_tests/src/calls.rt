@@ -3,6 +3,7 @@
 ghost use Rattle.std.specs.Prelude.{◌≤◌, length};
 
 use crate::trees::{Part, written};
+use cw_core::limits::SOURCE_BYTES;
 use cw_expressions::expressions::{fact_one_expression, read_expression};
 use cw_grammar::spelling::lexemes;
 use cw_grammar::terminals::Lexeme;
@@ -66,7 +67,7 @@ fn listed(alloc: Global, tokens: &[Token]) -> Result<String, AllocError> {
 }
 
 fn tokens_told(alloc: Global, source: &[u8]) -> Result<String, AllocError>
-    requires short { length source.now ≤ 262144 }
+    requires short { length source.now ≤ SOURCE_BYTES }
 {
     match lex(alloc, source) {
         Ok(tokens) => listed(alloc, &tokens),
@@ -123,7 +124,7 @@ pub fn terminals_told(
 }
 
 fn program_told(alloc: Global, source: &[u8], whole: bool) -> Result<String, AllocError>
-    requires short { length source.now ≤ 262144 }
+    requires short { length source.now ≤ SOURCE_BYTES }
 {
     let Ok(tokens) = lex(alloc, source) else {
         return String::from_str(alloc, "no tokens");
@@ -158,7 +159,7 @@ fn uses_told(alloc: Global, checked: &Checked) -> Result<String, AllocError> {
 }
 
 fn source_told(alloc: Global, source: &[u8], uses: bool) -> Result<String, AllocError>
-    requires short { length source.now ≤ 262144 }
+    requires short { length source.now ≤ SOURCE_BYTES }
 {
     match read_source(alloc, source) {
         Ok(checked) => {

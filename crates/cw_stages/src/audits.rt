@@ -16,12 +16,13 @@ use cw_audit_check::BadGroup;
 use cw_audit_table::AuditTable;
 use cw_audit_text::{AuditTextFault, read_audit};
 use cw_commands::Reply;
+use cw_core::limits::FILE_BYTES_IN_FORMAT_2;
 use cw_io::{Sink, Writer};
 use std::alloc::Global;
 
 /// The audit whose text this is; or the first line at fault.
 pub fn audit_in(alloc: Global, text: &[u8]) -> Result<AuditTable, Stop>
-    requires { length text.now ≤ 33554432 }
+    requires { length text.now ≤ FILE_BYTES_IN_FORMAT_2 }
     ensures spells { IfOk result (λ audit. Spells text.now (audit_of audit)) }
     ensures few { IfOk result (λ audit. AreFew audit.groups.items) }
     ensures stop { IfErr result (λ stop. (whole : PlainPolicy) → (source : List ℕ) → IsStop whole source (IsAuditRefusal text.now) stop) }

@@ -22,6 +22,7 @@ ghost use Rattle.cw_stages.specs.Stops.{file_in, source_of, whole_of, IsReading,
 use crate::reading::Reading;
 use crate::stop::Stop;
 use cw_callgraph::fit_fault;
+use cw_core::limits::POINTS;
 use cw_core::{NoMemory, Quantity};
 use cw_points::build::build;
 use cw_points::{Graph, PointsFault};
@@ -61,7 +62,7 @@ pub fn draw(alloc: Global, reading: &Reading) -> Result<Graph, Stop>
     requires is { IsReading reading.now }
     ensures graph { IfOk result (λ graph. IsGraph (names_of (whole_of reading.now)) (source_of reading.now) (file_in reading.now) graph) }
     ensures few { IfOk result (λ _. point_count (plan_of (names_of (whole_of reading.now)) (source_of reading.now) (file_in reading.now)) ≤ limit_of Points) }
-    ensures points { IfOk result (λ graph. length graph.nodes.items ≤ 8192) }
+    ensures points { IfOk result (λ graph. length graph.nodes.items ≤ POINTS) }
     ensures stop { IfErr result (IsStop (whole_of reading.now) (source_of reading.now)
         (IsPointsRefusal (source_of reading.now) (whole_of reading.now) (file_in reading.now))) }
 {
@@ -93,7 +94,7 @@ pub fn make_game<'g>(
 ) -> Result<Game<'g>, Stop>
     requires is { IsReading reading.now }
     requires graph { IsGraph (names_of (whole_of reading.now)) (source_of reading.now) (file_in reading.now) graph.now }
-    requires points { length graph.now.nodes.items ≤ 8192 }
+    requires points { length graph.now.nodes.items ≤ POINTS }
     ensures game { IfOk result (λ game. IsGame (whole_of reading.now) graph.now game) }
     ensures made { IfOk result (λ game. IsMade game) }
     ensures is_game { IfOk result (λ game. IsGameOf (problem_of (whole_of reading.now) (source_of reading.now) (file_in reading.now)) (game_of game)) }

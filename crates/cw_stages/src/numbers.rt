@@ -8,6 +8,7 @@ ghost use Rattle.cw_lazy_table.specs.Lazy.{table_rows};
 ghost use Rattle.cw_least_strategy.specs.Strategies.{backs_in, rows_of};
 
 use cw_certs::{How, WeaverCert};
+use cw_core::limits::ROWS;
 use cw_least_strategy::LeastStrategy;
 use cw_product::Game;
 use cw_solve::Solved;
@@ -47,7 +48,7 @@ impl Numbers {
 
 /// The rows of all lists of a table.
 pub(crate) fn table_rows(table: &WeaverCert) -> u64
-    requires few { table_rows table.now ≤ 65536 }
+    requires few { table_rows table.now ≤ ROWS }
     ensures { result ≡ table_rows table.now }
 {
     let rows = table.mems().len() + table.live().len() + table.tries().len() + table.ats().len();
@@ -67,7 +68,7 @@ fn backs_in(how: &How) -> usize
 
 /// The rows of a strategy, and the backs of each.
 pub(crate) fn strategy_rows(strategy: &LeastStrategy) -> u64
-    requires few { rows_of strategy.now ≤ 65536 }
+    requires few { rows_of strategy.now ≤ ROWS }
     ensures { result ≡ rows_of strategy.now }
 {
     let mut rows = strategy.count();

@@ -8,6 +8,7 @@ ghost use Rattle.cw_stages.specs.Reading.{IsSourceUnread};
 ghost use Rattle.cw_stages.specs.Stops.{file_in, source_of, IsReading, IsStop};
 
 use crate::stop::Stop;
+use cw_core::limits::SOURCE_BYTES;
 use cw_rights::Policy;
 use cw_source_graph::{ProgramFault, program_under};
 use cw_syntax::checked::Checked;
@@ -26,7 +27,7 @@ pub fn read_under<'r>(
     policy: &'r Policy,
     source: &'r [u8],
 ) -> Result<Reading<'r>, Stop>
-    requires short { length source.now ≤ 262144 }
+    requires short { length source.now ≤ SOURCE_BYTES }
     requires valid { IsValid (policy_of policy.now) }
     ensures policy { IfOk result (λ reading. reading.policy.now ≡ policy.now) }
     ensures source { IfOk result (λ reading. source_of reading ≡ source.now) }

@@ -18,6 +18,7 @@ use crate::reading::Reading;
 use crate::stop::Stop;
 use crate::told::Text;
 use cw_commands::Reply;
+use cw_core::limits::{FILE_BYTES_IN_FORMAT_2, POINTS};
 use cw_io::{Sink, Writer};
 use cw_points::Graph;
 use cw_rights::Policy;
@@ -28,7 +29,7 @@ use std::alloc::Global;
 /// The parts of a woven text of at most 33,554,432 bytes; or the first of them at fault, for which no source is looked at.
 pub fn open<'t>(alloc: Global, policy: &Policy, text: &'t [u8]) -> Result<Unwoven<'t>, Stop>
     requires valid { IsValid (policy_of policy.now) }
-    requires short { length text.now ≤ 33554432 }
+    requires short { length text.now ≤ FILE_BYTES_IN_FORMAT_2 }
     ensures text { IfOk result (λ parts. parts.text.now ≡ text.now) }
     ensures unwoven { IfOk result (λ parts. IsUnwoven (policy_of policy.now) parts) }
     ensures stop { IfErr result (IsStop (policy_of policy.now) [] (IsWovenRefusal (policy_of policy.now) text.now)) }
@@ -52,7 +53,7 @@ pub fn accept<'r>(
     ensures is { IfOk result (λ both. IsReading both.0) }
     ensures read { IfOk result (λ both. ReadsWoven (policy_of policy.now) unwoven.now.text.now unwoven.now.source.items (file_in both.0) unwoven.now.table) }
     ensures graph { IfOk result (λ both. IsGraph (names_of (whole_of both.0)) (source_of both.0) (file_in both.0) both.1) }
-    ensures points { IfOk result (λ both. length both.1.nodes.items ≤ 8192) }
+    ensures points { IfOk result (λ both. length both.1.nodes.items ≤ POINTS) }
     ensures few { IfOk result (λ _. HasFewRows unwoven.now.table) }
     ensures stop { IfErr result (IsStop (policy_of policy.now) unwoven.now.source.items (IsWovenRefusal (policy_of policy.now) unwoven.now.text.now)) }
 {

@@ -8,12 +8,13 @@ ghost use Rattle.cw_stages.specs.Tapes.{IsTapeRefusal};
 
 use crate::stop::Stop;
 use cw_certs::Move;
+use cw_core::limits::FILE_BYTES_IN_FORMAT_2;
 use cw_text::{TextFault, read_tape};
 use std::alloc::Global;
 
 /// The moves of a tape, a play's or a run's; or its first line that has another entry.
 pub fn moves_of(alloc: Global, text: &[u8], play: bool) -> Result<Vec<Move>, Stop>
-    requires { length text.now ≤ 33554432 }
+    requires { length text.now ≤ FILE_BYTES_IN_FORMAT_2 }
     ensures moves { IfOk result (λ moves. IsTape play text.now moves.items) }
     ensures stop { IfErr result (λ stop. (whole : PlainPolicy) → (source : List ℕ) → IsStop whole source (IsTapeRefusal play text.now) stop) }
 {

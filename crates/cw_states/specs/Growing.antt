@@ -1,5 +1,7 @@
 -- Working definitions: the rights states that follow one, as the search lists them.
 use Rattle.std.specs.Prelude.{ℕ, ◌+◌, ◌<◌, ◌≤◌, List, [], ◌∷◌, ◌++◌, Bool, true, false, cond, Option, Some, None, All, length, map, slice_get}
+use Rattle.cw_core.specs.Quantities.{limit_of}
+use Rattle.cw_core.specs.declared.quantity.Quantity.TheVariants.{Descriptors}
 use Rattle.cw_rights.specs.declared.capabilities.Rights.{Rights}
 use Rattle.cw_rights.specs.declared.capabilities.Caps.{Caps}
 use Rattle.cw_rights.specs.declared.capabilities.Limit.{Limit as ALimit}
@@ -57,5 +59,5 @@ abbrev pub AreHolds : List ALimit → Type 0
 AreHolds limits = All (λ limit. limit.descriptor < 8) limits
 
 pub record IsNarrow (policy : PlainPolicy) : Type 0 where
-  pub descriptors : length policy.descriptors ≤ 8
+  pub descriptors : length policy.descriptors ≤ limit_of Descriptors
   pub limits : AreHolds policy.limits

@@ -2,8 +2,8 @@
 use Rattle.std.specs.Prelude.{◌≡◌, ℕ, zero, suc, ◌+◌, ◌*◌, ◌/◌, ◌%◌, ◌<◌, ◌≤◌, List, [], ◌++◌, Option, cond, is_some, nat_eq, length, map, position, slice_get, slice_index, slice_index_or, unwrap_or}
 use Rattle.std.specs.Ordering.{eq_by_cmp, nat_cmp}
 use Rattle.cw_fixpoint.specs.Closures.{Exactly, HasMore}
-use Rattle.cw_core.specs.declared.quantity.Quantity.TheVariants.{ProductStates}
-use Rattle.cw_core.specs.Quantities.{limit_in}
+use Rattle.cw_core.specs.declared.quantity.Quantity.TheVariants.{ProductStates, RightsStates, PolicyStates}
+use Rattle.cw_core.specs.Quantities.{limit_in, limit_of}
 use Rattle.cw_rights.specs.declared.capabilities.Caps.{Caps}
 use Rattle.cw_rights.specs.declared.words.Letter.{Letter}
 use Rattle.cw_rights.specs.Capabilities.{applied, closed}
@@ -109,17 +109,17 @@ pub record Means (uses : Uses) (v : Lists) (q : ℕ) (w : Word) (c : Caps) : Typ
 
 -- what is within the limits: rights states, policy states, and their pairs
 pub record AreFew (v : Lists) : Type 0 where
-  pub rights : length v.rights ≤ 128
-  pub sets : length v.sets ≤ 64
+  pub rights : length v.rights ≤ limit_of RightsStates
+  pub sets : length v.sets ≤ limit_of PolicyStates
   pub states : count v ≤ limit_in v.policy.format ProductStates
 
 -- why there are no states: the first of these numbers that is over its limit
 abbrev pub IsCause : PlainPolicy → Uses → StatesFault → Type 0
-IsCause policy uses TooManyCaps = HasMore caps_cmp (IsRightsState policy uses) 128
+IsCause policy uses TooManyCaps = HasMore caps_cmp (IsRightsState policy uses) (limit_of RightsStates)
 IsCause policy uses TooManyWords =
-    (rights : List Caps) × Exactly caps_cmp (IsRightsState policy uses) rights × (length rights ≤ 128)
-    × HasMore nat_cmp (Reached policy.rules (letters_of policy uses rights)) 64
+    (rights : List Caps) × Exactly caps_cmp (IsRightsState policy uses) rights × (length rights ≤ limit_of RightsStates)
+    × HasMore nat_cmp (Reached policy.rules (letters_of policy uses rights)) (limit_of PolicyStates)
 IsCause policy uses TooManyStates =
-    (v : Lists) × (v.policy ≡ policy) × AreLists uses v × (length v.rights ≤ 128) × (length v.sets ≤ 64)
+    (v : Lists) × (v.policy ≡ policy) × AreLists uses v × (length v.rights ≤ limit_of RightsStates) × (length v.sets ≤ limit_of PolicyStates)
     × (limit_in policy.format ProductStates < count v)
 IsCause policy uses NoMemory = Unit {0}

@@ -170,9 +170,9 @@ pub(crate) fn rights_states(
     requires narrow { IsNarrow (policy_of policy.now) }
     ensures all { IfOk result (λ found. IfSome found
         (λ v. Exactly caps_cmp (IsRightsState (policy_of policy.now) uses) (all_caps v.items))) }
-    ensures few { IfOk result (λ found. IfSome found (λ v. length v.items ≤ 128)) }
+    ensures few { IfOk result (λ found. IfSome found (λ v. length v.items ≤ RIGHTS_STATES)) }
     ensures many { IfOk result (λ found. IfNone found
-        (HasMore caps_cmp (IsRightsState (policy_of policy.now) uses) 128)) }
+        (HasMore caps_cmp (IsRightsState (policy_of policy.now) uses) RIGHTS_STATES)) }
 {
     let growth = Growth { policy, uses };
     let starts = [Ranked {

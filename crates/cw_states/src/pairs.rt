@@ -17,6 +17,7 @@ use crate::growth::{may_grant, rights_states};
 use crate::masks::{Masks, aheads, masks_below, tested};
 use crate::order::Ranked;
 use crate::uses::Uses;
+use cw_core::limits::POLICY_STATES;
 use cw_core::{Quantity, StateId};
 use cw_dfa::{DfaFault, Rules, start, states_by_masks, step, violated};
 use cw_rights::policy::start_caps;
@@ -442,7 +443,7 @@ fn rules_of<'p>(policy: &'p Policy) -> Rules<'p>
 // The policy states over letters, by their masks.
 fn sets_over(alloc: Global, rules: &Rules, masks: &[u64]) -> Result<Vec<u64>, StatesFault>
     ensures all { IfOk result (λ v. AreReached (rules_in rules.now) masks.now v.items) }
-    ensures few { IfOk result (λ v. length v.items ≤ 64) }
+    ensures few { IfOk result (λ v. length v.items ≤ POLICY_STATES) }
     ensures many { IfErr result (λ fault. IsManyWords (rules_in rules.now) masks.now fault) }
 {
     match states_by_masks(alloc, rules, masks) {

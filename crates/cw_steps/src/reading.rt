@@ -6,12 +6,13 @@ ghost use Rattle.cw_steps.specs.Faults.{IsCause};
 
 use crate::fault::StepsFault;
 use crate::step::{Step, next_step};
+use cw_core::limits::FILE_BYTES_IN_FORMAT_2;
 use std::alloc::Global;
 
 /// The steps whose text this is: a line for each, `PROCESS MOVE`, with its LF. Otherwise Line with the number of the first line that
 /// doesn't fit, from 1. A text has at most 33,554,432 bytes.
 pub fn read_steps(alloc: Global, text: &[u8]) -> Result<Vec<Step>, StepsFault>
-    requires { length text.now ≤ 33554432 }
+    requires { length text.now ≤ FILE_BYTES_IN_FORMAT_2 }
     ensures spells { IfOk result (λ steps. Spells text.now steps.items) }
     ensures fault { IfErr result (λ fault. IsCause text.now fault) }
 {

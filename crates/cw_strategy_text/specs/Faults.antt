@@ -1,5 +1,7 @@
 -- The first line at fault of a text that is no strategy's.
 use Rattle.std.specs.Prelude.{◌≡◌, ◌≢◌, ℕ, ◌+◌, ◌^◌, ◌<◌, List, [], ◌++◌, length, Result, Ok, Err}
+use Rattle.cw_core.specs.Quantities.{limit_of}
+use Rattle.cw_core.specs.declared.quantity.Quantity.TheVariants.{Rows}
 use Rattle.cw_certs.specs.Strategies.{Row, Strategy}
 use Rattle.cw_text.specs.declared.fault.TextFault.{TextFault}
 use Rattle.cw_text.specs.declared.fault.TextFault.TheVariants.{Line, Order, Limit, NoMemory}
@@ -35,7 +37,7 @@ pub data IsFault (format : ℕ) (text : List ℕ) : TextFault → Type 0 where
       → HasRow format rest number row more → number ≢ length rows → IsFault format text (Order (length rows + 3))
   -- the row is the next, and with it and its backs the rows are too many
   no_room : (states : ℕ) (rows : List Row) (rest : List ℕ) (number : ℕ) (row : Row) (more : List ℕ) → Begins format text states rows rest
-      → HasRow format rest number row more → number ≡ length rows → 65536 < row_count rows + rows_in row.how → IsFault format text (Limit (length rows + 3))
+      → HasRow format rest number row more → number ≡ length rows → limit_of Rows < row_count rows + rows_in row.how → IsFault format text (Limit (length rows + 3))
 
 -- why a reader has no strategy to give: the fault of the text, or want of memory
 abbrev pub IsCause : (format : ℕ) (text : List ℕ) → TextFault → Type 0

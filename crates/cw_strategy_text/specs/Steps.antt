@@ -1,5 +1,7 @@
 -- Working definitions, for proofs and the contracts of code alone: what the next line of a strategy's text is, after so many rows.
 use Rattle.std.specs.Prelude.{◌≡◌, ◌≢◌, ℕ, ◌+◌, ◌<◌, List, [], ◌++◌, ◌⊎◌}
+use Rattle.cw_core.specs.Quantities.{limit_of}
+use Rattle.cw_core.specs.declared.quantity.Quantity.TheVariants.{Rows}
 use Rattle.cw_certs.specs.Strategies.{Row}
 use Rattle.cw_text.specs.declared.fault.TextFault.{TextFault}
 use Rattle.cw_text.specs.declared.fault.TextFault.TheVariants.{Line, Order, Limit, NoMemory}
@@ -31,7 +33,7 @@ pub record HasTooMany (format : ℕ) (rest : List ℕ) (count rows : ℕ) : Type
   pub row : Row
   pub more : List ℕ
   pub stands : HasRow format rest count row more
-  pub many : 65536 < rows + rows_in row.how
+  pub many : limit_of Rows < rows + rows_in row.how
 
 -- the fault of the rest of a text, after the lines of `count` rows, which are `rows` with their backs
 abbrev pub IsStepFault : (format : ℕ) (rest : List ℕ) (count rows : ℕ) → TextFault → Type 0

@@ -2,6 +2,8 @@
 use Rattle.std.specs.Prelude.{◌≡◌, ℕ, ◌+◌, ◌^◌, ◌<◌, ◌≤◌, List, [], ◌∷◌, ◌++◌, map, length, codes}
 use Rattle.std.specs.Fmt.{decimal}
 use Rattle.std.specs.List.{All}
+use Rattle.cw_core.specs.Quantities.{limit_of}
+use Rattle.cw_core.specs.declared.quantity.Quantity.TheVariants.{Rows}
 use Rattle.cw_certs.specs.Strategies.{How, Bad, Out, Both, Go, Into, Row, Strategy}
 use Rattle.cw_text.specs.Lines.{line, joined, set_text, IsSetIn, states_line, end_line}
 use Rattle.cw_text.specs.Moves.{move_name, IsEnvironments}
@@ -71,7 +73,7 @@ row_count (r ∷ rows) = rows_in r.how + row_count rows
 pub record Fits (format : ℕ) (s : Strategy) : Type 0 where
   pub states : s.states < 2 ^ 16
   pub rows : All (FitsRow format) s.rows
-  pub few : row_count s.rows ≤ 65536
+  pub few : row_count s.rows ≤ limit_of Rows
 
 -- the text is that of the strategy
 pub record Spells (format : ℕ) (text : List ℕ) (s : Strategy) : Type 0 where

@@ -21,10 +21,10 @@ pub(crate) fn next_row(
     rows: usize,
     format: u8,
 ) -> Result<Option<(EnvRow, &[u8])>, TextFault>
-    requires few { count ≤ 65536 }
-    requires room { rows ≤ 65536 }
+    requires few { count ≤ ROWS }
+    requires room { rows ≤ ROWS }
     ensures row { IfOk result (λ step. IfSome step (λ (row, rest). HasRow format text.now count (row_of row) rest.now)) }
-    ensures within { IfOk result (λ step. IfSome step (λ (row, _). rows + rows_in (how_of row.how) ≤ 65536)) }
+    ensures within { IfOk result (λ step. IfSome step (λ (row, _). rows + rows_in (how_of row.how) ≤ ROWS)) }
     ensures over { IfOk result (λ step. IfNone step (text.now ≡ end_line)) }
     ensures fault { IfErr result (λ fault. IsStepFault format text.now count rows fault) }
 {

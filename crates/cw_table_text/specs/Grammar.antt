@@ -1,6 +1,8 @@
 -- Which texts are those of a table, and which line of any other text is at fault.
 use Rattle.std.specs.Prelude.{◌≡◌, ◌≢◌, ℕ, ◌+◌, ◌^◌, ◌<◌, ◌≤◌, ◌⊎◌, Option, IfSome, Result, Ok, Err, List, [], ◌∷◌, ◌++◌, map, length}
 use Rattle.std.specs.List.{AllByRecursion}
+use Rattle.cw_core.specs.Quantities.{limit_of}
+use Rattle.cw_core.specs.declared.quantity.Quantity.TheVariants.{Rows}
 use Rattle.cw_rights.specs.Policies.{PlainPolicy}
 use Rattle.cw_core.specs.declared.ids.StateId.{StateId}
 use Rattle.cw_core.specs.declared.ids.PosId.{PosId}
@@ -69,7 +71,7 @@ pub record IsOrdered (format : ℕ) (t : Table) : Type 0 where
 -- the same with at most 65,536 rows, all kinds together
 pub record IsTable (format : ℕ) (t : Table) : Type 0 where
   pub ordered : IsOrdered format t
-  pub few : length (rows_of t) ≤ 65536
+  pub few : length (rows_of t) ≤ limit_of Rows
 
 -- the text is that of the table, and the table has a text
 pub record Spells (policy : PlainPolicy) (text : List ℕ) (t : Table) : Type 0 where

@@ -2,6 +2,8 @@
 use Rattle.std.specs.Prelude.{◌≡◌, ◌≢◌, ℕ, ◌-◌, ◌==◌, ◌&&◌, Bool, true, false, Option, None, Some, IfSome, IfNone, codes, List, [], ◌∷◌, ◌++◌, map, length, slice_get, Result, Ok, Err, ◌+◌, ◌^◌, ◌<◌, ◌≤◌}
 use Rattle.std.specs.declared.cmp.Ordering.{Ordering}
 use Rattle.std.specs.Ordering.{is_lt}
+use Rattle.cw_core.specs.Quantities.{limit_of}
+use Rattle.cw_core.specs.declared.quantity.Quantity.TheVariants.{Rows}
 use Rattle.cw_core.specs.declared.ids.MemId.{MemId}
 use Rattle.cw_certs.specs.Ascending.{mem_cmp, live_cmp, try_cmp, at_cmp, open_cmp, into_cmp, back_cmp}
 use Rattle.cw_certs.specs.Tables.{Table, table_with}
@@ -117,14 +119,14 @@ row_lines format rows = map (row_text format) rows
 pub record IsGood (format : ℕ) (t : Table) : Type 0 where
   pub fits : AllByRecursion (Fits format) (rows_of t)
   pub ascend : Ascends t
-  pub few : length (rows_of t) ≤ 65536
+  pub few : length (rows_of t) ≤ limit_of Rows
 
 -- what is wrong behind the rows so far
 abbrev pub IsWrongRow : (format : ℕ) → Table → List ℕ → TextFault → Type 0
 IsWrongRow format t rest (Line n) = (n ≡ length (rows_of t) + 4) × ((l : List ℕ) → GoesOn rest l → (l ≢ done) × ((row : Row) → Fits format row → row_text format row ≢ l))
 IsWrongRow format t rest (Order n) = (n ≡ length (rows_of t) + 4) × (l : List ℕ) × (row : Row) × GoesOn rest l × Fits format row × (row_text format row ≡ l) × (is_next t row ≡ false)
 IsWrongRow format t rest (Limit n) = (n ≡ length (rows_of t) + 4) × (l : List ℕ) × (row : Row) × GoesOn rest l × Fits format
-    row × (row_text format row ≡ l) × (is_next t row ≡ true) × (length (rows_of t) ≡ 65536)
+    row × (row_text format row ≡ l) × (is_next t row ≡ true) × (length (rows_of t) ≡ limit_of Rows)
 IsWrongRow format t rest NoMemory = Unit {0}
 
 -- the line that comes next: CW_DONE, a row that is the next, or what is wrong
@@ -135,7 +137,7 @@ pub record IsRowLine (format : ℕ) (t : Table) (rest : List ℕ) (row : Row) (a
   pub is : rest ≡ line (row_text format row) ++ after
   pub fits : Fits format row
   pub next : is_next t row ≡ true
-  pub few : length (rows_of t) ≢ 65536
+  pub few : length (rows_of t) ≢ limit_of Rows
 
 abbrev pub IsNextLine : (format : ℕ) → Table → List ℕ → Result Next TextFault → Type 0
 IsNextLine format t rest (Ok (Done after)) = IsDoneLine rest after.now

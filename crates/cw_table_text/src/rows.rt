@@ -30,7 +30,7 @@ fn next_row<'t>(
     draft: &Draft,
 ) -> Result<Next<'t>, TextFault>
     requires count { count ≡ length (rows_of (table_of draft.now)) }
-    requires few { count ≤ 65536 }
+    requires few { count ≤ ROWS }
     ensures { IsNextLine format (table_of draft.now) text.now result }
 {
     let number = count + 4;

@@ -7,12 +7,13 @@ ghost use Rattle.cw_text.specs.TapeLines.{Adds, IsLineFault};
 use crate::TextFault;
 use crate::tape_moves::{is_white, move_of};
 use cw_certs::Move;
+use cw_core::limits::FILE_BYTES_IN_FORMAT_2;
 use std::alloc::Global;
 
 /// The moves of a tape, a play's or a run's: fields with white space between, each the name of a move. Otherwise Line with the number
 /// of the first line that has another field, counted from 1 by LF. A text has at most 33,554,432 bytes.
 pub fn read_tape(alloc: Global, text: &[u8], play: bool) -> Result<Vec<Move>, TextFault>
-    requires { length text.now ≤ 33554432 }
+    requires { length text.now ≤ FILE_BYTES_IN_FORMAT_2 }
     ensures moves { IfOk result (λ moves. IsTape play text.now moves.items) }
     ensures fault { IfErr result (λ fault. IsFault play text.now fault) }
 {

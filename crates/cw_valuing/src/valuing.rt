@@ -29,6 +29,7 @@ use cw_answers::{AnswersFault, read_answers};
 use cw_certs::WeaverCert;
 use cw_commands::{Outcome, Reply};
 use cw_core::NoMemory;
+use cw_core::limits::{FILE_BYTES_IN_FORMAT_2, POINTS};
 use cw_io::{Sink, Writer};
 use cw_points::Graph;
 use cw_policy::read_policy;
@@ -138,7 +139,7 @@ fn with_game<O: Sink>(
 ) -> Result<Text<O>, Stop>
     requires is { IsReading reading.now }
     requires graph { IsGraph (names_of (whole_of reading.now)) (source_of reading.now) (file_in reading.now) graph.now }
-    requires points { length graph.now.nodes.items ≤ 8192 }
+    requires points { length graph.now.nodes.items ≤ POINTS }
     requires few { HasFewRows table.now }
     requires fits { Fits (source_of reading.now) (file_in reading.now) (whole_of reading.now) }
     requires formed { shape (source_of reading.now) (file_in reading.now) ≡ None }
@@ -163,7 +164,7 @@ fn formed<O: Sink, N: Sink>(
 ) -> Result<Outcome<O, N>, NoMemory>
     requires is { IsReading reading.now }
     requires graph { IsGraph (names_of (whole_of reading.now)) (source_of reading.now) (file_in reading.now) graph.now }
-    requires points { length graph.now.nodes.items ≤ 8192 }
+    requires points { length graph.now.nodes.items ≤ POINTS }
     requires few { HasFewRows table.now }
     requires fits { Fits (source_of reading.now) (file_in reading.now) (whole_of reading.now) }
     requires in_order { AreInOrder (answers_of answers.now) }
@@ -196,7 +197,7 @@ fn fitted<O: Sink, N: Sink>(
 ) -> Result<Outcome<O, N>, NoMemory>
     requires is { IsReading reading.now }
     requires graph { IsGraph (names_of (whole_of reading.now)) (source_of reading.now) (file_in reading.now) graph.now }
-    requires points { length graph.now.nodes.items ≤ 8192 }
+    requires points { length graph.now.nodes.items ≤ POINTS }
     requires few { HasFewRows table.now }
     requires in_order { AreInOrder (answers_of answers.now) }
     ensures due { let whole = whole_of reading.now in let source = source_of reading.now in let file = file_in reading.now in
@@ -222,9 +223,9 @@ fn answered<O: Sink, N: Sink>(
 ) -> Result<Outcome<O, N>, NoMemory>
     requires is { IsReading reading.now }
     requires graph { IsGraph (names_of (whole_of reading.now)) (source_of reading.now) (file_in reading.now) graph.now }
-    requires points { length graph.now.nodes.items ≤ 8192 }
+    requires points { length graph.now.nodes.items ≤ POINTS }
     requires few { HasFewRows table.now }
-    requires short { length answers.now ≤ 33554432 }
+    requires short { length answers.now ≤ FILE_BYTES_IN_FORMAT_2 }
     ensures due { IfOk result (λ outcome. AfterWoven answers.now (source_of reading.now) (whole_of reading.now) (file_in reading.now) table.now (due_of outcome)) }
     ensures puts { Starts O.taken O.faults O.refused out.old out.new result }
     ensures notes { StartsLine N.taken N.faults N.refused note.old note.new result }
@@ -247,7 +248,7 @@ fn accepted<O: Sink, N: Sink>(
 ) -> Result<Outcome<O, N>, NoMemory>
     requires valid { IsValid (policy_of policy.now) }
     requires unwoven { IsUnwoven (policy_of policy.now) parts.now }
-    requires short { length answers.now ≤ 33554432 }
+    requires short { length answers.now ≤ FILE_BYTES_IN_FORMAT_2 }
     ensures due { IfOk result (λ outcome. AfterPolicy parts.now.text.now answers.now (policy_of policy.now) (due_of outcome)) }
     ensures puts { Starts O.taken O.faults O.refused out.old out.new result }
     ensures notes { StartsLine N.taken N.faults N.refused note.old note.new result }
@@ -268,8 +269,8 @@ fn unwoven<O: Sink, N: Sink>(
     note: &mut N,
 ) -> Result<Outcome<O, N>, NoMemory>
     requires valid { IsValid (policy_of policy.now) }
-    requires short { length text.now ≤ 33554432 }
-    requires short_answers { length answers.now ≤ 33554432 }
+    requires short { length text.now ≤ FILE_BYTES_IN_FORMAT_2 }
+    requires short_answers { length answers.now ≤ FILE_BYTES_IN_FORMAT_2 }
     ensures due { IfOk result (λ outcome. AfterPolicy text.now answers.now (policy_of policy.now) (due_of outcome)) }
     ensures puts { Starts O.taken O.faults O.refused out.old out.new result }
     ensures notes { StartsLine N.taken N.faults N.refused note.old note.new result }
@@ -289,8 +290,8 @@ pub fn values_due<O: Sink, N: Sink>(
     out: &mut O,
     note: &mut N,
 ) -> Result<Outcome<O, N>, NoMemory>
-    requires short { length text.now ≤ 33554432 }
-    requires short_answers { length answers.now ≤ 33554432 }
+    requires short { length text.now ≤ FILE_BYTES_IN_FORMAT_2 }
+    requires short_answers { length answers.now ≤ FILE_BYTES_IN_FORMAT_2 }
     ensures due { IfOk result (λ outcome. IsValuesDue policy.now text.now answers.now (due_of outcome)) }
     ensures puts { Starts O.taken O.faults O.refused out.old out.new result }
     ensures notes { StartsLine N.taken N.faults N.refused note.old note.new result }

@@ -1,5 +1,7 @@
 -- What the conditions of a table are good for.
 use Rattle.std.specs.Prelude.{◌≡◌, ℕ, ◌+◌, ◌≤◌, List, [], true, length}
+use Rattle.cw_core.specs.Quantities.{limit_of}
+use Rattle.cw_core.specs.declared.quantity.Quantity.TheVariants.{Limits}
 use Rattle.cw_certs.specs.Tables.{Table}
 use Rattle.cw_model.specs.Boards.{Problem, start_board, Forced}
 use Rattle.cw_model.specs.Runs.{State, WovenRun, Goes, reached, erased, tries, Sound, Lazy}
@@ -14,7 +16,7 @@ use Rattle.cw_game.specs.Necessity.{TriesOnlyLost}
 -- Each table that meets the nine conditions of a game of a program and its policy is sound, over stacks of any depth: no woven run violates, no path
 -- is added, each path is that of a run without a stop, and each stop comes right after a refusal of what could have been granted.
 abbrev pub GoodTablesAreSound : Type 0
-GoodTablesAreSound = (p : Problem) (g : Game) (t : Table) → IsGameOf p g → IsGoodTable g t → length p.policy.limits ≤ 12 → Sound p t
+GoodTablesAreSound = (p : Problem) (g : Game) (t : Table) → IsGameOf p g → IsGoodTable g t → length p.policy.limits ≤ limit_of Limits → Sound p t
 
 -- Where it tries only what is lost to skip, and stops only where going on is lost, it is lazy.
 abbrev pub GoodTablesAreLazy : Type 0
@@ -25,7 +27,7 @@ GoodTablesAreLazy = (p : Problem) (g : Game) (t : Table) → IsGameOf p g → Is
 abbrev pub ConditionsMakeSound : Type 0
 ConditionsMakeSound = (p : Problem) (g : Game) (t : Table) → g.policy ≡ p.policy
     → AreStates g.policy g.spots g.states (Reached g.policy g.spots g.states) → IsLaidOut p.plan g
-    → is_closed_table g t ≡ true → length p.policy.limits ≤ 12 → Sound p t
+    → is_closed_table g t ≡ true → length p.policy.limits ≤ limit_of Limits → Sound p t
 
 -- Where the program has the functions that are called, too, and the table tries only what is lost to skip and stops only where going on is lost, a
 -- primitive is tried, and the program stopped, at a board of a woven run only where the board after a skip is forced.

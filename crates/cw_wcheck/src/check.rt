@@ -17,6 +17,7 @@ use crate::memories::{has_all_states, meaning};
 use crate::ranges::{is_header, range_fault};
 use crate::rows::failing_condition;
 use cw_certs::{WeaverCert, is_live};
+use cw_core::limits::LIMITS;
 use cw_product::Game;
 
 /// The second condition: the start memory means the start state with all states as promise, and it is live at the start position.
@@ -92,7 +93,7 @@ pub fn check_weaver(game: &Game, cert: &WeaverCert) -> Result<(), BadRow>
     ensures good { IsOk result ↔ IsGoodTable (game_of game.now) cert.now }
     ensures fault { IfErr result (λ row. option_map numbered (table_fault (game_of game.now) cert.now) ≡ Some row) }
 
-    ensures sound { IsOk result → (p : Problem) → IsGameOf p (game_of game.now) → length p.policy.limits ≤ 12 → Sound p cert.now }
+    ensures sound { IsOk result → (p : Problem) → IsGameOf p (game_of game.now) → length p.policy.limits ≤ LIMITS → Sound p cert.now }
 {
     match first_fault(game, cert) {
         Some(row) => Err(row),

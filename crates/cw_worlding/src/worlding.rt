@@ -26,6 +26,7 @@ use crate::steps::steps_refusal;
 use cw_certs::WeaverCert;
 use cw_commands::{Outcome, Reply};
 use cw_core::NoMemory;
+use cw_core::limits::{FILE_BYTES_IN_FORMAT_2, POINTS};
 use cw_io::{Sink, Writer};
 use cw_points::Graph;
 use cw_policy::read_policy;
@@ -131,7 +132,7 @@ fn fitted<O: Sink>(
 ) -> Result<Text<O>, Stop>
     requires is { IsReading reading.now }
     requires graph { IsGraph (names_of (whole_of reading.now)) (source_of reading.now) (file_in reading.now) graph.now }
-    requires points { length graph.now.nodes.items ≤ 8192 }
+    requires points { length graph.now.nodes.items ≤ POINTS }
     requires few { HasFewRows table.now }
     requires steps { length steps.now < 2 ^ 32 - 1 }
     ensures due { let whole = whole_of reading.now in let source = source_of reading.now in let file = file_in reading.now in
@@ -155,9 +156,9 @@ fn stepped<O: Sink, N: Sink>(
 ) -> Result<Outcome<O, N>, NoMemory>
     requires is { IsReading reading.now }
     requires graph { IsGraph (names_of (whole_of reading.now)) (source_of reading.now) (file_in reading.now) graph.now }
-    requires points { length graph.now.nodes.items ≤ 8192 }
+    requires points { length graph.now.nodes.items ≤ POINTS }
     requires few { HasFewRows table.now }
-    requires short { length steps.now ≤ 33554432 }
+    requires short { length steps.now ≤ FILE_BYTES_IN_FORMAT_2 }
     ensures due { IfOk result (λ outcome. AfterWoven steps.now (source_of reading.now) (whole_of reading.now) (file_in reading.now) table.now (due_of outcome)) }
     ensures puts { Starts O.taken O.faults O.refused out.old out.new result }
     ensures notes { StartsLine N.taken N.faults N.refused note.old note.new result }
@@ -185,7 +186,7 @@ fn accepted<O: Sink, N: Sink>(
 ) -> Result<Outcome<O, N>, NoMemory>
     requires valid { IsValid (policy_of policy.now) }
     requires unwoven { IsUnwoven (policy_of policy.now) parts.now }
-    requires short { length steps.now ≤ 33554432 }
+    requires short { length steps.now ≤ FILE_BYTES_IN_FORMAT_2 }
     ensures due { IfOk result (λ outcome. AfterPolicy parts.now.text.now steps.now (policy_of policy.now) (due_of outcome)) }
     ensures puts { Starts O.taken O.faults O.refused out.old out.new result }
     ensures notes { StartsLine N.taken N.faults N.refused note.old note.new result }
@@ -206,8 +207,8 @@ fn unwoven<O: Sink, N: Sink>(
     note: &mut N,
 ) -> Result<Outcome<O, N>, NoMemory>
     requires valid { IsValid (policy_of policy.now) }
-    requires short { length text.now ≤ 33554432 }
-    requires short_steps { length steps.now ≤ 33554432 }
+    requires short { length text.now ≤ FILE_BYTES_IN_FORMAT_2 }
+    requires short_steps { length steps.now ≤ FILE_BYTES_IN_FORMAT_2 }
     ensures due { IfOk result (λ outcome. AfterPolicy text.now steps.now (policy_of policy.now) (due_of outcome)) }
     ensures puts { Starts O.taken O.faults O.refused out.old out.new result }
     ensures notes { StartsLine N.taken N.faults N.refused note.old note.new result }
@@ -227,8 +228,8 @@ pub fn world_due<O: Sink, N: Sink>(
     out: &mut O,
     note: &mut N,
 ) -> Result<Outcome<O, N>, NoMemory>
-    requires short { length text.now ≤ 33554432 }
-    requires short_steps { length steps.now ≤ 33554432 }
+    requires short { length text.now ≤ FILE_BYTES_IN_FORMAT_2 }
+    requires short_steps { length steps.now ≤ FILE_BYTES_IN_FORMAT_2 }
     ensures due { IfOk result (λ outcome. IsWorldDue policy.now text.now steps.now (due_of outcome)) }
     ensures puts { Starts O.taken O.faults O.refused out.old out.new result }
     ensures notes { StartsLine N.taken N.faults N.refused note.old note.new result }

@@ -17,6 +17,7 @@ use crate::fault::WovenFault;
 use crate::parts::{Insertion, without};
 use crate::scanning::{Scanned, scan};
 use cw_certs::WeaverCert;
+use cw_core::limits::FILE_BYTES_IN_FORMAT_2;
 use cw_points::marks::marks;
 use cw_rights::Policy;
 use cw_table_text::read_tables;
@@ -64,7 +65,7 @@ pub fn open_woven<'t>(
     text: &'t [u8],
     policy: &Policy,
 ) -> Result<Unwoven<'t>, WovenFault>
-    requires short { length text.now ≤ 33554432 }
+    requires short { length text.now ≤ FILE_BYTES_IN_FORMAT_2 }
     ensures text { IfOk result (λ remainder. remainder.text.now ≡ text.now) }
     ensures remainder { IfOk result (λ remainder. IsUnwoven (policy_of policy.now) remainder) }
     ensures fault { IfErr result (IsUnopened (policy_of policy.now) text.now) }
@@ -138,7 +139,7 @@ fn is_woven(alloc: Global, remainder: &Unwoven, policy: &Policy) -> Result<(), W
 /// `NoMemory`: memory ran out.
 pub fn read_woven(alloc: Global, text: &[u8], policy: &Policy) -> Result<Woven, WovenFault>
     requires valid { IsValid (policy_of policy.now) }
-    requires short { length text.now ≤ 33554432 }
+    requires short { length text.now ≤ FILE_BYTES_IN_FORMAT_2 }
     ensures reads { IfOk result (λ woven. Reads (policy_of policy.now) text.now woven.source.items woven.table) }
     ensures fault { IfErr result (IsFault (policy_of policy.now) text.now) }
 {

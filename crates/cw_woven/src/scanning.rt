@@ -8,6 +8,7 @@ ghost use Rattle.cw_woven.specs.Reading.{IsMark};
 use crate::fault::WovenFault;
 use crate::parts::{CLOSING, Insertion, OPENING, cut_at};
 use crate::spelling::is_spelling;
+use cw_core::limits::FILE_BYTES_IN_FORMAT_2;
 use cw_text::behind;
 use std::alloc::Global;
 
@@ -30,7 +31,7 @@ fn prologue(text: &[u8]) -> Option<(&[u8], &[u8])>
 /// How many bytes stand before what opens with this many behind it.
 fn place_of(whole: usize, remainder: usize) -> u32
     requires within { remainder + 7 ≤ whole }
-    requires short { whole ≤ 33554432 }
+    requires short { whole ≤ FILE_BYTES_IN_FORMAT_2 }
     ensures { result + (remainder + 7) ≡ whole }
 {
     (whole - (remainder + 7)) as u32
@@ -65,7 +66,7 @@ fn next_part(left: &[u8]) -> Next<'_>
 
 /// The parts of a text of at most 33,554,432 bytes.
 pub(crate) fn scan(alloc: Global, text: &[u8]) -> Result<Scanned<'_>, WovenFault>
-    requires short { length text.now ≤ 33554432 }
+    requires short { length text.now ≤ FILE_BYTES_IN_FORMAT_2 }
     ensures parts { IfOk result (λ s. IsScanned text.now s) }
     ensures fault { IfErr result (IsScanFault text.now) }
 {
