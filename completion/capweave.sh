@@ -65,3 +65,35 @@ _capweave_tell() {
     esac
 }
 complete -o filenames -F _capweave_tell capweave-tell
+
+# The outlines of real C: words, files and one option; behind `--` come the compiler's flags.
+_capweave_outline() {
+    local word=${COMP_WORDS[COMP_CWORD]} place=0 said="" index
+    for ((index = 1; index < COMP_CWORD; index++)); do
+        case ${COMP_WORDS[index]} in
+        --) COMPREPLY=($(compgen -f -- "$word")); return ;;
+        -o) index=$((index + 1)) ;;
+        *)
+            place=$((place + 1))
+            if [ $place -eq 1 ]; then said=${COMP_WORDS[index]}; fi
+            ;;
+        esac
+    done
+    if [ "${COMP_WORDS[COMP_CWORD - 1]}" = -o ]; then
+        COMPREPLY=($(compgen -f -- "$word"))
+        return
+    fi
+    if [[ $word == -* ]]; then
+        case $said in
+        "") COMPREPLY=($(compgen -W "--help --version" -- "$word")) ;;
+        outline | weave) COMPREPLY=($(compgen -W "-o --" -- "$word")) ;;
+        esac
+        return
+    fi
+    case $said:$place in
+    :0) COMPREPLY=($(compgen -W "outline weave same" -- "$word")) ;;
+    weave:1) _capweave_files '*.toml' "$word" ;;
+    outline:1 | weave:2 | same:[12]) _capweave_files '*.c' "$word" ;;
+    esac
+}
+complete -o filenames -F _capweave_outline capweave-outline
