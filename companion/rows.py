@@ -193,7 +193,7 @@ row("warn: a split function's calls", "warn p.toml s.c", {"p.toml": SPLIT, "s.c"
 row("warn: an open in capability mode", "warn p.toml s.c", {"p.toml": policy(descriptor("fd"), limit("fd", "CAP_READ"), at("a", never="amb;fd:CAP_WRITE")),
     "s.c": "int fd = -1;\nint main(void) {\n    while (more()) {\n        fd = open(next(), 0);\na:\n        close(fd);\n    }\n    return 0;\n}\n".replace("open(next(), 0)", "open(name, 0)")}, 0, [
     "s.c:4:14: warning: the open of 'fd' is reached in capability mode on some runs, where it fails (ECAPMODE); no placement keeps a label before it ambient (`must = [\"amb\"]`)"], out=True)
-for opened in ("openat(d, name, 0)", "accept(d, 0, 0)"):
+for opened in ("openat(d, name, 0)", "accept(d, 0, 0)", "socket(1, 1, 0)"):
     row("warn: %s in capability mode" % opened, "warn p.toml s.c", {"p.toml": policy(descriptor("fd"), at("a", never="amb;fd:CAP_WRITE"), limit("fd", "CAP_READ")),
         "s.c": "int fd = -1;\nint main(void) {\n    while (more()) {\n        fd = %s;\na:\n        close(fd);\n    }\n    return 0;\n}\n" % opened}, 0, [], out=True)
 row("warn: an open below the working directory", "warn p.toml s.c", {"p.toml": policy(at("a", never="amb")), "s.c": "int main(void) {\na:\n    n = openat(AT_FDCWD, \"x\", 0);\n    return 0;\n}\n"}, 0, [
