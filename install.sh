@@ -65,7 +65,7 @@ for file in "$here"/man/*.1; do
     put 644 share/man/man1 "$file"
 done
 # one file has the completion of every word, and bash looks it up by the name of the command
-for name in capweave capweave-tell; do
+for name in capweave capweave-tell capweave-outline; do
     put 644 share/bash-completion/completions "$here/completion/capweave.sh" "$name"
 done
 if [ $remove = yes ]; then

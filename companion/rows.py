@@ -919,7 +919,8 @@ def try_make(program, folder):
 
 
 INSTALLED = ("bin/capweave", "bin/capweave-tell", "include/capweave.h", "share/man/man1/capweave.1", "share/man/man1/capweave-tell.1", "share/capweave/capweave.c",
-             "share/bash-completion/completions/capweave", "share/bash-completion/completions/capweave-tell", "share/doc/capweave/COMPANION.md", "share/doc/capweave/GUIDE.md", "share/capweave/examples/wc.c", "share/capweave/examples/Makefile",
+             "share/bash-completion/completions/capweave", "share/bash-completion/completions/capweave-outline", "share/bash-completion/completions/capweave-tell",
+             "share/doc/capweave/COMPANION.md", "share/doc/capweave/GUIDE.md", "share/capweave/examples/wc.c", "share/capweave/examples/Makefile",
              "share/capweave/samples/cmp.c")
 
 
