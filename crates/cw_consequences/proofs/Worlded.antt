@@ -24,7 +24,8 @@ use Rattle.cw_commands.specs.declared.outcome.Reply.TheVariants.{No}
 use Rattle.cw_commands.specs.Outcomes.{Due, Told}
 use Rattle.cw_stages.specs.Games.{WhereWovenFits}
 use Rattle.cw_stages.specs.Tables.{told as table_told}
-use Rattle.cw_worlding.specs.Worlding.{world_told, steps_refusal, AfterPolicy, AfterWoven, IsWorldDue, IsWorldShown, IsWorldTold, WithSteps}
+use Rattle.cw_stages.specs.Steps.{steps_refusal}
+use Rattle.cw_worlding.specs.Worlding.{world_told, AfterPolicy, AfterWoven, IsWorldDue, IsWorldShown, IsWorldTold, WithSteps}
 use Rattle.cw_consequences.proofs.Answered.{one_with_woven}
 use Rattle.cw_consequences.proofs.Singles.{IsOne, one_behind, one_where_woven_fits}
 

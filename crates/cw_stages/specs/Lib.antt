@@ -6,6 +6,7 @@ pub mod Strategies
 pub mod Tables
 pub mod Tapes
 pub mod Audits
+pub mod Steps
 pub mod Verdicts
 pub mod Counting
 pub mod Stops

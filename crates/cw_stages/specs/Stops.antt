@@ -19,10 +19,11 @@ use Rattle.cw_commands.specs.Starts.{IsRefused}
 use Rattle.cw_stages.specs.declared.numbers.Numbers.{Numbers}
 use Rattle.cw_stages.specs.declared.reading.Reading.{Reading}
 use Rattle.cw_stages.specs.declared.stop.Stop.{Stop}
-use Rattle.cw_stages.specs.declared.stop.Stop.TheVariants.{Source, Descriptors, Fit, Detached, Strategy, Woven, Tape, Audit, Over, NoMemory}
+use Rattle.cw_stages.specs.declared.stop.Stop.TheVariants.{Source, Descriptors, Fit, Detached, Strategy, Woven, Tape, Audit, Steps, Over, NoMemory}
 use Rattle.cw_stages.specs.declared.told.Text.{Text}
 use Rattle.cw_stages.specs.declared.told.Verdict.{Verdict}
 use Rattle.cw_stages.specs.Audits.{audit_refusal}
+use Rattle.cw_stages.specs.Steps.{steps_refusal}
 use Rattle.cw_stages.specs.Fitting.{fit_line}
 use Rattle.cw_stages.specs.Refusals.{descriptor_line, over, policy_detached, source_refusal}
 use Rattle.cw_stages.specs.Strategies.{strategy_refusal}
@@ -54,6 +55,7 @@ Refuses whole text (Strategy f) due = (f ≢ fault.NoMemory) × (due ≡ strateg
 Refuses whole text (Woven f) due = (f ≢ woven.NoMemory) × (due ≡ woven_refusal whole text f)
 Refuses whole text (Tape line) due = due ≡ tape_refusal line
 Refuses whole text (Audit line) due = due ≡ audit_refusal line
+Refuses whole text (Steps line) due = due ≡ steps_refusal line
 Refuses whole text (Over quantity) due = due ≡ over quantity
 Refuses whole text NoMemory due = ⊥
 

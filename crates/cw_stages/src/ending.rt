@@ -36,6 +36,7 @@ pub fn refused<O: Sink, N: Sink>(
         Stop::Woven(fault) => woven_refusal(policy, source, fault, note),
         Stop::Tape(line) => Ok(numbered(Cause::Grammar, b"tape: line ", *line, note)),
         Stop::Audit(line) => Ok(numbered(Cause::Grammar, b"audit: line ", *line, note)),
+        Stop::Steps(line) => Ok(numbered(Cause::Grammar, b"steps: line ", *line, note)),
         Stop::Over(quantity) => Ok(over(*quantity, note)),
         Stop::NoMemory => Err(NoMemory),
     }

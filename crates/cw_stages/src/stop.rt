@@ -29,6 +29,8 @@ pub enum Stop {
     Tape(u32),
     /// The line of the audit that isn't of its form, counted from 1.
     Audit(u32),
+    /// The line of the steps that is none, counted from 1.
+    Steps(u32),
     /// A quantity is over its limit.
     Over(Quantity),
     /// There was no memory.

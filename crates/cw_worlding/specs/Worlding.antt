@@ -18,10 +18,10 @@ use Rattle.cw_worlds.specs.Worlds.{Step, start_world}
 use Rattle.cw_procs.specs.Steps.{Entry, End, Done, BadStep, IsWorldBy}
 use Rattle.cw_procs.specs.Told.{world_trace}
 use Rattle.cw_procs.specs.Played.{entry_of}
-use Rattle.cw_commands.specs.declared.outcome.Cause.TheVariants.{Grammar}
 use Rattle.cw_commands.specs.declared.outcome.Reply.TheVariants.{Yes, No}
-use Rattle.cw_commands.specs.Outcomes.{Due, Told, Refused}
+use Rattle.cw_commands.specs.Outcomes.{Due, Told}
 use Rattle.cw_stages.specs.Games.{WhereWovenFits}
+use Rattle.cw_stages.specs.Steps.{steps_refusal}
 use Rattle.cw_stages.specs.Tables.{told, WithWoven}
 use Rattle.cw_stages.specs.Reading.{BehindPolicy}
 
@@ -43,14 +43,13 @@ IsWorldShown source whole file t list g due =
     (IsGoodTable g t × IsWorldTold source whole file t list due)
     ⊎ ((f : TableFault) × (table_fault g t ≡ Some f) × (due ≡ Told No (told f)))
 
--- the refusal by the first line that is no step
-abbrev pub steps_refusal : (line : ℕ) → Due
-steps_refusal line = Refused Grammar (codes "steps: line " ++ decimal line)
+abbrev pub IsStepsRefusal : (text : List ℕ) → Due → Type 0
+IsStepsRefusal text due = (line : ℕ) × IsFault text line × (due ≡ steps_refusal line)
 
 -- That the text isn't one of steps, or what comes next for them.
 abbrev pub WithSteps : (List Entry → Due → Type 0) → (text : List ℕ) → Due → Type 0
 WithSteps Next text due =
-    ((line : ℕ) × IsFault text line × (due ≡ steps_refusal line))
+    IsStepsRefusal text due
     ⊎ ((steps : List StepData) × SpellsSteps text steps × Next (map entry_of steps) due)
 
 abbrev pub AfterWoven : (steps source : List ℕ) → PlainPolicy → File → Table → Due → Type 0

@@ -20,9 +20,9 @@ ghost use Rattle.cw_commands.specs.Starts.{Starts, StartsLine};
 ghost use Rattle.cw_stages.specs.Games.{WhereWovenFits};
 ghost use Rattle.cw_stages.specs.Stops.{file_in, source_of, told_of, whole_of, Answers, BeginsText, IsReading, StartsText};
 ghost use Rattle.cw_worlding.specs.Held.{IsWorldShownBy};
-ghost use Rattle.cw_worlding.specs.Worlding.{world_told, AfterPolicy, AfterWoven, IsWorldDue, IsWorldShown, IsWorldTold};
+ghost use Rattle.cw_worlding.specs.Worlding.{world_told, AfterPolicy, IsWorldDue, IsWorldShown, IsWorldTold};
 
-use crate::steps::steps_refusal;
+use crate::steps::steps_in;
 use cw_certs::WeaverCert;
 use cw_commands::{Outcome, Reply};
 use cw_core::NoMemory;
@@ -37,7 +37,7 @@ use cw_stages::{
     Reading, Stop, Text, accept, ended, fits, make_game, open, policy_refusal, refused,
     tell_table_row,
 };
-use cw_steps::{Step, StepsFault, read_steps};
+use cw_steps::Step;
 use cw_syntax::checked::Checked;
 use cw_wcheck::check_weaver;
 use cw_woven::Unwoven;
@@ -144,57 +144,23 @@ fn fitted<O: Sink>(
     judged(alloc, &reading.checked, &game, table, steps, out)
 }
 
-/// That a text isn't one of steps, or what is due for them.
-fn stepped<O: Sink, N: Sink>(
-    alloc: Global,
-    reading: &Reading,
-    graph: &Graph,
-    table: &WeaverCert,
-    steps: &[u8],
-    out: &mut O,
-    note: &mut N,
-) -> Result<Outcome<O, N>, NoMemory>
-    requires is { IsReading reading.now }
-    requires graph { IsGraph (names_of (whole_of reading.now)) (source_of reading.now) (file_in reading.now) graph.now }
-    requires points { length graph.now.nodes.items ≤ POINTS }
-    requires few { HasFewRows table.now }
-    requires short { length steps.now ≤ FILE_BYTES_IN_FORMAT_2 }
-    ensures due { IfOk result (λ outcome. AfterWoven steps.now (source_of reading.now) (whole_of reading.now) (file_in reading.now) table.now (due_of outcome)) }
-    ensures puts { Starts O.taken O.faults O.refused out.old out.new result }
-    ensures notes { StartsLine N.taken N.faults N.refused note.old note.new result }
-{
-    match read_steps(alloc, steps) {
-        Ok(list) => ended(
-            fitted(alloc, reading, graph, table, &list, out),
-            reading.policy,
-            reading.checked.source,
-            note,
-        ),
-        Err(StepsFault::Line(line)) => Ok(steps_refusal(line, note)),
-        Err(StepsFault::NoMemory) => Err(NoMemory),
-    }
-}
-
-/// That the source of a woven text isn't read, or what is due for it.
-fn accepted<O: Sink, N: Sink>(
+/// That the source of a woven text isn't read, that a text isn't one of steps, or what comes behind that.
+fn accepted<O: Sink>(
     alloc: Global,
     policy: &Policy,
     parts: &Unwoven,
     steps: &[u8],
     out: &mut O,
-    note: &mut N,
-) -> Result<Outcome<O, N>, NoMemory>
+) -> Result<Text<O>, Stop>
     requires valid { IsValid (policy_of policy.now) }
     requires unwoven { IsUnwoven (policy_of policy.now) parts.now }
     requires short { length steps.now ≤ FILE_BYTES_IN_FORMAT_2 }
-    ensures due { IfOk result (λ outcome. AfterPolicy parts.now.text.now steps.now (policy_of policy.now) (due_of outcome)) }
-    ensures puts { Starts O.taken O.faults O.refused out.old out.new result }
-    ensures notes { StartsLine N.taken N.faults N.refused note.old note.new result }
+    ensures due { Answers (policy_of policy.now) parts.now.source.items (AfterPolicy parts.now.text.now steps.now (policy_of policy.now)) result }
+    ensures puts { StartsText O.taken O.faults O.refused out.old out.new result }
 {
-    match accept(alloc, policy, parts) {
-        Ok((reading, graph)) => { stepped(alloc, &reading, &graph, &parts.table, steps, out, note) }
-        Err(stop) => refused(&stop, policy, &parts.source, note),
-    }
+    let (reading, graph) = accept(alloc, policy, parts)?;
+    let list = steps_in(alloc, steps)?;
+    fitted(alloc, &reading, &graph, &parts.table, &list, out)
 }
 
 /// That a text is no woven text, or what is due for the source and the table that it is read as.
@@ -214,7 +180,12 @@ fn unwoven<O: Sink, N: Sink>(
     ensures notes { StartsLine N.taken N.faults N.refused note.old note.new result }
 {
     match open(alloc, policy, text) {
-        Ok(parts) => accepted(alloc, policy, &parts, steps, out, note),
+        Ok(parts) => ended(
+            accepted(alloc, policy, &parts, steps, out),
+            policy,
+            &parts.source,
+            note,
+        ),
         Err(stop) => refused(&stop, policy, b"", note),
     }
 }
