@@ -16,7 +16,8 @@ use Rattle.cw_answers.proofs.Answered.{one_answer}
 use Rattle.cw_commands.specs.declared.outcome.Reply.TheVariants.{No}
 use Rattle.cw_commands.specs.Outcomes.{Due, Told}
 use Rattle.cw_stages.specs.Tables.{told as table_told}
-use Rattle.cw_valuing.specs.Refusals.{answers_refusal, form_refusal, IsFormRefusal, WhereFormed, WithAnswers}
+use Rattle.cw_stages.specs.Values.{answers_refusal, form_refusal}
+use Rattle.cw_valuing.specs.Refusals.{IsFormRefusal, WhereFormed, WithAnswers}
 use Rattle.cw_valuing.specs.Valuing.{values_told, AfterPolicy, AfterWoven, IsValuesDue, IsValuesShown, IsValuesTold}
 use Rattle.cw_cli.proofs.Agreeing.{fits_once}
 use Rattle.cw_policy.proofs.Kept.{is_valid}

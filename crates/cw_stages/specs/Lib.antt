@@ -7,6 +7,7 @@ pub mod Tables
 pub mod Tapes
 pub mod Audits
 pub mod Steps
+pub mod Values
 pub mod Verdicts
 pub mod Counting
 pub mod Stops

@@ -1,5 +1,5 @@
 -- Working definitions: what has been read, as the code holds it, and what the code answers: a text that is due, or why a command stops before it.
-use Rattle.std.specs.Prelude.{◌≡◌, ◌≢◌, ℕ, List, [], Option, Result, Ok, Err}
+use Rattle.std.specs.Prelude.{◌≡◌, ◌≢◌, ℕ, List, Option, Result, Ok, Err}
 use Rattle.std.specs.Prelude.{IfOk}
 use Rattle.cw_io.specs.Written.{Follows}
 use Rattle.cw_rights.specs.Policies.{PlainPolicy, policy_of}
@@ -19,7 +19,7 @@ use Rattle.cw_commands.specs.Starts.{IsRefused}
 use Rattle.cw_stages.specs.declared.numbers.Numbers.{Numbers}
 use Rattle.cw_stages.specs.declared.reading.Reading.{Reading}
 use Rattle.cw_stages.specs.declared.stop.Stop.{Stop}
-use Rattle.cw_stages.specs.declared.stop.Stop.TheVariants.{Source, Descriptors, Fit, Detached, Strategy, Woven, Tape, Audit, Steps, Over, NoMemory}
+use Rattle.cw_stages.specs.declared.stop.Stop.TheVariants.{Source, Descriptors, Fit, Detached, Strategy, Woven, Tape, Audit, Steps, Answers as OfAnswers, Form, Over, NoMemory}
 use Rattle.cw_stages.specs.declared.told.Text.{Text}
 use Rattle.cw_stages.specs.declared.told.Verdict.{Verdict}
 use Rattle.cw_stages.specs.Audits.{audit_refusal}
@@ -29,6 +29,7 @@ use Rattle.cw_stages.specs.Refusals.{descriptor_line, over, policy_detached, sou
 use Rattle.cw_stages.specs.Strategies.{strategy_refusal}
 use Rattle.cw_stages.specs.Tables.{woven_refusal}
 use Rattle.cw_stages.specs.Tapes.{tape_refusal}
+use Rattle.cw_stages.specs.Values.{answers_refusal, form_refusal}
 
 -- the policy of what has been read, its source and its program
 abbrev pub whole_of : Reading → PlainPolicy
@@ -56,6 +57,8 @@ Refuses whole text (Woven f) due = (f ≢ woven.NoMemory) × (due ≡ woven_refu
 Refuses whole text (Tape line) due = due ≡ tape_refusal line
 Refuses whole text (Audit line) due = due ≡ audit_refusal line
 Refuses whole text (Steps line) due = due ≡ steps_refusal line
+Refuses whole text (OfAnswers line) due = due ≡ answers_refusal line
+Refuses whole text (Form at) due = due ≡ form_refusal text at
 Refuses whole text (Over quantity) due = due ≡ over quantity
 Refuses whole text NoMemory due = ⊥
 

@@ -7,7 +7,7 @@ ghost use Rattle.cw_commands.specs.Starts.{IsRefused, StartsLine};
 ghost use Rattle.cw_stages.specs.Stops.{IsEnded, Refuses};
 
 use crate::fitting::unfitting;
-use crate::lines::{strategy_refusal, woven_refusal};
+use crate::lines::{form_refusal, strategy_refusal, woven_refusal};
 use crate::refusals::{descriptor_refusal, fronted, numbered, over, source_refusal};
 use crate::stop::Stop;
 use crate::told::Text;
@@ -37,6 +37,8 @@ pub fn refused<O: Sink, N: Sink>(
         Stop::Tape(line) => Ok(numbered(Cause::Grammar, b"tape: line ", *line, note)),
         Stop::Audit(line) => Ok(numbered(Cause::Grammar, b"audit: line ", *line, note)),
         Stop::Steps(line) => Ok(numbered(Cause::Grammar, b"steps: line ", *line, note)),
+        Stop::Answers(line) => Ok(numbered(Cause::Grammar, b"answers: line ", *line, note)),
+        Stop::Form(at) => Ok(form_refusal(source, *at, note)),
         Stop::Over(quantity) => Ok(over(*quantity, note)),
         Stop::NoMemory => Err(NoMemory),
     }

@@ -3,20 +3,21 @@
 ghost use Rattle.std.specs.Prelude.{◌≡◌, ◌≢◌, IfOk};
 ghost use Rattle.cw_rights.specs.Policies.{policy_of};
 ghost use Rattle.cw_commands.specs.Outcomes.{due_of};
-ghost use Rattle.cw_commands.specs.Starts.{IsRefused, StartsLine};
+ghost use Rattle.cw_commands.specs.Starts.{BeginsLine, IsRefused, StartsLine};
 ghost use Rattle.cw_stages.specs.Held.{woven_cause, woven_front};
 ghost use Rattle.cw_stages.specs.Refusals.{source_refusal};
 ghost use Rattle.cw_stages.specs.Strategies.{strategy_refusal};
 ghost use Rattle.cw_stages.specs.Tables.{cut_refusal, of_woven, table_refusal, woven_refusal};
+ghost use Rattle.cw_stages.specs.Values.{form_refusal};
 
 use crate::refusals::{
     descriptor_refusal_behind, numbered, over, source_cause, source_refusal_behind,
 };
 use cw_commands::{Cause, Outcome};
 use cw_core::{NoMemory, Quantity};
-use cw_io::Sink;
+use cw_io::{Sink, Writer};
 use cw_rights::Policy;
-use cw_source::SourceFault;
+use cw_source::{SourceFault, put_place_line};
 use cw_text::TextFault;
 use cw_woven::{CutFault, WovenFault};
 
@@ -138,4 +139,16 @@ pub(crate) fn woven_refusal<O: Sink, N: Sink>(
         }
         WovenFault::NoMemory => Err(NoMemory),
     }
+}
+
+/// The refusal of a woven text, of which this source is left, by the first name that may not be declared where it is.
+pub(crate) fn form_refusal<O: Sink, N: Sink>(source: &[u8], at: u32, note: &mut N) -> Outcome<O, N>
+    ensures due { due_of result ≡ form_refusal source.now at }
+    ensures refused { IsRefused result }
+    ensures notes { BeginsLine N.taken N.faults N.refused note.old note.new result }
+{
+    let mut writer = Writer::begin(note);
+    writer.put(b"woven: ", note);
+    put_place_line(source, at, "value form", &mut writer, note);
+    Outcome::Refused(Cause::Grammar, writer)
 }

@@ -9,6 +9,7 @@ use cw_scope::DescriptorFault;
 use cw_source::SourceFault;
 use cw_text::TextFault;
 use cw_woven::WovenFault;
+use std::alloc::AllocError;
 
 /// Why a command ends before what was asked for, behind its policy: by the first fault of a file or of a stage, or by want of memory.
 #[derive(Drop)]
@@ -31,6 +32,10 @@ pub enum Stop {
     Audit(u32),
     /// The line of the steps that is none, counted from 1.
     Steps(u32),
+    /// The line of the answers that doesn't fit, counted from 1.
+    Answers(u32),
+    /// The place of the name that may not be declared where it is.
+    Form(u32),
     /// A quantity is over its limit.
     Over(Quantity),
     /// There was no memory.
@@ -41,6 +46,14 @@ impl From<NoMemory> for Stop {
     ghost from_gives = { λ _ given. given ≡ stop.NoMemory };
 
     fn from(_refused: NoMemory) -> Stop {
+        Stop::NoMemory
+    }
+}
+
+impl From<AllocError> for Stop {
+    ghost from_gives = { λ _ given. given ≡ stop.NoMemory };
+
+    fn from(_refused: AllocError) -> Stop {
         Stop::NoMemory
     }
 }

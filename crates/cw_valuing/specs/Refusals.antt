@@ -1,26 +1,20 @@
 -- Why answers are refused, and a program that isn't run over values.
-use Rattle.std.specs.Prelude.{◌≡◌, ◌⊎◌, ℕ, List, ◌++◌, Some, None, codes}
-use Rattle.std.specs.Fmt.{decimal}
+use Rattle.std.specs.Prelude.{◌≡◌, ◌⊎◌, ℕ, List, Some, None}
 use Rattle.cw_rights.specs.Policies.{PlainPolicy}
 use Rattle.cw_syntax.specs.Trees.{File}
 use Rattle.cw_resolve.specs.Scenes.{names_of}
 use Rattle.cw_points.specs.declared.graph.Graph.{Graph}
 use Rattle.cw_points.specs.Graphs.{IsGraph}
-use Rattle.cw_source.specs.Lines.{at_place}
 use Rattle.cw_callgraph.specs.Fitting.{Fits}
 use Rattle.cw_game.specs.Games.{Game}
 use Rattle.cw_value.specs.Shown.{Answers}
 use Rattle.cw_value.specs.Starts.{shape}
 use Rattle.cw_answers.specs.AnswersText.{Spells}
 use Rattle.cw_answers.specs.Faults.{IsFault}
-use Rattle.cw_commands.specs.declared.outcome.Cause.TheVariants.{Grammar}
-use Rattle.cw_commands.specs.Outcomes.{Due, Refused}
+use Rattle.cw_commands.specs.Outcomes.{Due}
 use Rattle.cw_stages.specs.Fitting.{IsFitRefusal}
 use Rattle.cw_stages.specs.Games.{WithGame}
-
--- the refusal by the first line of the answers that doesn't fit
-abbrev pub answers_refusal : (line : ℕ) → Due
-answers_refusal line = Refused Grammar (codes "answers: line " ++ decimal line)
+use Rattle.cw_stages.specs.Values.{answers_refusal, form_refusal}
 
 abbrev pub IsAnswersRefusal : (text : List ℕ) → Due → Type 0
 IsAnswersRefusal text due = (line : ℕ) × IsFault text line × (due ≡ answers_refusal line)
@@ -28,10 +22,6 @@ IsAnswersRefusal text due = (line : ℕ) × IsFault text line × (due ≡ answer
 -- That the text isn't one of answers, or what comes next for them.
 abbrev pub WithAnswers : (Answers → Due → Type 0) → (text : List ℕ) → Due → Type 0
 WithAnswers Next text due = IsAnswersRefusal text due ⊎ ((a : Answers) × Spells text a × Next a due)
-
--- the refusal by the first name that may not be declared where it is, in the source that is left of a woven text
-abbrev pub form_refusal : (source : List ℕ) → (at : ℕ) → Due
-form_refusal source at = Refused Grammar (codes "woven: " ++ at_place source at (codes "value form"))
 
 abbrev pub IsFormRefusal : List ℕ → File → Due → Type 0
 IsFormRefusal source file due = (at : ℕ) × (shape source file ≡ Some at) × (due ≡ form_refusal source at)

@@ -22,10 +22,9 @@ ghost use Rattle.cw_stages.specs.Games.{WithGame};
 ghost use Rattle.cw_stages.specs.Stops.{file_in, source_of, told_of, whole_of, Answers as Answered, BeginsText, IsReading, StartsText};
 ghost use Rattle.cw_valuing.specs.Held.{IsValuesShownBy};
 ghost use Rattle.cw_valuing.specs.Refusals.{WhereFormed, WithForm};
-ghost use Rattle.cw_valuing.specs.Valuing.{reply_of, values_told, AfterPolicy, AfterWoven, IsValuesDue, IsValuesShown, IsValuesTold};
+ghost use Rattle.cw_valuing.specs.Valuing.{reply_of, values_told, AfterPolicy, IsValuesDue, IsValuesShown, IsValuesTold};
 
-use crate::refusals::{answers_refusal, form_refusal};
-use cw_answers::{AnswersFault, read_answers};
+use crate::answers::answers_in;
 use cw_certs::WeaverCert;
 use cw_commands::{Outcome, Reply};
 use cw_core::NoMemory;
@@ -153,15 +152,14 @@ fn with_game<O: Sink>(
 }
 
 /// That a name of the program may not be declared where it is, or what comes behind that.
-fn formed<O: Sink, N: Sink>(
+fn formed<O: Sink>(
     alloc: Global,
     reading: &Reading,
     graph: &Graph,
     table: &WeaverCert,
     answers: &Answers,
     out: &mut O,
-    note: &mut N,
-) -> Result<Outcome<O, N>, NoMemory>
+) -> Result<Text<O>, Stop>
     requires is { IsReading reading.now }
     requires graph { IsGraph (names_of (whole_of reading.now)) (source_of reading.now) (file_in reading.now) graph.now }
     requires points { length graph.now.nodes.items ≤ POINTS }
@@ -169,94 +167,54 @@ fn formed<O: Sink, N: Sink>(
     requires fits { Fits (source_of reading.now) (file_in reading.now) (whole_of reading.now) }
     requires in_order { AreInOrder (answers_of answers.now) }
     ensures due { let whole = whole_of reading.now in let source = source_of reading.now in let file = file_in reading.now in
-        IfOk result (λ outcome. WithForm (IsValuesShown source whole file table.now (answers_of answers.now)) source whole file (due_of outcome)) }
-    ensures puts { Starts O.taken O.faults O.refused out.old out.new result }
-    ensures notes { StartsLine N.taken N.faults N.refused note.old note.new result }
+        Answered whole source (WithForm (IsValuesShown source whole file table.now (answers_of answers.now)) source whole file) result }
+    ensures puts { StartsText O.taken O.faults O.refused out.old out.new result }
 {
-    let source = reading.checked.source;
-    match shape(alloc, source, &reading.checked.program)? {
-        None => ended(
-            with_game(alloc, reading, graph, table, answers, out),
-            reading.policy,
-            source,
-            note,
-        ),
-        Some(at) => Ok(form_refusal(source, at, note)),
+    match shape(alloc, reading.checked.source, &reading.checked.program)? {
+        None => with_game(alloc, reading, graph, table, answers, out),
+        Some(at) => Err(Stop::Form(at)),
     }
 }
 
 /// That the policy doesn't fit the program, or what comes behind that.
-fn fitted<O: Sink, N: Sink>(
+fn fitted<O: Sink>(
     alloc: Global,
     reading: &Reading,
     graph: &Graph,
     table: &WeaverCert,
     answers: &Answers,
     out: &mut O,
-    note: &mut N,
-) -> Result<Outcome<O, N>, NoMemory>
+) -> Result<Text<O>, Stop>
     requires is { IsReading reading.now }
     requires graph { IsGraph (names_of (whole_of reading.now)) (source_of reading.now) (file_in reading.now) graph.now }
     requires points { length graph.now.nodes.items ≤ POINTS }
     requires few { HasFewRows table.now }
     requires in_order { AreInOrder (answers_of answers.now) }
     ensures due { let whole = whole_of reading.now in let source = source_of reading.now in let file = file_in reading.now in
-        IfOk result (λ outcome. WhereFormed (IsValuesShown source whole file table.now (answers_of answers.now)) source whole file (due_of outcome)) }
-    ensures puts { Starts O.taken O.faults O.refused out.old out.new result }
-    ensures notes { StartsLine N.taken N.faults N.refused note.old note.new result }
+        Answered whole source (WhereFormed (IsValuesShown source whole file table.now (answers_of answers.now)) source whole file) result }
+    ensures puts { StartsText O.taken O.faults O.refused out.old out.new result }
 {
-    match fits(alloc, reading) {
-        Ok(()) => formed(alloc, reading, graph, table, answers, out, note),
-        Err(stop) => refused(&stop, reading.policy, reading.checked.source, note),
-    }
+    fits(alloc, reading)?;
+    formed(alloc, reading, graph, table, answers, out)
 }
 
-/// That a text isn't one of answers, or what is due for them.
-fn answered<O: Sink, N: Sink>(
-    alloc: Global,
-    reading: &Reading,
-    graph: &Graph,
-    table: &WeaverCert,
-    answers: &[u8],
-    out: &mut O,
-    note: &mut N,
-) -> Result<Outcome<O, N>, NoMemory>
-    requires is { IsReading reading.now }
-    requires graph { IsGraph (names_of (whole_of reading.now)) (source_of reading.now) (file_in reading.now) graph.now }
-    requires points { length graph.now.nodes.items ≤ POINTS }
-    requires few { HasFewRows table.now }
-    requires short { length answers.now ≤ FILE_BYTES_IN_FORMAT_2 }
-    ensures due { IfOk result (λ outcome. AfterWoven answers.now (source_of reading.now) (whole_of reading.now) (file_in reading.now) table.now (due_of outcome)) }
-    ensures puts { Starts O.taken O.faults O.refused out.old out.new result }
-    ensures notes { StartsLine N.taken N.faults N.refused note.old note.new result }
-{
-    match read_answers(alloc, answers) {
-        Ok(given) => fitted(alloc, reading, graph, table, &given, out, note),
-        Err(AnswersFault::Line(line)) => Ok(answers_refusal(line, note)),
-        Err(AnswersFault::NoMemory) => Err(NoMemory),
-    }
-}
-
-/// That the source of a woven text isn't read, or what is due for it.
-fn accepted<O: Sink, N: Sink>(
+/// That the source of a woven text isn't read, that a text isn't one of answers, or what comes behind that.
+fn accepted<O: Sink>(
     alloc: Global,
     policy: &Policy,
     parts: &Unwoven,
     answers: &[u8],
     out: &mut O,
-    note: &mut N,
-) -> Result<Outcome<O, N>, NoMemory>
+) -> Result<Text<O>, Stop>
     requires valid { IsValid (policy_of policy.now) }
     requires unwoven { IsUnwoven (policy_of policy.now) parts.now }
     requires short { length answers.now ≤ FILE_BYTES_IN_FORMAT_2 }
-    ensures due { IfOk result (λ outcome. AfterPolicy parts.now.text.now answers.now (policy_of policy.now) (due_of outcome)) }
-    ensures puts { Starts O.taken O.faults O.refused out.old out.new result }
-    ensures notes { StartsLine N.taken N.faults N.refused note.old note.new result }
+    ensures due { Answered (policy_of policy.now) parts.now.source.items (AfterPolicy parts.now.text.now answers.now (policy_of policy.now)) result }
+    ensures puts { StartsText O.taken O.faults O.refused out.old out.new result }
 {
-    match accept(alloc, policy, parts) {
-        Ok((reading, graph)) => answered(alloc, &reading, &graph, &parts.table, answers, out, note),
-        Err(stop) => refused(&stop, policy, &parts.source, note),
-    }
+    let (reading, graph) = accept(alloc, policy, parts)?;
+    let given = answers_in(alloc, answers)?;
+    fitted(alloc, &reading, &graph, &parts.table, &given, out)
 }
 
 /// That a text is no woven text, or what is due for the source and the table that it is read as.
@@ -276,7 +234,12 @@ fn unwoven<O: Sink, N: Sink>(
     ensures notes { StartsLine N.taken N.faults N.refused note.old note.new result }
 {
     match open(alloc, policy, text) {
-        Ok(parts) => accepted(alloc, policy, &parts, answers, out, note),
+        Ok(parts) => ended(
+            accepted(alloc, policy, &parts, answers, out),
+            policy,
+            &parts.source,
+            note,
+        ),
         Err(stop) => refused(&stop, policy, b"", note),
     }
 }
