@@ -4,7 +4,7 @@ use Rattle.std.proofs.Math.ListN.{set}
 use Rattle.std.specs.Int.{bit_at, bit_not, w64}
 use Rattle.std.proofs.lemmas.Bool.{cases_lt, cases_eq, ne_eqb, eq-eqb, eqb-true, lt-ltb, le-ltb}
 use Rattle.std.proofs.lemmas.Nat.Bits.{bit_at-zero, bit_at_cat_low, bit_at_cat_high, bit_at_set_same, bit_at_set_other, bit_at_clear_same, bit_at_clear_other, bit_at_and, bit_at_not, bit_at_ones, bit_at_ones_above, bit_at-lt}
-use Rattle.std.proofs.lemmas.Nat.{or_lt, and_le_l}
+use Rattle.std.proofs.lemmas.Nat.{or_lt, and_le_l, and_le_r}
 use Rattle.std.specs.Prelude.{IsTrue}
 use Rattle.std.specs.Int.Bits.{and_lt}
 use Rattle.std.proofs.lemmas.List.{get_or-set_same, get_or-set_other, get_or_past}
@@ -131,6 +131,13 @@ pub other_bits-lt : (n from w : ℕ) → w < 2 ^ 64 → other_bits n from w < 2 
 other_bits-lt n from w fit =
     let p = and_le_l (bit_not w64 w) (2 ^ min (n - from) 64 - 1) in
     omega (arith, p)
+
+-- nothing of it from n on
+pub other_bits_past : (n from w : ℕ) → n ≤ from → other_bits n from w ≡ 0
+other_bits_past n from w past =
+    let none : min (n - from) 64 ≡ 0 = omega (arith, past) in
+    let within = and_le_r (bit_not w64 w) 0 in
+    rw none (omega (arith, within))
 
 pub other_bits_more : (n : ℕ) (ws vs : List ℕ) (i : ℕ) → i < length vs → ((k : ℕ) → k < i → get_or vs k 0 ≡ other_bits n (64 * k) (get_or ws k 0)) → (k : ℕ) → k < i + 1 → get_or (set vs i (other_bits n (64 * i) (get_or ws i 0))) k 0 ≡ other_bits n (64 * k) (get_or ws k 0)
 other_bits_more n ws vs i within each k below =

@@ -152,8 +152,10 @@ impl StateSet {
         requires in_range { n ≤ 1024 }
         ensures members { (i : ℕ) → has result i ≡ (nat_lt i n && not (has self.now i)) }
     {
+        // A policy has few states as a rule, so the limbs from n on aren't looked at.
+        let count = (usize::from(n) + 63) / 64;
         let mut limbs = [0; 16];
-        for i in 0..16 {
+        for i in 0..count {
             limbs[i] = !self.limbs[i] & ones_below(n.saturating_sub(64 * i as u16));
         }
         StateSet { limbs }
