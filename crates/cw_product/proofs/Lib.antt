@@ -9,4 +9,5 @@ pub mod Placing
 pub mod Routed
 pub mod Routing
 pub mod There
+mod Using
 pub mod Within

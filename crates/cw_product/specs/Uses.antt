@@ -28,9 +28,17 @@ closes_in nodes d = list_any (is_close d) nodes
 abbrev pub has_label : List Node → ℕ → Bool
 has_label nodes l = list_any (is_label l) nodes
 
--- which descriptors some point closes, and whether some point has a label that the policy doesn't name, which has the number of its labels
-abbrev pub uses_of : PlainPolicy → List Node → Uses
-uses_of policy nodes = record {
-  closes = map (closes_in nodes) (0 ∷ 1 ∷ 2 ∷ 3 ∷ 4 ∷ 5 ∷ 6 ∷ 7 ∷ []);
-  has_other = has_label nodes (length policy.labels);
+-- of each of eight descriptors, whether some point closes it
+abbrev pub all_closes : List Node → List Bool
+all_closes nodes = map (closes_in nodes) (0 ∷ 1 ∷ 2 ∷ 3 ∷ 4 ∷ 5 ∷ 6 ∷ 7 ∷ [])
+
+-- which descriptors some point closes, and whether some point has the label with a number
+abbrev pub uses_in : ℕ → List Node → Uses
+uses_in other nodes = record {
+  closes = all_closes nodes;
+  has_other = has_label nodes other;
 }
+
+-- the same for the label that the policy doesn't name, which has the number of its labels
+abbrev pub uses_of : PlainPolicy → List Node → Uses
+uses_of policy nodes = uses_in (length policy.labels) nodes
