@@ -8,6 +8,7 @@ use std::alloc::{AllocError, Global};
 use std::collections::BTreeMap;
 
 /// Holds a key for a group.
+#[inline(never)]
 fn hold<K: Copy + Drop, G: Ord + Copy + Drop>(
     alloc: Global,
     map: &mut BTreeMap<G, Vec<K>>,
@@ -32,6 +33,7 @@ fn hold<K: Copy + Drop, G: Ord + Copy + Drop>(
 }
 
 /// Holds a key for its group, if it has one.
+#[inline(always)]
 pub(crate) fn hold_in<K: Copy + Drop, G: Ord + Copy + Drop>(
     alloc: Global,
     map: &mut BTreeMap<G, Vec<K>>,
@@ -51,6 +53,7 @@ pub(crate) fn hold_in<K: Copy + Drop, G: Ord + Copy + Drop>(
 }
 
 /// The keys of a group, none where there is none.
+#[inline(always)]
 fn of_group<'a, K: Copy + Drop, G: Ord + Copy + Drop>(
     map: &'a BTreeMap<G, Vec<K>>,
     group: Option<G>,
@@ -91,6 +94,7 @@ fn put_waiting<K: Copy + Drop>(
 }
 
 /// The pairs of a key with what ended the group that it waits for, and with what waits for the group that it ends.
+#[inline(always)]
 pub(crate) fn met_by<K: Copy + Drop, G: Ord + Copy + Drop>(
     alloc: Global,
     waiting: &BTreeMap<G, Vec<K>>,

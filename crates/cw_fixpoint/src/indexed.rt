@@ -17,6 +17,9 @@ use std::collections::BTreeSet;
 /// More hints than these are not kept: 8 MB.
 const MOST_HINTS: usize = 1_048_576;
 
+/// There is room for a key at the start for so many hints.
+const ROOM: usize = 8;
+
 /// Where there are more hints than so many for each key, not all are read.
 const SPARSE: usize = 16;
 
@@ -48,13 +51,14 @@ pub(crate) fn none_seen<K: Ord + Copy + Drop, I: Indices<K>>(
     let count = indices.count();
     let hints = if count <= MOST_HINTS { count } else { 0 };
     Ok(Seen {
-        keys: Vec::new(alloc),
+        keys: Vec::with_capacity(alloc, hints / ROOM)?,
         hints: vec![in alloc; 0_usize; hints]?,
         others: BTreeSet::new(alloc),
     })
 }
 
 /// The key that a hint names.
+#[inline(always)]
 fn key_at<K: Copy>(keys: &[K], hint: usize) -> Option<K>
     ensures { result ≡ named keys.now hint }
 {
@@ -65,6 +69,7 @@ fn key_at<K: Copy>(keys: &[K], hint: usize) -> Option<K>
 }
 
 /// Whether a hint names a key.
+#[inline(always)]
 fn names<K: Ord + Copy + Drop>(keys: &[K], hint: usize, key: K) -> bool
     requires exact { IsAntisymmetric K.cmp }
     ensures yes { result ≡ true → named keys.now hint ≡ Some key }
@@ -80,6 +85,7 @@ fn names<K: Ord + Copy + Drop>(keys: &[K], hint: usize, key: K) -> bool
 }
 
 /// What the hint at an index tells of a key.
+#[inline(always)]
 fn tell<K: Ord + Copy + Drop>(seen: &Seen<K>, at: usize, key: K) -> Recalled
     requires exact { IsAntisymmetric K.cmp }
     ensures { Tells seen.now.keys.items seen.now.hints.items at key result }
@@ -99,6 +105,7 @@ fn tell<K: Ord + Copy + Drop>(seen: &Seen<K>, at: usize, key: K) -> Recalled
 }
 
 /// Puts a key, and at its index the hint to it.
+#[inline(always)]
 fn put_hinted<K: Ord + Copy + Drop>(seen: &mut Seen<K>, at: usize, key: K) -> Result<(), AllocError>
     requires within { at < length seen.old.hints.items }
     ensures keys { OnOk result (seen.new.keys.items ≡ seen.old.keys.items ++ key ∷ []) }
@@ -112,6 +119,7 @@ fn put_hinted<K: Ord + Copy + Drop>(seen: &mut Seen<K>, at: usize, key: K) -> Re
 }
 
 /// Puts a key, where it is none of the others, and then it is one of them.
+#[inline(never)]
 fn put_other<K: Ord + Copy + Drop>(seen: &mut Seen<K>, key: K) -> Result<(), AllocError>
     ensures new { OnOk result (contains K.cmp seen.old.others key ≡ false → seen.new.keys.items ≡ seen.old.keys.items ++ key ∷ []) }
     ensures old { OnOk result (contains K.cmp seen.old.others key ≡ true → seen.new.keys.items ≡ seen.old.keys.items) }
@@ -125,6 +133,7 @@ fn put_other<K: Ord + Copy + Drop>(seen: &mut Seen<K>, key: K) -> Result<(), All
 }
 
 /// Sees a key, where it is new.
+#[inline(always)]
 pub(crate) fn see<K: Ord + Copy + Drop, I: Indices<K>>(
     indices: &I,
     seen: &mut Seen<K>,
@@ -167,6 +176,7 @@ pub(crate) fn see_all<K: Ord + Copy + Drop, I: Indices<K>>(
 }
 
 /// Appends a key, if there is one.
+#[inline(always)]
 fn put_some<K: Copy + Drop>(key: Option<K>, keys: &mut Vec<K>) -> Result<(), AllocError>
     ensures { OnOk result (keys.new.items ≡ keys.old.items ++ cons_option key []) }
 {
