@@ -23,12 +23,13 @@ pub struct Positions {
 }
 
 /// Where the positions of each point begin, and where they all end.
+#[inline(never)]
 fn bases(alloc: Global, graph: &Graph, policy: &Policy) -> Result<Vec<u32>, AllocError>
     requires valid { IsValid (policy_of policy.now) }
     requires few { length graph.now.nodes.items ≤ POINTS }
     ensures bases { IfOk result (λ v. v.items ≡ bases graph.now (policy_of policy.now)) }
 {
-    let mut bases = Vec::new(alloc);
+    let mut bases = Vec::with_capacity(alloc, graph.nodes.len() + 1)?;
     let mut end = 0;
     bases.push(end)?;
     for node in &graph.nodes {
@@ -39,6 +40,7 @@ fn bases(alloc: Global, graph: &Graph, policy: &Policy) -> Result<Vec<u32>, Allo
 }
 
 /// Where the positions of this point begin: at the end of all, where no point has this number.
+#[inline(always)]
 fn base(graph: &Graph, policy: &Policy, begins: &[u32], point: PointId) -> u32
     requires begins { begins.now ≡ bases graph.now (policy_of policy.now) }
     ensures base { result ≡ base_of graph.now (policy_of policy.now) point.0 }
@@ -47,6 +49,7 @@ fn base(graph: &Graph, policy: &Policy, begins: &[u32], point: PointId) -> u32
 }
 
 /// The same of the point that is next, and 0 where none is.
+#[inline(always)]
 fn to(graph: &Graph, policy: &Policy, begins: &[u32], next: Option<PointId>) -> u32
     requires begins { begins.now ≡ bases graph.now (policy_of policy.now) }
     ensures to { result ≡ to (base_of graph.now (policy_of policy.now)) (number_of next) }
@@ -58,6 +61,7 @@ fn to(graph: &Graph, policy: &Policy, begins: &[u32], next: Option<PointId>) -> 
 }
 
 /// The number of a point's seam, 0 where it has none.
+#[inline(always)]
 fn number(seam: Option<SeamId>) -> u32
     ensures { result ≡ number seam }
 {
@@ -68,6 +72,7 @@ fn number(seam: Option<SeamId>) -> u32
 }
 
 /// Appends a position.
+#[inline(always)]
 fn put(spots: &mut Vec<Spot>, spot: Spot) -> Result<(), AllocError>
     ensures { OnOk result (spots.new.items ≡ spots.old.items ++ spot ∷ []) }
 {
@@ -93,6 +98,7 @@ fn put_call(
 }
 
 /// Appends the free positions of what stands at a point, in this function and with this seam.
+#[inline(always)]
 fn put_free(
     spots: &mut Vec<Spot>,
     parts: &[Part],
@@ -116,6 +122,7 @@ fn put_free(
 }
 
 /// Appends the visits of what stands at a point, with this seam.
+#[inline(always)]
 fn put_primitives(
     spots: &mut Vec<Spot>,
     parts: &[Part],
@@ -134,6 +141,7 @@ fn put_primitives(
 }
 
 /// Appends the positions of a point.
+#[inline(always)]
 fn put_node(
     spots: &mut Vec<Spot>,
     graph: &Graph,
@@ -162,6 +170,7 @@ fn put_node(
 }
 
 /// What stands at each position.
+#[inline(never)]
 fn spots(
     alloc: Global,
     graph: &Graph,
@@ -172,7 +181,11 @@ fn spots(
     requires begins { begins.now ≡ bases graph.now (policy_of policy.now) }
     ensures spots { IfOk result (λ v. v.items ≡ spots graph.now (policy_of policy.now)) }
 {
-    let mut spots = Vec::new(alloc);
+    let end = match begins.last() {
+        None => 0,
+        Some(end) => *end,
+    };
+    let mut spots = Vec::with_capacity(alloc, end as usize)?;
     for node in &graph.nodes {
         put_node(&mut spots, graph, policy, begins, *node)?;
     }

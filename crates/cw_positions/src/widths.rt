@@ -10,6 +10,7 @@ use cw_points::{Graph, Part, Point};
 use cw_rights::policy::Policy;
 
 /// Whether the function with this number may be split off: not, where no function has it.
+#[inline(always)]
 pub(crate) fn is_split(parts: &[Part], function: u16) -> bool
     ensures { result ≡ is_split parts.now function }
 {
@@ -20,6 +21,7 @@ pub(crate) fn is_split(parts: &[Part], function: u16) -> bool
 }
 
 /// How many positions a point has.
+#[inline(always)]
 pub(crate) fn width(policy: &Policy, parts: &[Part], point: Point) -> u32
     requires few { length policy.now.limits.items ≤ LIMITS }
     ensures width { result ≡ width (policy_of policy.now) parts.now point }
@@ -35,6 +37,7 @@ pub(crate) fn width(policy: &Policy, parts: &[Part], point: Point) -> u32
 }
 
 /// How many positions a program has under a policy. No position is made for it.
+#[inline(never)]
 pub fn count(graph: &Graph, policy: &Policy) -> u32
     requires valid { IsValid (policy_of policy.now) }
     requires few { length graph.now.nodes.items ≤ POINTS }
