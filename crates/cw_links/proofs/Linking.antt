@@ -1,8 +1,8 @@
 -- Links in lists, one more and one moved.
-use Rattle.std.proofs.Common.{◌≡◌, ℕ, suc, ◌+◌, ◌<◌, ◌≤◌, List, [], ◌∷◌, ◌++◌, length, set, replicate, refl, sym, ap, ◌∙◌, subst, arith, inl, inr}
-use Rattle.std.specs.Prelude.{slice_index, Contains, Result, Ok, Err, IsOk, IfOk}
-use Rattle.std.proofs.lemmas.Bool.{cases_eq, cases_lt, false≢true}
-use Rattle.std.proofs.lemmas.List.{length_push, length-replicate, length-set, get_or_past, get_or-set_same, get_or-set_other}
+use Rattle.std.proofs.Common.{◌≡◌, ℕ, suc, ◌+◌, ◌-◌, ◌<◌, ◌≤◌, List, [], ◌∷◌, ◌++◌, length, set, replicate, refl, sym, ap, ◌∙◌, subst, arith, inl, inr}
+use Rattle.std.specs.Prelude.{slice_index, Contains}
+use Rattle.std.proofs.lemmas.Bool.{cases_eq, cases_lt}
+use Rattle.std.proofs.lemmas.List.{length_push, length-append, length-replicate, length-set, get_or_past, get_or-set_same, get_or-set_other, get_or_append_left}
 use Rattle.cw_lemmas.proofs.Lists.{head_in, tail_in}
 use Rattle.cw_links.specs.Lists.{Chained, list_at, without, with_front}
 use Rattle.cw_links.proofs.CallerLemmas.{length-without, length-with_front, list_at-with_front_same, list_at-with_front_other, Contains-without_other}
@@ -30,13 +30,6 @@ module _ {T : Type 0} (old new : Chained T) (list : ℕ) (v : T) (lists : new.li
   pub front_in : Contains (list_at new.lists list) (length old.values)
   front_in = subst (λ (ls : List (List ℕ)). Contains (list_at ls list) (length old.values)) (sym lists)
       (subst (λ (ys : List ℕ). Contains ys (length old.values)) (sym (list_at-with_front_same old.lists list (length old.values) within)) (0, omega arith, refl))
-
-pub none_linked : (chains : Chained ℕ) (to : List ℕ) (lists : ℕ) → chains.lists ≡ replicate lists [] → chains.values ≡ [] → AreLinkedBy to chains lists 0
-none_linked chains to lists is none = record {
-  long = ap (λ (ls : List (List ℕ)). length ls) is ∙ length-replicate {A = List ℕ} lists [];
-  values = ap (λ (vs : List ℕ). length vs) none;
-  there = λ k lt. absurd (omega (arith, lt));
-}
 
 pub one_linked : (old new : Chained ℕ) (to : List ℕ) (lists many list : ℕ) → AreLinkedBy to old lists many → list ≡ slice_index to many → list < lists → new.lists ≡ with_front old.lists list (length old.values)
     → new.values ≡ old.values ++ 0 ∷ [] → AreLinkedBy to new lists (many + 1)
@@ -117,19 +110,25 @@ moved_linked old new to lists link l are inside lt moved values =
       };
     }
 
--- the same links in more lists
-pub relinked : (old new : Chained ℕ) (to : List ℕ) (lists more : ℕ) → AreLinked to old lists → lists ≤ more → AreLinkedBy to new more (length to) → AreLinked to new more
-relinked old new to lists more are le by = record {
-  few = are.few;
-  some = omega (arith, are.some, le);
-  within = λ k. (let h = are.within k in omega (arith, h, le));
-  linked = by;
-}
-
--- what is ensured of an Ok, where it is one
-pub in_ok : {E : Type 0} (r : Result ℕ E) (Q : ℕ → Type 0) → IsOk r → IfOk r Q → (x : ℕ) × Q x
-in_ok (Ok x) Q ok q = (x, q)
-in_ok (Err e) Q ok q = absurd (false≢true ok)
+-- the same links, and more lists behind the others
+pub longer_linked : (old new : Chained ℕ) (to : List ℕ) (lists more : ℕ) → AreLinked to old lists → lists ≤ more → new.lists ≡ old.lists ++ replicate (more - length old.lists) [] → new.values ≡ old.values
+    → AreLinked to new more
+longer_linked old new to lists more are le longer values =
+    let long = length-append old.lists (replicate (more - length old.lists) []) in
+    let added = length-replicate {A = List ℕ} (more - length old.lists) [] in
+    record {
+      few = are.few;
+      some = omega (arith, are.some, le);
+      within = λ k. (let h = are.within k in omega (arith, h, le));
+      linked = record {
+        long = ap (λ (ls : List (List ℕ)). length ls) longer ∙ omega (arith, long, added, le, are.linked.long);
+        values = ap (λ (vs : List ℕ). length vs) values ∙ are.linked.values;
+        there = λ k lt.
+            let within : slice_index to k < length old.lists = (let h = are.within k in omega (arith, h, are.linked.long)) in
+            subst (λ (ls : List (List ℕ)). Contains (list_at ls (slice_index to k)) k) (sym longer)
+            (subst (λ (ys : List ℕ). Contains ys k) (sym (get_or_append_left old.lists (replicate (more - length old.lists) []) [] (slice_index to k) within)) (are.linked.there k lt));
+      };
+    }
 
 -- the same links, and no other memory
 pub same_linked : (old new : Chained ℕ) (to to' : List ℕ) (lists : ℕ) → AreLinked to old lists → to' ≡ to → new.lists ≡ old.lists → new.values ≡ old.values → AreLinked to' new lists

@@ -2,7 +2,6 @@
 
 ghost use Rattle.std.specs.Prelude.{◌≡◌, ℕ, List, ◌+◌, ◌<◌, ◌≤◌, [], ◌∷◌, ◌++◌, None, length, slice_get, slice_index, slice_set, Contains, OnOk, IfOk, IfSome};
 ghost use Rattle.cw_links.specs.Lists.{list_at, with_front, AreApart};
-ghost use Rattle.cw_links.specs.Callers.{AreLinkedBy};
 
 use crate::Chains;
 use cw_core::NoMemory;
@@ -95,7 +94,7 @@ impl Callers {
     }
 
     /// Makes so many lists, if there are fewer. The one error is want of memory.
-    pub(crate) fn reach(&mut self, alloc: Global, lists: u32) -> Result<(), NoMemory>
+    pub(crate) fn reach(&mut self, lists: u32) -> Result<(), NoMemory>
         requires few { lists ≤ 8388608 }
         ensures enough { OnOk result (lists ≤ length self.new.lists) }
         ensures more { length self.old.lists ≤ length self.new.lists }
@@ -104,7 +103,7 @@ impl Callers {
         if lists <= self.lists {
             return Ok(());
         }
-        self.chains = linked(alloc, &self.to, 2 * lists)?;
+        self.chains.reach(2 * lists)?;
         self.lists = 2 * lists;
         Ok(())
     }
@@ -141,17 +140,4 @@ fn push_in(chains: &mut Chains<u8>)
 {
     // There is room, so the push is not refused.
     let _ = chains.push_front(0, 0);
-}
-
-/// The links of the numbers that a vector has, each in its list.
-fn linked(alloc: Global, to: &[u32], lists: u32) -> Result<Chains<u8>, NoMemory>
-    requires few { length to.now ≤ CELLS }
-    requires within { (k : ℕ) → k < length to.now → slice_index to.now k < lists }
-    ensures { IfOk result (λ chains. AreLinkedBy to.now chains lists (length to.now)) }
-{
-    let mut chains = Chains::make(alloc, lists)?;
-    for k in 0..to.len() {
-        chains.push_front(to[k], 0)?;
-    }
-    Ok(chains)
 }

@@ -1,12 +1,15 @@
 //! Cells in a number each, which has a cell's height or the key under which it waits.
 
-ghost use Rattle.std.specs.Prelude.{◌≡◌, ◌+◌, ◌*◌, ◌<◌, ◌≤◌, [], ◌++◌, length, map, replicate, slice_index, slice_set, OnOk};
+ghost use Rattle.std.specs.Prelude.{◌≡◌, ◌+◌, ◌*◌, ◌<◌, ◌≤◌, [], ◌++◌, length, map, replicate, slice_index, slice_set, IfOk, OnOk};
 ghost use Rattle.cw_links.specs.Cells.{height_in, key_in, may_wait};
 
 use cw_core::NoMemory;
 use cw_core::limits::CELLS;
 use std::alloc::Global;
 use std::marker::Model;
+
+/// For how many cells there is memory at first. What isn't used of it costs nothing, and a vector that grows is copied, cell by cell.
+const ROOM: usize = 65_536;
 
 /// Cells by number, each of which has a height, or waits for one, or neither.
 ///
@@ -28,14 +31,14 @@ impl Model for Cells {
 }
 
 impl Cells {
-    /// No cells.
-    pub(crate) fn make(alloc: Global) -> Cells
-        ensures heights { result.heights ≡ [] }
-        ensures asked { result.asked ≡ [] }
+    /// No cells, with the memory of some. The one error is want of memory.
+    pub(crate) fn make(alloc: Global) -> Result<Cells, NoMemory>
+        ensures heights { IfOk result (λ cells. cells.heights ≡ []) }
+        ensures asked { IfOk result (λ cells. cells.asked ≡ []) }
     {
-        Cells {
-            numbers: Vec::new(alloc),
-        }
+        Ok(Cells {
+            numbers: Vec::with_capacity(alloc, ROOM)?,
+        })
     }
 
     /// The height of a cell, 0 where it has none.

@@ -1,5 +1,5 @@
 //! Lists of cells with a value each.
-ghost use Rattle.std.specs.Prelude.{◌≡◌, ℕ, List, ◌+◌, ◌<◌, ◌≤◌, [], ◌∷◌, ◌++◌, length, replicate, slice_get, None, Some, IsOk, IfOk, OnOk, OnErr, IfSome};
+ghost use Rattle.std.specs.Prelude.{◌≡◌, ℕ, List, ◌+◌, ◌-◌, ◌<◌, ◌≤◌, [], ◌∷◌, ◌++◌, length, replicate, slice_get, None, Some, IsOk, IfOk, OnOk, OnErr, IfSome};
 ghost use Rattle.cw_links.specs.Lists.{list_at, without, with_front, IsUnlinked, AreApart};
 
 use crate::links::Links;
@@ -7,7 +7,7 @@ use cw_core::NoMemory;
 use std::alloc::Global;
 use std::marker::Model;
 
-/// A fixed number of lists of cells. Each cell has a value, and stands in one list at most.
+/// Lists of cells. Each cell has a value, and stands in one list at most.
 ///
 /// Lists and cells are named by number from 0 on, cells in the order in which they were made. Contracts see
 /// the list of lists of cells (`lists`), the list of values (`values`), and how many more cells have their
@@ -62,6 +62,7 @@ impl<T: Copy> Chains<T> {
 
     /// Makes a cell with this value, in front of the list, and answers its number. The one error is want of
     /// memory, which does not come while `spare` is positive; lists and values then stay as they are.
+    #[inline(always)]
     pub fn push_front(&mut self, list: u32, value: T) -> Result<u32, NoMemory>
         requires list { list < length self.old.lists }
         requires few { length self.old.values < 4294967295 }
@@ -102,6 +103,23 @@ impl<T: Copy> Chains<T> {
         ensures spare { self.new.spare ≡ self.old.spare }
     {
         self.links.unlink(cell);
+    }
+
+    /// Adds empty lists until there are so many. The one error is want of memory, which changes no list and no value.
+    pub(crate) fn reach(&mut self, lists: u32) -> Result<(), NoMemory>
+        ensures lists { OnOk result (self.new.lists ≡ self.old.lists ++ replicate (lists - length self.old.lists) []) }
+        ensures values { self.new.values ≡ self.old.values }
+        ensures refused { OnErr result (self.new.lists ≡ self.old.lists) }
+    {
+        self.links.reach(lists as usize)?;
+        Ok(())
+    }
+
+    /// How many cells there are.
+    pub(crate) fn cells(&self) -> usize
+        ensures { result ≡ length self.now.values }
+    {
+        self.values.len()
     }
 
     /// How many lists there are.

@@ -136,6 +136,7 @@ impl Flags {
 }
 
 /// Adds so many limbs without flags, mostly none.
+#[inline(always)]
 fn begin_limbs(
     limbs: &mut Vec<u64>,
     before: &mut Vec<u32>,

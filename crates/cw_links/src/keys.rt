@@ -50,7 +50,7 @@ impl Keys {
         ensures due { IfOk result (λ keys. keys.due ≡ []) }
     {
         Ok(Keys {
-            cells: Cells::make(alloc),
+            cells: Cells::make(alloc)?,
             due: Vec::new(alloc),
             queue: NearQueue::make(alloc)?,
         })

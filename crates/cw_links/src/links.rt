@@ -72,6 +72,7 @@ impl Links {
     }
 
     /// Takes the memory of so many more cells.
+    #[inline(always)]
     pub(crate) fn reserve(&mut self, more: usize) -> Result<(), NoMemory>
         ensures room { OnOk result (more ≤ self.new.spare) }
         ensures lists { self.new.lists ≡ self.old.lists }
@@ -85,6 +86,7 @@ impl Links {
     }
 
     /// Adds a cell, which stands in no list. Its memory is there already.
+    #[inline(always)]
     pub(crate) fn add_cell(&mut self)
         requires room { 0 < self.old.spare }
         requires few { self.old.cells < 4294967295 }
@@ -117,6 +119,7 @@ impl Links {
     }
 
     /// Puts a cell that stands in no list in front of this one.
+    #[inline(always)]
     pub(crate) fn put_front(&mut self, cell: u32, list: u32)
         requires cell { cell < self.old.cells }
         requires list { list < length self.old.lists }

@@ -38,8 +38,8 @@ impl<T: Copy> Rows<T> {
     pub fn of(alloc: Global, chains: &Chains<T>) -> Result<Rows<T>, NoMemory>
         ensures { IfOk result (AreRowsOf chains.now) }
     {
-        let mut values = Vec::new(alloc);
-        let mut firsts = Vec::new(alloc);
+        let mut values = Vec::with_capacity(alloc, chains.cells())?;
+        let mut firsts = Vec::with_capacity(alloc, chains.lists() + 1)?;
         firsts.push(0)?;
         for list in 0..chains.lists() {
             push_row(chains, list as u32, &mut values, &mut firsts)?;

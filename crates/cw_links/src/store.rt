@@ -160,7 +160,8 @@ impl Store {
         ensures more { length self.old.lists ≤ length self.new.lists }
         ensures rest { self.new ≡ with_lists self.old self.new.lists }
     {
-        self.callers.reach(alloc, lists)?;
+        let _ = alloc;
+        self.callers.reach(lists)?;
         Ok(())
     }
 

@@ -4,8 +4,8 @@ use Rattle.cw_links.proofs.rows.Rows.of.Goals as goal
 
 pub loop-list-init : goal.loop-list-init
 loop-list-init g c =
-    no_rows c.args.chains.now c.new-values.result.items c.push.new.self.items c.new-values.ensures.items
-    (c.in_ok-push.ensures.items ∙ ap (λ (fs : List ℕ). fs ++ 0 ∷ []) c.new-firsts.ensures.items)
+    no_rows c.args.chains.now c.in_ok-values.values.items c.push.new.self.items c.in_ok-values.ensures.items
+    (c.in_ok-push.ensures.items ∙ ap (λ (fs : List ℕ). fs ++ 0 ∷ []) c.in_ok-firsts.ensures.items)
 
 pub invariant_of-result : goal.invariant_of-result
 invariant_of-result g c = c.loop-list.invariant.flat
