@@ -49,7 +49,8 @@ pub(crate) fn is_hexadecimal_digit(byte: u8) -> bool
 pub(crate) fn is_name_byte(byte: u8) -> bool
     ensures { result ≡ is_name_byte byte }
 {
-    is_letter(byte) || is_digit(byte)
+    // Most of what follows a name is white space or punctuation of a lesser code than all of these.
+    byte >= b'0' && (is_letter(byte) || is_digit(byte))
 }
 
 /// A byte that may stand in a number as the preprocessor takes it: of a name, or `.` (ISO C11, 6.4.8).

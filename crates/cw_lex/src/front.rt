@@ -7,10 +7,9 @@ ghost use Rattle.cw_lex.specs.Characters.{character_len, text_len};
 ghost use Rattle.cw_lex.specs.Punctuators.{punctuator_len};
 ghost use Rattle.cw_lex.specs.Bytes.{is_white, is_blank, is_line_byte, is_name_byte, is_number_byte};
 ghost use Rattle.cw_lex.specs.Fronts.{identifier, number, quoted, to_close, comment, is_include, line, directive, punctuator, front_at};
-ghost use Rattle.cw_lex.specs.declared.front.Front.TheVariants as front;
-ghost use Rattle.cw_lex.specs.Tokens.{fresh_behind};
+ghost use Rattle.cw_lex.specs.Tokens.{fresh_in};
 
-use crate::bytes::{is_blank, is_name_byte, is_number_byte, is_white, tail};
+use crate::bytes::{is_blank, is_letter, is_name_byte, is_number_byte, is_white, tail};
 use crate::characters::{character_length, text_length};
 use crate::keywords::is_keyword;
 use crate::numbers::is_number;
@@ -132,6 +131,7 @@ fn number_length(bytes: &[u8]) -> usize
 }
 
 /// The identifier that stands in front.
+#[inline(always)]
 fn identifier_text(bytes: &[u8]) -> &[u8]
     ensures { result.now ≡ take_while is_name_byte bytes.now }
 {
@@ -139,6 +139,7 @@ fn identifier_text(bytes: &[u8]) -> &[u8]
 }
 
 /// The bytes in front that may be of a number.
+#[inline(always)]
 fn number_text(bytes: &[u8]) -> &[u8]
     ensures { result.now ≡ take_while is_number_byte bytes.now }
 {
@@ -158,6 +159,7 @@ fn identifier(text: &[u8]) -> Front
 }
 
 /// A number, if it is one of the subset with a value below 2^64.
+#[inline(always)]
 fn number(text: &[u8]) -> Front
     ensures { result ≡ number text.now }
 {
@@ -251,22 +253,34 @@ fn punctuator(bytes: &[u8]) -> Front
     }
 }
 
-/// What stands at the front, given whether no token stands before it on its line.
+/// Whether no token stands on the line so far, given the bytes behind the last token, and whether there is none.
+#[inline(never)]
+#[tactic(auto, unfolding(crate::specs::Tokens::fresh_in))]
+fn is_fresh(gap: &[u8], none_yet: bool) -> bool
+    ensures { result ≡ fresh_in none_yet gap.now }
+{
+    none_yet || has_line_end(gap)
+}
+
+/// What stands at the front, given the bytes between the last token and it, and whether there is no token yet. Whether a token stands
+/// before it on its line is asked where a `#` stands, and nowhere else.
+#[inline(always)]
 #[tactic(auto, unfolding(crate::specs::Fronts::front_at, crate::specs::Punctuators::punctuator_len))]
-pub(crate) fn front_of(fresh: bool, bytes: &[u8]) -> Front
+pub(crate) fn front_of(gap: &[u8], none_yet: bool, bytes: &[u8]) -> Front
     requires { length bytes.now < 2 ^ 32 }
-    ensures { result ≡ front_at fresh bytes.now }
+    ensures { result ≡ front_at (fresh_in none_yet gap.now) bytes.now }
 {
     let [first, rest @ ..] = bytes else {
         return Front::Gap(0);
     };
     match *first {
-        b' ' | 9..=13 => Front::Gap(white_length(bytes)),
-        b'a'..=b'z' | b'A'..=b'Z' | b'_' => identifier(identifier_text(bytes)),
-        b'0'..=b'9' => number(number_text(bytes)),
+        b' ' | b'\n' | b'\t' | 11 | 12 | b'\r' => Front::Gap(white_length(bytes)),
+        b'0' | b'1' | b'2' | b'3' | b'4' | b'5' | b'6' | b'7' | b'8' | b'9' => {
+            number(number_text(bytes))
+        }
         b'\'' => character(rest),
         b'"' => text(rest),
-        b'#' => directive(fresh, bytes),
+        b'#' => directive(is_fresh(gap, none_yet), bytes),
         b'/' => match rest {
             [] => punctuator(bytes),
             [next, inner @ ..] => match *next {
@@ -283,7 +297,13 @@ pub(crate) fn front_of(fresh: bool, bytes: &[u8]) -> Front
         b'}' => Front::Token(TokenKind::Punctuation, 1),
         b';' => Front::Token(TokenKind::Punctuation, 1),
         b',' => Front::Token(TokenKind::Punctuation, 1),
-        _ => punctuator(bytes),
+        _ => {
+            if is_letter(*first) {
+                identifier(identifier_text(bytes))
+            } else {
+                punctuator(bytes)
+            }
+        }
     }
 }
 
@@ -291,16 +311,5 @@ pub(crate) fn front_of(fresh: bool, bytes: &[u8]) -> Front
 fn has_line_end(bytes: &[u8]) -> bool
     ensures { result ≡ list_any (λ b. b == 10) bytes.now }
 {
-    match bytes {
-        [byte] => *byte == b'\n',
-        _ => memchr(b'\n', bytes).is_some(),
-    }
-}
-
-/// Whether no token stands on the line so far, behind so many bytes at the front that hold no token.
-pub(crate) fn is_fresh_behind(fresh: bool, bytes: &[u8], count: usize) -> bool
-    requires { count ≤ length bytes.now }
-    ensures { result ≡ fresh_behind fresh (front.Gap count) bytes.now }
-{
-    fresh || has_line_end(&bytes[..count])
+    memchr(b'\n', bytes).is_some()
 }

@@ -1,17 +1,16 @@
 //! The tokens of a source.
 
-ghost use Rattle.std.specs.Prelude.{◌≡◌, ◌+◌, ◌^◌, ◌<◌, ◌≤◌, ◌-◌, ◌⊎◌, length, drop, IfOk, IfErr};
+ghost use Rattle.std.specs.Prelude.{◌≡◌, ◌+◌, ◌^◌, ◌<◌, ◌≤◌, ◌-◌, ◌⊎◌, ◌∷◌, ◌++◌, [], length, drop, vec_len, vec_capacity, IfOk, IfErr};
 ghost use Rattle.cw_lex.specs.declared.lexer.LexFault.TheVariants.{NoMemory};
-ghost use Rattle.cw_lex.specs.declared.front.Front.TheVariants as front;
 ghost use Rattle.cw_lex.specs.Punctuators.{HasNoMarker};
 ghost use Rattle.cw_lex.specs.Fronts.{front_at};
-ghost use Rattle.cw_lex.specs.Tokens.{fresh_behind, AreTokens, fault_at, IsFault};
+ghost use Rattle.cw_lex.specs.Tokens.{fresh_from, AreTokens, fault_at, IsFault};
 ghost use Rattle.cw_lex.specs.Fronts.{IsWithin};
 
 use crate::bytes::tail;
-use crate::front::{Defect, Front, front_of, is_fresh_behind};
+use crate::front::{Defect, Front, front_of};
 use crate::punctuators::first_marker;
-use crate::tokens::Token;
+use crate::tokens::{Token, TokenKind};
 use cw_core::limits::SOURCE_BYTES;
 use std::alloc::{AllocError, AllocFailed, Global};
 use thiserror::Error;
@@ -70,22 +69,31 @@ fn fault_at(defect: Defect, at: u32) -> LexFault
     }
 }
 
-/// The front at an index, given whether no token stands before it on its line.
-fn front_from(source: &[u8], at: usize, fresh: bool) -> Front
+/// The front at an index, given where the last token ends, and 0 where there is none.
+#[inline(always)]
+fn front_from(source: &[u8], last: usize, at: usize) -> Front
     requires short { length source.now ≤ SOURCE_BYTES }
+    requires in_order { last ≤ at }
     requires in_range { at < length source.now }
-    ensures value { result ≡ front_at fresh (drop at source.now) }
+    ensures value { result ≡ front_at (fresh_from last at source.now) (drop at source.now) }
     ensures within { IsWithin (length source.now - at) result }
 {
-    front_of(fresh, tail(source, at))
+    front_of(
+        &tail(source, last)[..at - last],
+        last == 0,
+        tail(source, at),
+    )
 }
 
-/// Whether no token stands on the line so far, behind a front of so many bytes that is white space, a comment or an include line.
-fn is_fresh(source: &[u8], at: usize, fresh: bool, count: usize) -> bool
-    requires { at + count ≤ length source.now }
-    ensures { result ≡ fresh_behind fresh (front.Gap count) (drop at source.now) }
+/// Puts a token behind those that are read.
+#[inline(always)]
+fn put(tokens: &mut Vec<Token>, kind: TokenKind, from: u32, to: u32)
+    requires { vec_len tokens.old < vec_capacity tokens.old }
+    ensures items { tokens.new.items ≡ tokens.old.items ++ record { kind = kind; from = from; to = to } ∷ [] }
+    ensures len { vec_len tokens.new ≡ vec_len tokens.old + 1 }
+    ensures capacity { vec_capacity tokens.new ≡ vec_capacity tokens.old }
 {
-    is_fresh_behind(fresh, tail(source, at), count)
+    tokens.push_reserved(Token { kind, from, to });
 }
 
 /// The tokens of a source of at most 262,144 bytes without markers, or what is wrong first.
@@ -98,22 +106,14 @@ fn read(alloc: Global, source: &[u8]) -> Result<Vec<Token>, LexFault>
     // No token is shorter than a byte, and room that isn't written to is no memory in use.
     let mut tokens = Vec::with_capacity(alloc, source.len())?;
     let mut at: usize = 0;
-    let mut fresh = true;
+    let mut last: usize = 0;
     'fronts: while at < source.len() {
-        match front_from(source, at, fresh) {
-            Front::Gap(n) => {
-                fresh = is_fresh(source, at, fresh, n);
-                at += n;
-            }
+        match front_from(source, last, at) {
+            Front::Gap(n) => at += n,
             Front::Token(kind, n) => {
-                let token = Token {
-                    kind,
-                    from: at as u32,
-                    to: (at + n) as u32,
-                };
-                tokens.push_reserved(token);
-                fresh = false;
+                put(&mut tokens, kind, at as u32, (at + n) as u32);
                 at += n;
+                last = at;
             }
             Front::Fault(defect) => return Err(fault_at(defect, at as u32)),
         }

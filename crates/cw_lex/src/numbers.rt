@@ -167,6 +167,7 @@ fn are_of_base(base: u64, digits: &[u8]) -> bool
 
 /// Whether a text is digits, one at least, of its base, and a suffix, of a value that 64 bits hold.
 #[tactic(auto, unfolding(crate::specs::Numbers::is_number, crate::specs::Numbers::number_of))]
+#[inline(never)]
 fn has_parts(text: &[u8]) -> bool
     ensures { result ≡ is_number text.now }
 {
@@ -179,6 +180,7 @@ fn has_parts(text: &[u8]) -> bool
 }
 
 /// Whether a text is a number: digits, one at least, of its base, and a suffix, of a value that 64 bits hold. Most are one digit.
+#[inline(always)]
 pub(crate) fn is_number(text: &[u8]) -> bool
     ensures { result ≡ is_number text.now }
 {

@@ -1,71 +1,19 @@
 //! Punctuation and markers.
 
-ghost use Rattle.std.specs.Prelude.{◌≡◌, ◌<◌, ℕ, true, false, nat_eq, length, drop, IfSome, IfNone};
+ghost use Rattle.std.specs.Prelude.{◌≡◌, ◌<◌, ℕ, true, false, nat_eq, ◌∷◌, [], length, drop, IfSome, IfNone};
 ghost use Rattle.std.specs.List.{starts_with};
-ghost use Rattle.cw_lex.specs.Punctuators.{three_byte_punctuators, two_byte_punctuators, one_byte_punctuators, begins, punctuator_len, IsLeastMarker, HasNoMarker};
+ghost use Rattle.cw_lex.specs.Punctuators.{punctuator_len, IsLeastMarker, HasNoMarker};
 
 use memchr::memmem;
 
-/// Whether a punctuator of three bytes stands in front.
-fn begins_three(bytes: &[u8]) -> bool
-    ensures { result ≡ begins three_byte_punctuators bytes.now }
+/// Whether this byte stands in front.
+#[inline(always)]
+fn is_next(bytes: &[u8], byte: u8) -> bool
+    ensures { result ≡ starts_with nat_eq bytes.now (byte ∷ []) }
 {
     match bytes {
-        [b'<', b'<', b'=', ..] | [b'>', b'>', b'=', ..] => true,
-        _ => false,
-    }
-}
-
-/// Whether a punctuator of two bytes stands in front.
-fn begins_two(bytes: &[u8]) -> bool
-    ensures { result ≡ begins two_byte_punctuators bytes.now }
-{
-    let [first, second, ..] = bytes else {
-        return false;
-    };
-    match *first {
-        b'<' => *second == b'<' || *second == b'=',
-        b'>' => *second == b'>' || *second == b'=',
-        b'&' => *second == b'&' || *second == b'=',
-        b'|' => *second == b'|' || *second == b'=',
-        b'+' => *second == b'+' || *second == b'=',
-        b'-' => *second == b'-' || *second == b'=',
-        b'=' | b'!' | b'*' | b'/' | b'%' | b'^' => *second == b'=',
-        _ => false,
-    }
-}
-
-/// Whether a punctuator of one byte stands in front.
-fn begins_one(bytes: &[u8]) -> bool
-    ensures { result ≡ begins one_byte_punctuators bytes.now }
-{
-    let [first, ..] = bytes else {
-        return false;
-    };
-    match *first {
-        b'(' => true,
-        b')' => true,
-        b'[' => true,
-        b']' => true,
-        b'{' => true,
-        b'}' => true,
-        b';' => true,
-        b',' => true,
-        b':' => true,
-        b'=' => true,
-        b'+' => true,
-        b'-' => true,
-        b'*' => true,
-        b'/' => true,
-        b'%' => true,
-        b'&' => true,
-        b'|' => true,
-        b'^' => true,
-        b'~' => true,
-        b'!' => true,
-        b'<' => true,
-        b'>' => true,
-        _ => false,
+        [] => false,
+        [first, ..] => *first == byte,
     }
 }
 
@@ -75,14 +23,32 @@ fn begins_one(bytes: &[u8]) -> bool
 pub(crate) fn punctuator_length(bytes: &[u8]) -> usize
     ensures { result ≡ punctuator_len bytes.now }
 {
-    if begins_three(bytes) {
-        3
-    } else if begins_two(bytes) {
-        2
-    } else if begins_one(bytes) {
-        1
-    } else {
-        0
+    let [first, rest @ ..] = bytes else {
+        return 0;
+    };
+    match *first {
+        b'(' | b')' | b'[' | b']' | b'{' | b'}' | b';' | b',' | b':' | b'~' => 1,
+        b'=' | b'!' | b'*' | b'/' | b'%' | b'^' => if is_next(rest, b'=') { 2 } else { 1 },
+        b'+' | b'-' | b'&' | b'|' => {
+            if is_next(rest, *first) || is_next(rest, b'=') {
+                2
+            } else {
+                1
+            }
+        }
+        b'<' | b'>' => match rest {
+            [] => 1,
+            [next, behind @ ..] => {
+                if *next == *first {
+                    if is_next(behind, b'=') { 3 } else { 2 }
+                } else if *next == b'=' {
+                    2
+                } else {
+                    1
+                }
+            }
+        },
+        _ => 0,
     }
 }
 

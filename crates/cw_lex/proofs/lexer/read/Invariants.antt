@@ -1,11 +1,13 @@
 use Rattle.std.proofs.Common.{◌≤◌, ◌-◌, length}
 use Rattle.std.specs.Prelude.{vec_len, vec_capacity}
+use Rattle.cw_lex.specs.Tokens.{fresh_from}
 use Rattle.cw_lex.proofs.Standing.{Reached}
 use Rattle.cw_lex.proofs.lexer.read.Given as goal
 
 abbrev pub invariant-fronts : goal.invariant-fronts
 invariant-fronts l = record {
-  reached : Reached l.source l.at l.fresh l.tokens.items;
+  reached : Reached l.source l.at (fresh_from l.last l.at l.source) l.tokens.items;
+  in_order : l.last ≤ l.at;
   within : l.at ≤ length l.source;
   many : vec_len l.tokens ≤ l.at;
   room : length l.source ≤ vec_capacity l.tokens;
