@@ -1,7 +1,12 @@
 -- Keywords have two bytes at least.
-use Rattle.std.proofs.Common.{◌≡◌, ℕ, ◌≤◌, Bool, true, false, eqb, List, [], ◌∷◌, length, refl, arith}
-use Rattle.std.specs.List.{list_any}
+use Rattle.std.proofs.Common.{◌≡◌, ℕ, ◌≤◌, Bool, true, false, eqb, List, [], ◌∷◌, length, get_or, refl, arith}
+use Rattle.std.specs.List.{list_any, take_while}
+use Rattle.std.proofs.lemmas.Bool.{or_left}
 use Rattle.std.specs.Str.{bytes_eq}
+use Rattle.cw_lex.specs.declared.tokens.TokenKind.TheVariants as kind
+use Rattle.cw_lex.specs.declared.front.Front.TheVariants as front
+use Rattle.cw_lex.specs.Bytes.{is_letter, is_digit, is_name_byte}
+use Rattle.cw_lex.specs.Fronts.{identifier}
 use Rattle.cw_lex.specs.Keywords.{keywords, is_keyword}
 
 are_long : List (List ℕ) → Bool
@@ -27,3 +32,13 @@ unfolding is_keyword are_long
 short_identifier [] short = refl
 short_identifier (byte ∷ []) short = none_of_one byte keywords refl
 short_identifier (byte ∷ c ∷ rest) short = absurd (omega (arith, short))
+
+-- a letter that no byte of a name follows is a name
+pub one_letter_name : (bytes : List ℕ) → 2 ≤ length bytes → is_letter (get_or bytes 0 0) ≡ true → is_name_byte (get_or bytes 1 0) ≡ false
+    → front.Token kind.Name 1 ≡ identifier (take_while is_name_byte bytes)
+one_letter_name [] long letter ends = absurd (omega (arith, long))
+one_letter_name (b ∷ []) long letter ends = absurd (omega (arith, long))
+one_letter_name (b ∷ c ∷ bs) long letter ends =
+    let first : is_name_byte b ≡ true = or_left (is_letter b) (is_digit b) letter in
+    let text : take_while is_name_byte (b ∷ c ∷ bs) ≡ b ∷ [] = rw (first, ends) refl in
+    rw (text, short_identifier (b ∷ []) (omega arith)) refl

@@ -106,6 +106,7 @@ fn longer(spelled: Option<(u8, usize)>) -> Option<(u8, usize)>
 }
 
 /// What stands behind a backslash: its value, and how many bytes spell it.
+#[inline(never)]
 #[tactic(auto, unfolding(crate::specs::Characters::escape_at))]
 fn escape(bytes: &[u8]) -> Option<(u8, usize)>
     ensures value { result ≡ escape_at bytes.now }
@@ -128,6 +129,7 @@ fn escape(bytes: &[u8]) -> Option<(u8, usize)>
 }
 
 /// The item at the front of a character or string between such quotes: its value, and how many bytes spell it.
+#[inline(always)]
 #[tactic(auto, unfolding(crate::specs::Characters::item_at))]
 fn item(quote: u8, bytes: &[u8]) -> Option<(u8, usize)>
     ensures value { result ≡ item_at quote bytes.now }
@@ -147,6 +149,7 @@ fn item(quote: u8, bytes: &[u8]) -> Option<(u8, usize)>
 
 /// How many bytes there are from behind the quote of a character up to and with the one that closes it.
 #[tactic(auto, unfolding(crate::specs::Characters::character_len))]
+#[inline(never)]
 pub(crate) fn character_length(bytes: &[u8]) -> Option<usize>
     ensures value { result ≡ character_len bytes.now }
     ensures within { IfSome result (λ n. n ≤ length bytes.now) }
@@ -160,6 +163,7 @@ pub(crate) fn character_length(bytes: &[u8]) -> Option<usize>
 }
 
 /// The item of a string at an index.
+#[inline(always)]
 fn item_from(bytes: &[u8], at: usize) -> Option<(u8, usize)>
     requires { at ≤ length bytes.now }
     ensures value { result ≡ item_at 34 (drop at bytes.now) }
@@ -169,6 +173,7 @@ fn item_from(bytes: &[u8], at: usize) -> Option<(u8, usize)>
 }
 
 /// How many bytes there are from behind the quote of a string up to and with the one that closes it.
+#[inline(never)]
 pub(crate) fn text_length(bytes: &[u8]) -> Option<usize>
     ensures value { result ≡ text_len 0 bytes.now }
     ensures within { IfSome result (λ n. n ≤ length bytes.now) }

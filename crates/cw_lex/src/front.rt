@@ -1,6 +1,6 @@
 //! What stands at the front of some bytes.
 
-ghost use Rattle.std.specs.Prelude.{◌≡◌, ◌+◌, ◌^◌, ◌<◌, ◌≤◌, ◌==◌, length, IfSome};
+ghost use Rattle.std.specs.Prelude.{◌≡◌, ◌+◌, ◌^◌, ◌<◌, ◌≤◌, ◌==◌, true, length, IfSome};
 ghost use Rattle.std.specs.List.{prefix_len, take_while, list_any};
 ghost use Rattle.cw_lex.specs.declared.tokens.TokenKind.TheVariants as kind;
 ghost use Rattle.cw_lex.specs.Characters.{character_len, text_len};
@@ -44,6 +44,17 @@ fn white_run(bytes: &[u8]) -> usize
     bytes.iter().take_while(|b| is_white(**b)).count()
 }
 
+/// Whether a byte behind the space stands in front: most white space is one byte.
+#[inline(always)]
+fn is_dark(bytes: &[u8]) -> bool
+    ensures { (result ≡ true) → prefix_len is_white bytes.now ≡ 0 }
+{
+    match bytes {
+        [first, ..] => *first > b' ',
+        [] => false,
+    }
+}
+
 /// The white space at the front, where the first byte has been looked at.
 fn white_length(bytes: &[u8]) -> usize
     ensures value { result ≡ prefix_len is_white bytes.now }
@@ -51,10 +62,12 @@ fn white_length(bytes: &[u8]) -> usize
 {
     match bytes {
         [first, rest @ ..] => {
-            if is_white(*first) {
-                1 + white_run(rest)
-            } else {
+            if !is_white(*first) {
                 0
+            } else if is_dark(rest) {
+                1
+            } else {
+                1 + white_run(rest)
             }
         }
         [] => 0,
@@ -148,6 +161,7 @@ fn number_text(bytes: &[u8]) -> &[u8]
 
 /// A name or a keyword. Many names have one byte, and no keyword has.
 #[tactic(auto, using(crate::proofs::ShortIdentifiers::short_identifier))]
+#[inline(always)]
 fn identifier(text: &[u8]) -> Front
     ensures { result ≡ identifier text.now }
 {
@@ -155,6 +169,19 @@ fn identifier(text: &[u8]) -> Front
         Front::Token(TokenKind::Keyword, text.len())
     } else {
         Front::Token(TokenKind::Name, text.len())
+    }
+}
+
+/// A name or a keyword, at the front of the bytes. One byte is a name, and most names have one.
+#[inline(always)]
+fn name(bytes: &[u8]) -> Front
+    ensures { result ≡ identifier (take_while is_name_byte bytes.now) }
+{
+    match bytes {
+        [first, next, ..] if is_letter(*first) && !is_name_byte(*next) => {
+            Front::Token(TokenKind::Name, 1)
+        }
+        _ => identifier(identifier_text(bytes)),
     }
 }
 
@@ -215,6 +242,7 @@ fn comment(rest: &[u8]) -> Front
 }
 
 /// Whether `include` stands behind the `#`, blanks aside.
+#[inline(never)]
 fn is_include(bytes: &[u8]) -> bool
     ensures { result ≡ is_include bytes.now }
 {
@@ -270,36 +298,32 @@ pub(crate) fn front_of(gap: &[u8], none_yet: bool, bytes: &[u8]) -> Front
     requires { length bytes.now < 2 ^ 32 }
     ensures { result ≡ front_at (fresh_in none_yet gap.now) bytes.now }
 {
-    let [first, rest @ ..] = bytes else {
+    let [first, ..] = bytes else {
         return Front::Gap(0);
     };
+    // Neighbours among the bytes stand in different arms: a run of them is a range, and ranges are tested one by one where no single
+    // byte fits.
     match *first {
-        b' ' | b'\n' | b'\t' | 11 | 12 | b'\r' => Front::Gap(white_length(bytes)),
-        b'0' | b'1' | b'2' | b'3' | b'4' | b'5' | b'6' | b'7' | b'8' | b'9' => {
-            number(number_text(bytes))
-        }
-        b'\'' => character(rest),
-        b'"' => text(rest),
+        b' ' | b'\n' => Front::Gap(white_length(bytes)),
+        b'(' | b'[' | b'{' | b';' => Front::Token(TokenKind::Punctuation, 1),
+        b')' | b']' | b'}' | b',' => Front::Token(TokenKind::Punctuation, 1),
+        b'=' | b'!' | b'*' | b'%' | b'^' => punctuator(bytes),
+        b'<' | b'>' | b'&' | b'|' | b'+' | b'-' | b':' | b'~' => punctuator(bytes),
+        b'0' | b'2' | b'4' | b'6' | b'8' => number(number_text(bytes)),
+        b'1' | b'3' | b'5' | b'7' | b'9' => number(number_text(bytes)),
+        b'\'' => character(tail(bytes, 1)),
+        b'"' => text(tail(bytes, 1)),
         b'#' => directive(is_fresh(gap, none_yet), bytes),
-        b'/' => match rest {
-            [] => punctuator(bytes),
-            [next, inner @ ..] => match *next {
-                b'*' => comment(inner),
-                b'/' => line(bytes),
-                _ => punctuator(bytes),
-            },
+        b'/' => match bytes {
+            [_, b'*', inner @ ..] => comment(inner),
+            [_, b'/', ..] => line(bytes),
+            _ => punctuator(bytes),
         },
-        b'(' => Front::Token(TokenKind::Punctuation, 1),
-        b')' => Front::Token(TokenKind::Punctuation, 1),
-        b'[' => Front::Token(TokenKind::Punctuation, 1),
-        b']' => Front::Token(TokenKind::Punctuation, 1),
-        b'{' => Front::Token(TokenKind::Punctuation, 1),
-        b'}' => Front::Token(TokenKind::Punctuation, 1),
-        b';' => Front::Token(TokenKind::Punctuation, 1),
-        b',' => Front::Token(TokenKind::Punctuation, 1),
-        _ => {
-            if is_letter(*first) {
-                identifier(identifier_text(bytes))
+        other => {
+            if is_letter(other) {
+                name(bytes)
+            } else if is_white(other) {
+                Front::Gap(white_length(bytes))
             } else {
                 punctuator(bytes)
             }

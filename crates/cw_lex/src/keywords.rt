@@ -21,6 +21,7 @@ fn is_of_three(text: &[u8], first: &[u8], second: &[u8], third: &[u8]) -> bool
 }
 
 /// Whether a text is one of the 44 keywords.
+#[inline(never)]
 #[tactic(auto, unfolding(crate::specs::Keywords::is_keyword))]
 pub(crate) fn is_keyword(text: &[u8]) -> bool
     ensures { result ≡ is_keyword text.now }
