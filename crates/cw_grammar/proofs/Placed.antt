@@ -26,7 +26,7 @@ slice_length source from to p q = omega (arith, length-take (to - from) (drop fr
 small_at : (text : List ℕ) (n : ℕ) → length text ≡ n → front_at true text ≡ front.Token kind.Number n → number_of text < 2 ^ 64
 small_at text n len is = number_is_small text (numbers text (is ∙ ap (λ (z : ℕ). front.Token kind.Number z) (sym len)))
 
-token_placed : (source : List ℕ) (t : Token) → t.from ≤ t.to → t.to ≤ length source → front_at true (slice source t.from t.to) ≡ front.Token t.kind (t.to - t.from) → IsPlaced source t
+pub token_placed : (source : List ℕ) (t : Token) → t.from ≤ t.to → t.to ≤ length source → front_at true (slice source t.from t.to) ≡ front.Token t.kind (t.to - t.from) → IsPlaced source t
 token_placed source t p q is = record {
   order = p;
   within = q;

@@ -9,7 +9,7 @@ ghost use Rattle.cw_grammar.specs.Spelling.{keywords, long_punctuators, short_pu
 
 use crate::terminals::{Lexeme, Terminal};
 use cw_core::NoMemory;
-use cw_lex::{Token, TokenKind, character_value, number_value};
+use cw_lex::{OfToken, Token, TokenKind, character_value, number_value};
 use std::alloc::Global;
 
 /// The keyword of the grammar that this text is.
@@ -175,6 +175,16 @@ fn lexeme_at(source: &[u8], token: Token) -> Lexeme
         terminal: terminal_at(token.kind, text),
         from: token.from,
         to: token.to,
+    }
+}
+
+/// Each token as it is read.
+impl OfToken for Lexeme {
+    ghost made = { lexeme_of };
+
+    #[inline(always)]
+    fn of(source: &[u8], token: Token) -> Lexeme {
+        lexeme_at(source, token)
     }
 }
 

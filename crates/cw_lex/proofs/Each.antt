@@ -1,20 +1,11 @@
 -- What each token is, for who walks over them.
-use Rattle.std.proofs.Common.{◌≡◌, ℕ, ◌-◌, ◌<◌, ◌≤◌, true, List, [], ◌∷◌, length, drop, arith, length-drop, length-take}
+use Rattle.std.proofs.Common.{◌≡◌, ℕ, ◌-◌, ◌≤◌, List, [], ◌∷◌, length, drop, arith, length-drop, length-take}
 use Rattle.std.specs.List.{AllByRecursion}
 use Rattle.cw_syntax.specs.Names.{slice}
-use Rattle.cw_lex.specs.declared.tokens.TokenKind.TheVariants as kind
 use Rattle.cw_lex.specs.declared.tokens.Token.{Token}
-use Rattle.cw_lex.specs.declared.front.Front.TheVariants as front
-use Rattle.cw_lex.specs.Fronts.{front_at}
 use Rattle.cw_lex.specs.Tokens.{AreTokens}
-use Rattle.cw_lex.specs.Listed.{AreInOrder, AreOfTheirKind}
+use Rattle.cw_lex.specs.Listed.{AreInOrder, AreOfTheirKind, IsTokenOf}
 use Rattle.cw_lex.proofs.Ordered.{tokens_in_order, tokens_of_their_kind}
-
--- a token that lies in its source, is not empty, and whose bytes alone are that token
-pub record IsTokenOf (source : List ℕ) (t : Token) : Type 0 where
-  pub some : t.from < t.to
-  pub within : t.to ≤ length source
-  pub alone : front_at true (slice source t.from t.to) ≡ front.Token t.kind (t.to - t.from)
 
 pub order_within : (from to : ℕ) (ts : List Token) → AreInOrder from to ts → from ≤ to
 order_within from to [] h = h

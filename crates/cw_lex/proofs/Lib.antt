@@ -3,6 +3,7 @@ mod Close
 mod Texts
 mod Within
 mod Standing
+mod Made
 pub mod Tokened
 pub mod Ordered
 pub mod Listing

@@ -1,9 +1,9 @@
 -- Where a needle first begins in a source.
-use Rattle.std.proofs.Common.{◌≡◌, ℕ, ◌+◌, ◌<◌, ◌≤◌, true, false, List, [], ◌∷◌, ◌++◌, Option, Some, None, length, take, drop, refl, ap, ◌∙◌, arith, length-drop, length-append, eqb, nat_eq}
+use Rattle.std.proofs.Common.{◌≡◌, ℕ, ◌+◌, ◌<◌, ◌≤◌, true, false, List, Option, Some, None, length, take, drop, ap, ◌∙◌, arith, length-drop, length-append, nat_eq}
 use Rattle.std.specs.Prelude.{IfSome, IfNone}
 use Rattle.std.specs.List.{starts_with}
 use Rattle.std.proofs.Math.Seq.{take-append_seam}
-use Rattle.std.proofs.lemmas.Bool.{and_parts, eqb-true, eq-eqb, false_from_ne_true}
+use Rattle.std.proofs.lemmas.Bool.{false_from_ne_true}
 use Rattle.memchr.specs.Find.{OccursAt, FindsNeedle}
 use Rattle.memchr.proofs.lemmas.MatchLemmas.{OccursAt-split, OccursAt-from_part}
 use Rattle.cw_lemmas.proofs.Texts.{starts_front, starts_is}

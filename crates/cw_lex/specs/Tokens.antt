@@ -1,5 +1,5 @@
 -- The tokens of a source. Public source: ISO/IEC 9899:2011, 5.1.1.2 (a source is cut into tokens and white space, in order), 6.4.
-use Rattle.std.specs.Prelude.{◌≡◌, ℕ, ◌+◌, ◌-◌, ◌<◌, ◌==◌, Bool, true, false, ◌||◌, List, [], ◌∷◌, drop, take}
+use Rattle.std.specs.Prelude.{◌≡◌, ℕ, ◌+◌, ◌-◌, ◌<◌, ◌==◌, Bool, true, false, ◌||◌, List, [], ◌∷◌, drop, map, take}
 use Rattle.std.specs.List.{list_any, sum_by}
 use Rattle.cw_lex.specs.declared.tokens.Token.{Token}
 use Rattle.cw_lex.specs.declared.front.Defect.{Defect}
@@ -41,6 +41,10 @@ tokens_of at (front.Fault d ∷ ps) = tokens_of at ps
 -- The source has no marker, it is fronts one after the other up to its end, and these are its tokens.
 unfoldable pub AreTokens : List ℕ → List Token → Type 0
 AreTokens source ts = HasNoMarker source × ((ps : List Front) × (fresh : Bool) × Stand true source ps fresh [] × (ts ≡ tokens_of 0 ps))
+
+-- These are made of the tokens of the source, one of each.
+abbrev pub AreMadeOf : {A : Type 0} → (Token → A) → List ℕ → List A → Type 0
+AreMadeOf made source xs = (ts : List Token) × AreTokens source ts × (xs ≡ map made ts)
 
 abbrev pub fault_at : Defect → ℕ → LexFault
 fault_at defect.BadByte at = fault.BadByte at

@@ -1,16 +1,18 @@
 //! The tokens of a source.
 
-ghost use Rattle.std.specs.Prelude.{◌≡◌, ◌+◌, ◌^◌, ◌<◌, ◌≤◌, ◌-◌, ◌⊎◌, ◌∷◌, ◌++◌, [], length, drop, vec_len, vec_capacity, IfOk, IfErr};
+ghost use Rattle.std.specs.Prelude.{◌≡◌, ◌+◌, ◌^◌, ◌<◌, ◌≤◌, ◌-◌, ◌⊎◌, ℕ, List, length, drop, IfOk, IfErr};
 ghost use Rattle.cw_lex.specs.declared.lexer.LexFault.TheVariants.{NoMemory};
 ghost use Rattle.cw_lex.specs.Punctuators.{HasNoMarker};
 ghost use Rattle.cw_lex.specs.Fronts.{front_at};
-ghost use Rattle.cw_lex.specs.Tokens.{fresh_from, AreTokens, fault_at, IsFault};
+ghost use Rattle.cw_lex.specs.Tokens.{fresh_from, AreMadeOf, AreTokens, fault_at, IsFault};
 ghost use Rattle.cw_lex.specs.Fronts.{IsWithin};
+ghost use Rattle.cw_lex.specs.Listed.{IsTokenOf};
+ghost use Rattle.cw_lex.specs.declared.tokens.Token.{Token};
 
 use crate::bytes::tail;
 use crate::front::{Defect, Front, front_of};
 use crate::punctuators::first_marker;
-use crate::tokens::{Token, TokenKind};
+use crate::tokens::Token;
 use cw_core::limits::SOURCE_BYTES;
 use std::alloc::{AllocError, AllocFailed, Global};
 use thiserror::Error;
@@ -85,22 +87,32 @@ fn front_from(source: &[u8], last: usize, at: usize) -> Front
     )
 }
 
-/// Puts a token behind those that are read.
-#[inline(always)]
-fn put(tokens: &mut Vec<Token>, kind: TokenKind, from: u32, to: u32)
-    requires { vec_len tokens.old < vec_capacity tokens.old }
-    ensures items { tokens.new.items ≡ tokens.old.items ++ record { kind = kind; from = from; to = to } ∷ [] }
-    ensures len { vec_len tokens.new ≡ vec_len tokens.old + 1 }
-    ensures capacity { vec_capacity tokens.new ≡ vec_capacity tokens.old }
-{
-    tokens.push_reserved(Token { kind, from, to });
+/// What each token of a source is made into as it is read, so that no list of tokens stands beside the list of what they are made into.
+pub trait OfToken: Copy + Drop {
+    /// What a token of a source is made into.
+    ghost made: { List ℕ → Token → Self };
+
+    /// Makes a token of a source into it.
+    fn of(source: &[u8], token: Token) -> Self
+        requires token { IsTokenOf source.now token }
+        ensures { result ≡ made source.now token };
 }
 
-/// The tokens of a source of at most 262,144 bytes without markers, or what is wrong first.
-fn read(alloc: Global, source: &[u8]) -> Result<Vec<Token>, LexFault>
+impl OfToken for Token {
+    ghost made = { λ _ token. token };
+
+    #[inline(always)]
+    fn of(_source: &[u8], token: Token) -> Token {
+        token
+    }
+}
+
+/// What the tokens of a source of at most 262,144 bytes without markers are made into, or what is wrong first.
+#[inline(never)]
+fn read<T: OfToken>(alloc: Global, source: &[u8]) -> Result<Vec<T>, LexFault>
     requires short { length source.now ≤ SOURCE_BYTES }
     requires unmarked { HasNoMarker source.now }
-    ensures tokens { IfOk result (λ v. AreTokens source.now v.items) }
+    ensures tokens { IfOk result (λ v. AreMadeOf (T.made source.now) source.now v.items) }
     ensures fault { IfErr result (λ f. (f ≡ NoMemory) ⊎ IsFault source.now f) }
 {
     // No token is shorter than a byte, and room that isn't written to is no memory in use.
@@ -111,7 +123,12 @@ fn read(alloc: Global, source: &[u8]) -> Result<Vec<Token>, LexFault>
         match front_from(source, last, at) {
             Front::Gap(n) => at += n,
             Front::Token(kind, n) => {
-                put(&mut tokens, kind, at as u32, (at + n) as u32);
+                let token = Token {
+                    kind,
+                    from: at as u32,
+                    to: (at + n) as u32,
+                };
+                tokens.push_reserved(T::of(source, token));
                 at += n;
                 last = at;
             }
@@ -119,6 +136,20 @@ fn read(alloc: Global, source: &[u8]) -> Result<Vec<Token>, LexFault>
         }
     }
     Ok(tokens)
+}
+
+/// What the tokens of a source of at most 262,144 bytes are made into, each as it is read, in their order.
+///
+/// Refused is what [`lex`] refuses.
+pub fn lex_as<T: OfToken>(alloc: Global, source: &[u8]) -> Result<Vec<T>, LexFault>
+    requires short { length source.now ≤ SOURCE_BYTES }
+    ensures tokens { IfOk result (λ v. AreMadeOf (T.made source.now) source.now v.items) }
+    ensures fault { IfErr result (λ f. (f ≡ NoMemory) ⊎ IsFault source.now f) }
+{
+    match first_marker(source) {
+        Some(at) => Err(LexFault::Marker(at as u32)),
+        None => read(alloc, source),
+    }
 }
 
 /// The tokens of a source of at most 262,144 bytes, in order: all of it but white space, comments and include lines, each token the
@@ -131,8 +162,5 @@ pub fn lex(alloc: Global, source: &[u8]) -> Result<Vec<Token>, LexFault>
     ensures tokens { IfOk result (λ v. AreTokens source.now v.items) }
     ensures fault { IfErr result (λ f. (f ≡ NoMemory) ⊎ IsFault source.now f) }
 {
-    match first_marker(source) {
-        Some(at) => Err(LexFault::Marker(at as u32)),
-        None => read(alloc, source),
-    }
+    lex_as::<Token>(alloc, source)
 }

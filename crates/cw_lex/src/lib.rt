@@ -13,6 +13,6 @@ mod tokens;
 
 pub use characters::character_value;
 pub use laws::{laws_of_sources, laws_of_texts, laws_of_tokens};
-pub use lexer::{LexFault, lex};
+pub use lexer::{LexFault, OfToken, lex, lex_as};
 pub use numbers::number_value;
 pub use tokens::{Token, TokenKind};

@@ -13,4 +13,4 @@ mod specifiers;
 mod statements;
 
 pub use fault::ParseFault;
-pub use parser::parse;
+pub use parser::{parse, parse_lexemes};

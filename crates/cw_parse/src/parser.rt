@@ -42,8 +42,14 @@ fn fault_of(alloc: Global, source: &[u8], lexemes: &[Lexeme]) -> ParseFault
     }
 }
 
-/// The program of these tokens. Whether they leave the grammar, and where, is only asked where no program is read.
-fn program_of(alloc: Global, source: &[u8], lexemes: &[Lexeme]) -> Result<Program, ParseFault>
+/// The program of the tokens of a source, by their terminals. Whether they leave the grammar, and where, is only asked where no program is read.
+///
+/// What is refused, and why, is as [`parse`] has it.
+pub fn parse_lexemes(
+    alloc: Global,
+    source: &[u8],
+    lexemes: &[Lexeme],
+) -> Result<Program, ParseFault>
     requires short { length source.now ≤ SOURCE_BYTES }
     ensures program { IfOk result (λ program. IsProgram lexemes.now (file_of program)) }
     ensures fault { IfErr result (IsFaultIn source.now lexemes.now) }
@@ -70,5 +76,5 @@ pub fn parse(alloc: Global, source: &[u8], tokens: &[Token]) -> Result<Program, 
     ensures fault { IfErr result (IsParseFault source.now tokens.now) }
 {
     let lexemes = lexemes(alloc, source, tokens)?;
-    program_of(alloc, source, &lexemes)
+    parse_lexemes(alloc, source, &lexemes)
 }

@@ -2,26 +2,28 @@
 
 ghost use Rattle.std.specs.Prelude.{◌≡◌, ◌≤◌, length, IfErr, IfOk};
 ghost use Rattle.cw_syntax.specs.Trees.{file_of};
-ghost use Rattle.cw_lex.specs.Tokens.{AreTokens};
+ghost use Rattle.cw_lex.specs.Tokens.{AreMadeOf};
+ghost use Rattle.cw_grammar.specs.Spelling.{lexeme_of};
 ghost use Rattle.cw_source.specs.Read.{Derives, IsFaultOf, ReadsAs};
 
 use crate::fault::SourceFault;
 use cw_core::limits::SOURCE_BYTES;
-use cw_lex::{LexFault, Token, lex};
-use cw_parse::{ParseFault, parse};
+use cw_grammar::terminals::Lexeme;
+use cw_lex::{LexFault, lex_as};
+use cw_parse::{ParseFault, parse_lexemes};
 use cw_scope::{ScopeFault, check_scope};
 use cw_syntax::checked::Checked;
 use cw_syntax::program::Program;
 use std::alloc::Global;
 
-/// The tokens of a source.
-fn tokens_of(alloc: Global, source: &[u8]) -> Result<Vec<Token>, SourceFault>
+/// The tokens of a source, by their terminals.
+fn lexemes_of(alloc: Global, source: &[u8]) -> Result<Vec<Lexeme>, SourceFault>
     requires short { length source.now ≤ SOURCE_BYTES }
-    ensures tokens { IfOk result (λ v. AreTokens source.now v.items) }
+    ensures lexemes { IfOk result (λ v. AreMadeOf (lexeme_of source.now) source.now v.items) }
     ensures fault { IfErr result (IsFaultOf source.now) }
 {
-    match lex(alloc, source) {
-        Ok(tokens) => Ok(tokens),
+    match lex_as::<Lexeme>(alloc, source) {
+        Ok(lexemes) => Ok(lexemes),
         Err(LexFault::NoMemory) => Err(SourceFault::NoMemory),
         Err(fault) => Err(SourceFault::Lex(fault)),
     }
@@ -33,8 +35,8 @@ fn program_of(alloc: Global, source: &[u8]) -> Result<Program, SourceFault>
     ensures program { IfOk result (λ program. Derives source.now (file_of program)) }
     ensures fault { IfErr result (IsFaultOf source.now) }
 {
-    let tokens = tokens_of(alloc, source)?;
-    match parse(alloc, source, &tokens) {
+    let lexemes = lexemes_of(alloc, source)?;
+    match parse_lexemes(alloc, source, &lexemes) {
         Ok(program) => Ok(program),
         Err(ParseFault::Syntax(at)) => Err(SourceFault::Syntax(at)),
         Err(ParseFault::TooDeep) => Err(SourceFault::TooDeep),

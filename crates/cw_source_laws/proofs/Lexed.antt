@@ -17,7 +17,8 @@ use Rattle.cw_lex.specs.Bytes.{is_name_byte as is_word_byte}
 use Rattle.cw_lex.specs.Characters.{character_len, text_len}
 use Rattle.cw_lex.specs.Fronts.{identifier, front_at}
 use Rattle.cw_lex.specs.Tokens.{AreTokens}
-use Rattle.cw_lex.proofs.Each.{IsTokenOf, each_token}
+use Rattle.cw_lex.specs.Listed.{IsTokenOf}
+use Rattle.cw_lex.proofs.Each.{each_token}
 use Rattle.cw_lex.proofs.Alone.{chosen}
 use Rattle.cw_lex.proofs.Tokened.{identifier_length}
 use Rattle.cw_lex.proofs.Valued.{by_kind, number_kind, quoted_kind, empty_text}

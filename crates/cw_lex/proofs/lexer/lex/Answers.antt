@@ -1,6 +1,5 @@
-use Rattle.std.proofs.Common.{inr}
-use Rattle.cw_lex.proofs.Standing.{is_marker_fault}
+use Rattle.cw_lex.proofs.Made.{all_as_they_are}
 use Rattle.cw_lex.proofs.lexer.lex.Goals as goal
 
-pub returns-in-Some-clause-fault : goal.returns-in-Some-clause-fault
-returns-in-Some-clause-fault c = inr (is_marker_fault c.args.source.now c.in-Some.at c.in-Some.ensures.found)
+pub returns-clause-tokens : goal.returns-clause-tokens
+returns-clause-tokens c = all_as_they_are c.args.source.now c.lex_as.result c.lex_as.ensures.tokens
