@@ -307,10 +307,56 @@ fn operand_at<'t>(alloc: Global, depth: u32, tokens: &'t [Lexeme]) -> Result<Fou
         return Ok(found);
     }
     if is_cast_next(tokens) {
-        cast_at(alloc, depth, tokens)
-    } else {
-        unary_at(alloc, depth, tokens)
+        return cast_called(alloc, depth, tokens);
     }
+    unary_at(alloc, depth, tokens)
+}
+
+/// `cast_at` by a call. This stands in its callers, as do the next two: so the place of what the call gives is one of its own, and is
+/// cleared only where there is a call, while an operand that needs none stays in registers.
+#[inline(always)]
+#[cycle(parser)]
+fn cast_called<'t>(alloc: Global, depth: u32, tokens: &'t [Lexeme]) -> Result<Found<'t>, Refusal>
+    requires deep { depth < NESTING }
+    ensures gives { Gives got result (cast (read_at depth) depth tokens.now) }
+    ensures fits { IfOk result (λ x. x.depth ≤ depth + 1) }
+{
+    cast_at(alloc, depth, tokens)
+}
+
+/// `prefixed_at` by a call.
+#[inline(always)]
+#[cycle(parser)]
+fn prefixed_called<'t>(
+    alloc: Global,
+    depth: u32,
+    number: u8,
+    rule: Rule,
+    prefix: &Lexeme,
+    tokens: &'t [Lexeme],
+) -> Result<Found<'t>, Refusal>
+    requires deep { depth < NESTING }
+    requires rule { IsInRange rule }
+    ensures gives { Gives got result (prefixed (read_at depth) depth number rule prefix.now tokens.now) }
+    ensures fits { IfOk result (λ x. x.depth ≤ depth + 1) }
+{
+    prefixed_at(alloc, depth, number, rule, prefix, tokens)
+}
+
+/// `size_of_at` by a call.
+#[inline(always)]
+#[cycle(parser)]
+fn size_of_called<'t>(
+    alloc: Global,
+    depth: u32,
+    keyword: &Lexeme,
+    tokens: &'t [Lexeme],
+) -> Result<Found<'t>, Refusal>
+    requires deep { depth < NESTING }
+    ensures gives { Gives got result (size_of (read_at depth) depth keyword.now tokens.now) }
+    ensures fits { IfOk result (λ x. x.depth ≤ depth + 1) }
+{
+    size_of_at(alloc, depth, keyword, tokens)
 }
 
 /// A type in parentheses and the operand behind it (ISO C11, 6.5.4).
@@ -338,19 +384,16 @@ fn unary_at<'t>(alloc: Global, depth: u32, tokens: &'t [Lexeme]) -> Result<Found
     let [first, rest @ ..] = tokens else {
         return Err(Refusal::Syntax);
     };
-    match sign_of(first.terminal) {
-        Some(number) => prefixed_at(alloc, depth, number, Rule::Level(0), *first, rest),
-        None => match step_of(first.terminal) {
-            Some(number) => prefixed_at(alloc, depth, number, Rule::Unary, *first, rest),
-            None => {
-                if is_same(first.terminal, Terminal::SizeOf) {
-                    size_of_at(alloc, depth, *first, rest)
-                } else {
-                    postfix_at(alloc, depth, tokens)
-                }
-            }
-        },
+    if let Some(number) = sign_of(first.terminal) {
+        return prefixed_called(alloc, depth, number, Rule::Level(0), first, rest);
     }
+    if let Some(number) = step_of(first.terminal) {
+        return prefixed_called(alloc, depth, number, Rule::Unary, first, rest);
+    }
+    if is_same(first.terminal, Terminal::SizeOf) {
+        return size_of_called(alloc, depth, first, rest);
+    }
+    postfix_at(alloc, depth, tokens)
 }
 
 /// Behind a prefix.
@@ -361,12 +404,12 @@ fn prefixed_at<'t>(
     depth: u32,
     number: u8,
     rule: Rule,
-    prefix: Lexeme,
+    prefix: &Lexeme,
     tokens: &'t [Lexeme],
 ) -> Result<Found<'t>, Refusal>
     requires deep { depth < NESTING }
     requires rule { IsInRange rule }
-    ensures gives { Gives got result (prefixed (read_at depth) depth number rule prefix tokens.now) }
+    ensures gives { Gives got result (prefixed (read_at depth) depth number rule prefix.now tokens.now) }
     ensures fits { IfOk result (λ x. x.depth ≤ depth + 1) }
 {
     let part = read(alloc, depth, rule, tokens)?;
@@ -379,11 +422,11 @@ fn prefixed_at<'t>(
 fn size_of_at<'t>(
     alloc: Global,
     depth: u32,
-    keyword: Lexeme,
+    keyword: &Lexeme,
     tokens: &'t [Lexeme],
 ) -> Result<Found<'t>, Refusal>
     requires deep { depth < NESTING }
-    ensures gives { Gives got result (size_of (read_at depth) depth keyword tokens.now) }
+    ensures gives { Gives got result (size_of (read_at depth) depth keyword.now tokens.now) }
     ensures fits { IfOk result (λ x. x.depth ≤ depth + 1) }
 {
     if is_cast_next(tokens) {
@@ -587,6 +630,10 @@ fn arguments_all<'t>(
     let mut so_far = first;
     'arguments: while begins_with(so_far.rest, Terminal::Comma) {
         so_far = argument_at(alloc, depth, so_far)?;
+    }
+    // To give back the one place that three arguments leave free costs more than it is worth.
+    if so_far.list.len() == 3 {
+        return Ok(so_far);
     }
     so_far.list.shrink_to_fit();
     Ok(so_far)

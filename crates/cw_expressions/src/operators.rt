@@ -8,6 +8,7 @@ ghost use Rattle.cw_expressions.specs.Reading.{next_of, at_level, binary_at, goe
 use cw_grammar::terminals::{Lexeme, Terminal};
 
 /// The number of `+ - ! ~ * &` as an operator before an operand (ISO C11, 6.5.3).
+#[inline(always)]
 pub(crate) fn sign_of(terminal: Terminal) -> Option<u8>
     ensures { result ≡ sign terminal }
 {
@@ -23,6 +24,7 @@ pub(crate) fn sign_of(terminal: Terminal) -> Option<u8>
 }
 
 /// The number of `++` or `--` as an operator before a unary (ISO C11, 6.5.3.1).
+#[inline(always)]
 pub(crate) fn step_of(terminal: Terminal) -> Option<u8>
     ensures { result ≡ step terminal }
 {

@@ -63,6 +63,12 @@ arguments_all-returns-clause-gives t c =
     rw c.shrink_to_fit.ensures.items (sym c.arguments.invariant.gives
     ∙ repeat_ends rest_of_arguments (begins w.Comma) (argument (read_at c.args.depth) c.args.depth) (length c.arguments.so_far.rest.now) (got_arguments c.arguments.so_far) stop)
 
+pub arguments_all-returns-then-len-eq3-clause-gives : goal.arguments_all-returns-then-len-eq3-clause-gives
+arguments_all-returns-then-len-eq3-clause-gives t c =
+    let stop : begins w.Comma c.arguments.so_far.rest.now ≡ false = sym c.begins_with.ensures.begins ∙ c.arguments-test.false in
+    sym c.arguments.invariant.gives
+    ∙ repeat_ends rest_of_arguments (begins w.Comma) (argument (read_at c.args.depth) c.args.depth) (length c.arguments.so_far.rest.now) (got_arguments c.arguments.so_far) stop
+
 pub level_at-returns-in_err-so_far-clause-gives : goal.level_at-returns-in_err-so_far-clause-gives
 level_at-returns-in_err-so_far-clause-gives t c =
     let p = err_from_is_err_and c.from_residual.result c.from_residual.ensures.1 in

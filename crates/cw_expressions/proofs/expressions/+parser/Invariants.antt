@@ -24,6 +24,9 @@ decreases-between_at l = 40 * l.depth + 1
 abbrev pub decreases-by_rule_at : goal.decreases-by_rule_at
 decreases-by_rule_at l = 40 * l.depth + 39
 
+abbrev pub decreases-cast_called : goal.decreases-cast_called
+decreases-cast_called l = 40 * l.depth + 2
+
 abbrev pub decreases-cast_at : goal.decreases-cast_at
 decreases-cast_at l = 40 * l.depth + 1
 
@@ -51,6 +54,9 @@ decreases-postfix_called l = 40 * l.depth + 20
 abbrev pub decreases-postfix_at : goal.decreases-postfix_at
 decreases-postfix_at l = 40 * l.depth + 12
 
+abbrev pub decreases-prefixed_called : goal.decreases-prefixed_called
+decreases-prefixed_called l = 40 * l.depth + 2
+
 abbrev pub decreases-prefixed_at : goal.decreases-prefixed_at
 decreases-prefixed_at l = 40 * l.depth + 1
 
@@ -59,6 +65,9 @@ decreases-primary_at l = 40 * l.depth + 11
 
 abbrev pub decreases-read : goal.decreases-read
 decreases-read l = 40 * l.depth
+
+abbrev pub decreases-size_of_called : goal.decreases-size_of_called
+decreases-size_of_called l = 40 * l.depth + 2
 
 abbrev pub decreases-size_of_at : goal.decreases-size_of_at
 decreases-size_of_at l = 40 * l.depth + 1
