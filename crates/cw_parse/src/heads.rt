@@ -56,7 +56,8 @@ pub(crate) fn declares_next(tokens: &[Lexeme]) -> bool
     }
 }
 
-/// A declaration, as a statement.
+/// A declaration, as a statement. It stands in its callers, so that the place of what it reads is cleared only where one is read.
+#[inline(always)]
 #[tactic(auto, unfolding(crate::specs::StatementReading::declared))]
 pub(crate) fn declared_at<'t>(
     alloc: Global,
@@ -120,12 +121,12 @@ pub(crate) fn start_at<'t>(
 /// `break` or `continue`, behind the terminal.
 #[inline(always)]
 #[tactic(auto, unfolding(crate::specs::StatementReading::short))]
-pub(crate) fn short_at(
+pub(crate) fn short_at<'t>(
     what: What,
-    terminal: Lexeme,
-    tokens: &[Lexeme],
-) -> Result<(Stmt, &[Lexeme]), Refusal>
-    ensures { Gives one result (short (form_of what) terminal tokens.now) }
+    terminal: &Lexeme,
+    tokens: &'t [Lexeme],
+) -> Result<(Stmt, &'t [Lexeme]), Refusal>
+    ensures { Gives one result (short (form_of what) terminal.now tokens.now) }
 {
     let (semicolon, rest) = take(tokens, Terminal::Semicolon)?;
     Ok((
@@ -142,10 +143,10 @@ pub(crate) fn short_at(
 #[tactic(auto, unfolding(crate::specs::StatementReading::returned))]
 pub(crate) fn returned_at<'t>(
     alloc: Global,
-    terminal: Lexeme,
+    terminal: &Lexeme,
     tokens: &'t [Lexeme],
 ) -> Result<(Stmt, &'t [Lexeme]), Refusal>
-    ensures { Gives one result (returned terminal tokens.now) }
+    ensures { Gives one result (returned terminal.now tokens.now) }
 {
     let ((value, to), rest) = ended_at(alloc, tokens, Terminal::Semicolon)?;
     Ok((

@@ -54,7 +54,8 @@ fn statement_at<'t>(
     }
 }
 
-/// By its first terminal.
+/// By its first terminal. An expression that begins with a name is read apart from what `nested_at` reads by calls: so it isn't
+/// moved to the place of what they give, and that place is cleared only where one of them is called.
 #[inline(always)]
 #[cycle(parser)]
 #[tactic(auto, unfolding(crate::specs::StatementReading::stated))]
@@ -68,7 +69,33 @@ fn stated_at<'t>(
     match tokens {
         [] => Err(Refusal::Syntax),
         [first, rest @ ..] => match first.terminal {
-            Terminal::OpenBrace => block_at(alloc, depth, *first, rest),
+            Terminal::Name => {
+                if begins_with(rest, Terminal::Colon) {
+                    nested_at(alloc, depth, tokens)
+                } else {
+                    evaluated_at(alloc, tokens)
+                }
+            }
+            _ => nested_at(alloc, depth, tokens),
+        },
+    }
+}
+
+/// By its first terminal, whatever it is.
+#[inline(always)]
+#[cycle(parser)]
+#[tactic(auto, unfolding(crate::specs::StatementReading::stated))]
+fn nested_at<'t>(
+    alloc: Global,
+    depth: u32,
+    tokens: &'t [Lexeme],
+) -> Result<(Stmt, &'t [Lexeme]), Refusal>
+    ensures { Gives one result (stated (read_statement depth) tokens.now) }
+{
+    match tokens {
+        [] => Err(Refusal::Syntax),
+        [first, rest @ ..] => match first.terminal {
+            Terminal::OpenBrace => block_at(alloc, depth, first, rest),
             Terminal::Semicolon => Ok((
                 Stmt {
                     what: What::Empty,
@@ -77,16 +104,16 @@ fn stated_at<'t>(
                 },
                 rest,
             )),
-            Terminal::If => branched_at(alloc, depth, *first, rest),
-            Terminal::While => looped_at(alloc, depth, *first, rest),
-            Terminal::Do => done_at(alloc, depth, *first, rest),
-            Terminal::For => counted_at(alloc, depth, *first, rest),
-            Terminal::Break => short_at(What::Break, *first, rest),
-            Terminal::Continue => short_at(What::Continue, *first, rest),
-            Terminal::Return => returned_at(alloc, *first, rest),
+            Terminal::If => branched_at(alloc, depth, first, rest),
+            Terminal::While => looped_at(alloc, depth, first, rest),
+            Terminal::Do => done_at(alloc, depth, first, rest),
+            Terminal::For => counted_at(alloc, depth, first, rest),
+            Terminal::Break => short_at(What::Break, first, rest),
+            Terminal::Continue => short_at(What::Continue, first, rest),
+            Terminal::Return => returned_at(alloc, first, rest),
             Terminal::Name => {
                 if begins_with(rest, Terminal::Colon) {
-                    labelled_at(alloc, depth, *first, rest)
+                    labelled_at(alloc, depth, first, rest)
                 } else {
                     evaluated_at(alloc, tokens)
                 }
@@ -102,10 +129,10 @@ fn stated_at<'t>(
 fn block_at<'t>(
     alloc: Global,
     depth: u32,
-    brace: Lexeme,
+    brace: &Lexeme,
     tokens: &'t [Lexeme],
 ) -> Result<(Stmt, &'t [Lexeme]), Refusal>
-    ensures { Gives one result (block (read_statement depth) brace tokens.now) }
+    ensures { Gives one result (block (read_statement depth) brace.now tokens.now) }
 {
     let (kids, rest) = listed_at(alloc, depth, tokens)?;
     let (close, rest) = take(rest, Terminal::CloseBrace)?;
@@ -147,10 +174,10 @@ fn listed_at<'t>(
 fn labelled_at<'t>(
     alloc: Global,
     depth: u32,
-    name: Lexeme,
+    name: &Lexeme,
     tokens: &'t [Lexeme],
 ) -> Result<(Stmt, &'t [Lexeme]), Refusal>
-    ensures { Gives one result (labelled (read_statement depth) name tokens.now) }
+    ensures { Gives one result (labelled (read_statement depth) name.now tokens.now) }
 {
     let (colon, rest) = take(tokens, Terminal::Colon)?;
     let (body, rest) = read(alloc, depth, false, rest)?;
@@ -171,10 +198,10 @@ fn labelled_at<'t>(
 fn branched_at<'t>(
     alloc: Global,
     depth: u32,
-    terminal: Lexeme,
+    terminal: &Lexeme,
     tokens: &'t [Lexeme],
 ) -> Result<(Stmt, &'t [Lexeme]), Refusal>
-    ensures { Gives one result (branched (read_statement depth) terminal tokens.now) }
+    ensures { Gives one result (branched (read_statement depth) terminal.now tokens.now) }
 {
     let (test, rest) = test_at(alloc, tokens)?;
     let (body, rest) = read(alloc, depth, false, rest)?;
@@ -188,12 +215,12 @@ fn branched_at<'t>(
 fn chosen_at<'t>(
     alloc: Global,
     depth: u32,
-    terminal: Lexeme,
+    terminal: &Lexeme,
     test: Expr,
     body: Stmt,
     tokens: &'t [Lexeme],
 ) -> Result<(Stmt, &'t [Lexeme]), Refusal>
-    ensures { Gives one result (chosen (read_statement depth) terminal (tree_of test) (statement_of body) tokens.now) }
+    ensures { Gives one result (chosen (read_statement depth) terminal.now (tree_of test) (statement_of body) tokens.now) }
 {
     let to = body.to;
     let body = Box::new(alloc, body)?;
@@ -215,10 +242,10 @@ fn chosen_at<'t>(
 fn looped_at<'t>(
     alloc: Global,
     depth: u32,
-    terminal: Lexeme,
+    terminal: &Lexeme,
     tokens: &'t [Lexeme],
 ) -> Result<(Stmt, &'t [Lexeme]), Refusal>
-    ensures { Gives one result (looped (read_statement depth) terminal tokens.now) }
+    ensures { Gives one result (looped (read_statement depth) terminal.now tokens.now) }
 {
     let (test, rest) = test_at(alloc, tokens)?;
     let (body, rest) = read(alloc, depth, false, rest)?;
@@ -235,10 +262,10 @@ fn looped_at<'t>(
 fn done_at<'t>(
     alloc: Global,
     depth: u32,
-    terminal: Lexeme,
+    terminal: &Lexeme,
     tokens: &'t [Lexeme],
 ) -> Result<(Stmt, &'t [Lexeme]), Refusal>
-    ensures { Gives one result (done (read_statement depth) terminal tokens.now) }
+    ensures { Gives one result (done (read_statement depth) terminal.now tokens.now) }
 {
     let (body, rest) = read(alloc, depth, false, tokens)?;
     let (_, rest) = take(rest, Terminal::While)?;
@@ -256,10 +283,10 @@ fn done_at<'t>(
 fn counted_at<'t>(
     alloc: Global,
     depth: u32,
-    terminal: Lexeme,
+    terminal: &Lexeme,
     tokens: &'t [Lexeme],
 ) -> Result<(Stmt, &'t [Lexeme]), Refusal>
-    ensures { Gives one result (counted (read_statement depth) terminal tokens.now) }
+    ensures { Gives one result (counted (read_statement depth) terminal.now tokens.now) }
 {
     let (_, rest) = take(tokens, Terminal::Open)?;
     let (init, rest) = start_at(alloc, rest)?;

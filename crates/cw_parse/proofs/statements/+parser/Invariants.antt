@@ -13,29 +13,32 @@ decreases-statement_at l = 8 * l.depth + 7
 abbrev pub decreases-stated_at : goal.decreases-stated_at
 decreases-stated_at l = 8 * l.depth + 6
 
+abbrev pub decreases-nested_at : goal.decreases-nested_at
+decreases-nested_at l = 8 * l.depth + 5
+
 abbrev pub decreases-block_at : goal.decreases-block_at
-decreases-block_at l = 8 * l.depth + 5
+decreases-block_at l = 8 * l.depth + 4
 
 abbrev pub decreases-listed_at : goal.decreases-listed_at
 decreases-listed_at l = 8 * l.depth + 1
 
 abbrev pub decreases-labelled_at : goal.decreases-labelled_at
-decreases-labelled_at l = 8 * l.depth + 5
+decreases-labelled_at l = 8 * l.depth + 4
 
 abbrev pub decreases-branched_at : goal.decreases-branched_at
-decreases-branched_at l = 8 * l.depth + 5
+decreases-branched_at l = 8 * l.depth + 4
 
 abbrev pub decreases-chosen_at : goal.decreases-chosen_at
-decreases-chosen_at l = 8 * l.depth + 4
+decreases-chosen_at l = 8 * l.depth + 3
 
 abbrev pub decreases-looped_at : goal.decreases-looped_at
-decreases-looped_at l = 8 * l.depth + 5
+decreases-looped_at l = 8 * l.depth + 4
 
 abbrev pub decreases-done_at : goal.decreases-done_at
-decreases-done_at l = 8 * l.depth + 5
+decreases-done_at l = 8 * l.depth + 4
 
 abbrev pub decreases-counted_at : goal.decreases-counted_at
-decreases-counted_at l = 8 * l.depth + 5
+decreases-counted_at l = 8 * l.depth + 4
 
 abbrev pub invariant-listed_at-statements : goal.invariant-listed_at-statements
 invariant-listed_at-statements l = many (read_statement l.depth true) goes_on (map statement_of l.list.items, l.rest) ≡ many (read_statement l.depth true) goes_on ([], l.fn.tokens)
