@@ -6,7 +6,7 @@ use Rattle.std.specs.List.{Contains, AllByRecursion}
 use Rattle.std.specs.List.Sorted.{IsStrictlySortedBy}
 use Rattle.std.specs.declared.cmp.Ordering.{Ordering}
 use Rattle.std.specs.declared.cmp.Ordering.TheVariants.{Less, Equal, Greater}
-use Rattle.std.specs.Cmp.{nat_cmp_total, tied_itself, both_ways}
+use Rattle.std.specs.Cmp.{IsTotalOrder, nat_cmp_total, then_total, on_total, tied_itself, both_ways}
 use Rattle.std.specs.Ordering.{ordering_then, nat_cmp, is_eq, eq_by_cmp}
 use Rattle.std.proofs.lemmas.Bool.Decides.{nat_tests}
 use Rattle.std.proofs.lemmas.List.{length-map}
@@ -41,6 +41,12 @@ small_exact x y e =
     let c = both_equal _ _ b.1 in
     same_small x.height x.pos x.state x.aim y.height y.pos y.state y.aim (nat_cmp-IsAntisymmetric _ _ a.0) (nat_cmp-IsAntisymmetric _ _ b.0) (nat_cmp-IsAntisymmetric _ _ c.0)
     (nat_cmp-IsAntisymmetric _ _ c.1)
+
+pub small_total : IsTotalOrder small_cmp
+small_total =
+    then_total (on_total (λ (k : SmallKey). k.height) nat_cmp_total)
+    (then_total (on_total (λ (k : SmallKey). k.pos) nat_cmp_total)
+    (then_total (on_total (λ (k : SmallKey). k.state) nat_cmp_total) (on_total (λ (k : SmallKey). k.aim) nat_cmp_total)))
 
 lower_small : (a k : SmallKey) → a.height < k.height → small_cmp a k ≡ Less
 lower_small a k l =
@@ -81,7 +87,7 @@ sorted_map c d f (x ∷ xs) h s = (
 
 -- aims in order
 module _ (aims : List ℕ) (order : IsStrictlySortedBy nat_cmp aims) where
-  its_number : (n : ℕ) → n < length aims → number_in nat_cmp aims (slice_index aims n) ≡ n
+  pub its_number : (n : ℕ) → n < length aims → number_in nat_cmp aims (slice_index aims n) ≡ n
   its_number n l = number_at nat_cmp nat_cmp_total nat_cmp-IsAntisymmetric aims n (slice_index aims n) order (slice_get-get_or aims n 0 l)
 
   key_order : (x y : SmallKey) → x.aim < length aims → y.aim < length aims → key_cmp (whole aims x) (whole aims y) ≡ small_cmp x y

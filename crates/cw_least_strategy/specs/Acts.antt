@@ -18,13 +18,6 @@ use Rattle.cw_least_strategy.specs.declared.key.Key.{Key}
 use Rattle.cw_least_strategy.specs.declared.key.Way.{Way}
 use Rattle.cw_least_strategy.specs.Strategies.{backs_in, row_at, start_key, Act, Bad, Out, Both, Go, Into}
 
-abbrev pub act_of : ActData → Act
-act_of given.Bad = Bad
-act_of given.Out = Out
-act_of (given.Both skip tried) = Both skip tried
-act_of (given.Go way) = Go way
-act_of (given.Into callee backs) = Into callee (map (λ b. (b.0.0, b.1)) backs.items)
-
 -- the context with this number has the pair, and promises all states but those of the aim
 pub record IsIn (h : Held) (number aim p q : ℕ) : Type 0 where
   pub context : Context
@@ -48,6 +41,14 @@ key_at aim to = record { height = to.height; pos = to.pos.0; state = to.state.0;
 
 abbrev pub way_at : ℕ → Lead → Way
 way_at aim lead = record { by = lead.by; to = key_at aim lead.to }
+
+-- what is done at a key of an aim
+abbrev pub act_of : ℕ → ActData → Act
+act_of aim given.Bad = Bad
+act_of aim given.Out = Out
+act_of aim (given.Both skip tried) = Both (key_at aim skip) (key_at aim tried)
+act_of aim (given.Go lead) = Go (way_at aim lead)
+act_of aim (given.Into callee backs) = Into callee.value (map (λ b. (b.0.0, b.1)) backs.items)
 
 -- how many backs a key's row has
 abbrev pub backs_of : Game → List Key → Key → ℕ

@@ -12,34 +12,35 @@ ghost use Rattle.cw_least_strategy.specs.Strategies.{way, sooner, best, moves, a
 
 use crate::contexts::Entries;
 use crate::heights::{Lower, below, lower_pair};
-use crate::key::{Key, Way};
+use crate::key::Key;
 use cw_certs::Move;
 use cw_core::{PosId, StateId, StateSet};
 use cw_product::Turn;
 use cw_solve::Solved;
 use std::alloc::{AllocError, Global};
 
-/// What is done at a key: as a row says it, with keys in place of the numbers of rows.
+/// What is done at a key: as a row says it, with pairs in place of the numbers of rows. Those of the key's own aim stand without
+/// it, and a callee's key apart, as a copy of an aim costs more than the rest.
 #[derive(Drop)]
 pub(crate) enum Act {
     Bad,
     Out,
     Both {
-        skip: Key,
-        tried: Key,
+        skip: Lower,
+        tried: Lower,
     },
-    Go(Way),
+    Go(Lead),
     Into {
-        callee: Key,
+        callee: Box<Key>,
         backs: Vec<(StateId, Key)>,
     },
 }
 
 /// A move of the environment, and the pair to which it leads.
 #[derive(Clone, Copy, Drop)]
-struct Lead {
-    by: Move,
-    to: Lower,
+pub(crate) struct Lead {
+    pub by: Move,
+    pub to: Lower,
 }
 
 /// Where a move leads from a key.
@@ -182,7 +183,7 @@ fn into(
     requires key { IsKey (game_of solved.now.game) (length solved.now.game.graph.parts.items) key.now }
     requires here { IsIn solved.now number key.now.aim key.now.pos key.now.state }
     requires call { HasCall (game_of solved.now.game) key.now.pos function back.0 split }
-    ensures { IfOk result (λ a. act_of a ≡ act (game_of solved.now.game) key.now) }
+    ensures { IfOk result (λ a. act_of key.now.aim a ≡ act (game_of solved.now.game) key.now) }
 {
     let aim = aim_at(solved, number, key, back, split);
     let state = StateId(key.state);
@@ -196,6 +197,7 @@ fn into(
         aim,
     );
     let backs = backs_at(alloc, solved, number, key, back, split)?;
+    let callee = Box::new(alloc, callee)?;
     Ok(Act::Into { callee, backs })
 }
 
@@ -209,7 +211,7 @@ pub(crate) fn act_at(
 ) -> Result<Act, AllocError>
     requires routed { AreRouted (game_of solved.now.game) (length solved.now.game.graph.parts.items) }
     requires key { IsKey (game_of solved.now.game) (length solved.now.game.graph.parts.items) key.now }
-    ensures { IfOk result (λ a. act_of a ≡ act (game_of solved.now.game) key.now) }
+    ensures { IfOk result (λ a. act_of key.now.aim a ≡ act (game_of solved.now.game) key.now) }
 {
     let pos = PosId(key.pos);
     let state = StateId(key.state);
@@ -217,8 +219,8 @@ pub(crate) fn act_at(
     match solved.game().turn(pos) {
         Turn::Exit { .. } => Ok(Act::Out),
         Turn::Weaver => Ok(Act::Both {
-            skip: below(solved, number, key, PosId(key.pos + 2), state, key.aim),
-            tried: below(solved, number, key, PosId(key.pos + 1), state, key.aim),
+            skip: lower_pair(solved, number, key, PosId(key.pos + 2), state),
+            tried: lower_pair(solved, number, key, PosId(key.pos + 1), state),
         }),
         Turn::Call {
             callee,
@@ -229,10 +231,7 @@ pub(crate) fn act_at(
         ),
         Turn::Environment => match best(solved, number, key) {
             None => Ok(Act::Bad),
-            Some(lead) => Ok(Act::Go(Way {
-                by: lead.by,
-                to: lead.to.key(key.aim),
-            })),
+            Some(lead) => Ok(Act::Go(lead)),
         },
     }
 }

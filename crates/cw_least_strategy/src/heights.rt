@@ -1,14 +1,17 @@
 //! Where a pair's height is found.
 
 ghost use Rattle.std.specs.Prelude.{◌≡◌, ◌-◌, ◌<◌, length};
+ghost use Rattle.std.specs.Ordering.{nat_cmp};
+ghost use Rattle.cw_fixpoint.specs.Numbers.{number_in};
 ghost use Rattle.cw_product.specs.Product.{game_of};
 ghost use Rattle.cw_product.specs.Routed.{AreRouted};
 ghost use Rattle.cw_game.specs.Pairs.{has};
 ghost use Rattle.cw_least_strategy.specs.Acts.{IsIn, key_at};
 ghost use Rattle.cw_least_strategy.specs.Heights.{others, height_within};
+ghost use Rattle.cw_least_strategy.specs.Small.{small};
 ghost use Rattle.cw_least_strategy.specs.Strategies.{below};
 
-use crate::key::Key;
+use crate::key::{Key, SmallKey};
 use cw_core::{PosId, StateId, StateSet};
 use cw_product::Game;
 use cw_solve::Solved;
@@ -72,6 +75,21 @@ pub(crate) struct Lower {
 }
 
 impl Lower {
+    /// Its small key, for an aim that has this number among all.
+    pub(crate) fn small(self, aims: &[StateSet], aim: &StateSet, number: u32) -> SmallKey
+        requires number { number_in nat_cmp aims.now aim.now ≡ number }
+        ensures { result ≡ small aims.now (key_at aim.now self) }
+    {
+        let _ = aims;
+        let _ = aim;
+        SmallKey {
+            height: self.height,
+            pos: self.pos.0,
+            state: self.state.0,
+            aim: number,
+        }
+    }
+
     /// Its key for an aim.
     pub(crate) fn key(self, aim: StateSet) -> Key
         ensures { result ≡ key_at aim self }

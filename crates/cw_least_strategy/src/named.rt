@@ -1,6 +1,8 @@
 //! The keys that a key names.
 
 ghost use Rattle.std.specs.Prelude.{◌≡◌, ◌++◌, map, OnOk};
+ghost use Rattle.std.specs.Ordering.{nat_cmp};
+ghost use Rattle.cw_fixpoint.specs.Numbers.{number_in};
 ghost use Rattle.cw_least_strategy.specs.Acts.{act_of};
 ghost use Rattle.cw_least_strategy.specs.Small.{small, small_of_back, Ascend};
 ghost use Rattle.cw_least_strategy.specs.Strategies.{keys_in};
@@ -29,18 +31,25 @@ fn put_backs(
     Ok(())
 }
 
-/// Appends the keys that an act names.
-fn put_keys(aims: &[StateSet], act: &Act, keys: &mut Vec<SmallKey>) -> Result<(), AllocError>
+/// Appends the keys that an act names, at a key whose aim has this number.
+fn put_keys(
+    aims: &[StateSet],
+    aim: &StateSet,
+    number: u32,
+    act: &Act,
+    keys: &mut Vec<SmallKey>,
+) -> Result<(), AllocError>
     requires ascend { Ascend aims.now }
-    ensures { OnOk result (keys.new.items ≡ keys.old.items ++ map (small aims.now) (keys_in (act_of act.now))) }
+    requires number { number_in nat_cmp aims.now aim.now ≡ number }
+    ensures { OnOk result (keys.new.items ≡ keys.old.items ++ map (small aims.now) (keys_in (act_of aim.now act.now))) }
 {
     match act {
         Act::Bad | Act::Out => {}
         Act::Both { skip, tried } => {
-            keys.push(small(aims, skip))?;
-            keys.push(small(aims, tried))?;
+            keys.push(skip.small(aims, aim, number))?;
+            keys.push(tried.small(aims, aim, number))?;
         }
-        Act::Go(way) => keys.push(small(aims, &way.to))?,
+        Act::Go(lead) => keys.push(lead.to.small(aims, aim, number))?,
         Act::Into { callee, backs } => {
             keys.push(small(aims, callee))?;
             put_backs(aims, backs, keys)?;
@@ -67,10 +76,10 @@ impl<'g> Steps<SmallKey> for Named<'g> {
     ghost can_follow = { λ s k. CanTake s.solved.now s.aims.now k };
 
     fn put_after(&self, key: SmallKey, keys: &mut Vec<SmallKey>) -> Result<(), AllocError> {
-        let near = key.aim;
+        let number = key.aim;
         let key = whole(self.aims, &key);
-        let act = act_at(self.alloc, self.solved, &self.entries, &key, near)?;
-        put_keys(self.aims, &act, keys)?;
+        let act = act_at(self.alloc, self.solved, &self.entries, &key, number)?;
+        put_keys(self.aims, &key.aim, number, &act, keys)?;
         Ok(())
     }
 

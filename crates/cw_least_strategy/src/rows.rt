@@ -1,18 +1,22 @@
 //! What the rows of a strategy do.
 
-ghost use Rattle.std.specs.Prelude.{◌≡◌, ◌+◌, ◌<◌, ◌≤◌, map, length, sum_by, Contains, IfOk, IfSome, IfNone};
+ghost use Rattle.std.specs.Prelude.{◌≡◌, ◌+◌, ◌<◌, ◌≤◌, map, length, slice_get, sum_by, Contains, IsTrue, IfOk, IfSome, IfNone, Some};
+ghost use Rattle.std.specs.List.Sorted.{IsStrictlySortedBy};
+ghost use Rattle.std.specs.Ordering.{nat_cmp};
 ghost use Rattle.cw_certs.specs.Strategies.{how_of};
+ghost use Rattle.cw_fixpoint.specs.Numbers.{number_in};
 ghost use Rattle.cw_product.specs.Product.{game_of};
 ghost use Rattle.cw_product.specs.Routed.{AreRouted};
-ghost use Rattle.cw_least_strategy.specs.Acts.{act_of};
+ghost use Rattle.cw_least_strategy.specs.Acts.{act_of, key_at};
 ghost use Rattle.cw_least_strategy.specs.Kept.{IsKey};
-ghost use Rattle.cw_least_strategy.specs.Small.{whole, wholes, backs_for, AreRanked};
+ghost use Rattle.cw_least_strategy.specs.Small.{small_cmp, whole, wholes, backs_for, AreRanked};
 ghost use Rattle.cw_least_strategy.specs.Parts.{how_in};
 ghost use Rattle.cw_least_strategy.specs.Strategies.{number, act, how_by, backs_in};
 
 use crate::acts::{Act, act_at};
 use crate::aims::{small, whole};
 use crate::contexts::Entries;
+use crate::heights::Lower;
 use crate::key::{Key, SmallKey};
 use cw_certs::How;
 use cw_core::limits::ROWS;
@@ -21,6 +25,37 @@ use cw_fixpoint::number_of;
 use cw_solve::Solved;
 use std::alloc::{AllocError, Global};
 
+/// Whether a key stands at an index.
+fn stands_at(keys: &[SmallKey], index: usize, wanted: &SmallKey) -> bool
+    ensures { IsTrue result → slice_get keys.now index ≡ Some wanted.now }
+{
+    match keys.get(index) {
+        None => false,
+        Some(key) => {
+            key.height == wanted.height
+                && key.pos == wanted.pos
+                && key.state == wanted.state
+                && key.aim == wanted.aim
+        }
+    }
+}
+
+/// The index of a small key among the keys, and how many they are where it is none of them. The key before an index is looked at
+/// first, as most rows name the row before them.
+#[tactic(auto, using(crate::proofs::Small::small_exact))]
+fn index_of(keys: &[SmallKey], wanted: &SmallKey, index: usize) -> usize
+    requires order { IsStrictlySortedBy small_cmp keys.now }
+    ensures is { result ≡ number_in small_cmp keys.now wanted.now }
+    ensures within { result ≤ length keys.now }
+{
+    let before = index.wrapping_sub(1);
+    if stands_at(keys, before, wanted) {
+        before
+    } else {
+        number_of(keys, wanted)
+    }
+}
+
 /// The index of a key among the keys, and how many they are where it is none of them.
 #[tactic(auto, using(crate::proofs::Small::small_exact))]
 fn number(aims: &[StateSet], keys: &[SmallKey], key: &Key) -> u32
@@ -28,6 +63,22 @@ fn number(aims: &[StateSet], keys: &[SmallKey], key: &Key) -> u32
     ensures { result ≡ number (wholes aims.now keys.now) key.now }
 {
     number_of(keys, &small(aims, key)) as u32
+}
+
+/// The same of a pair, for an aim that has this number, named at the key of an index.
+fn lower_number(
+    aims: &[StateSet],
+    keys: &[SmallKey],
+    aim: &StateSet,
+    near: u32,
+    index: usize,
+    to: Lower,
+) -> u32
+    requires ranked { AreRanked aims.now keys.now }
+    requires near { number_in nat_cmp aims.now aim.now ≡ near }
+    ensures { result ≡ number (wholes aims.now keys.now) (key_at aim.now to) }
+{
+    index_of(keys, &to.small(aims, aim, near), index) as u32
 }
 
 /// The rows for the returns by their numbers among all keys.
@@ -47,21 +98,30 @@ fn numbered(
     Ok(numbers)
 }
 
-/// What a row says, by the indices of the keys that it names.
-fn how_by(alloc: Global, aims: &[StateSet], keys: &[SmallKey], act: Act) -> Result<How, AllocError>
+/// What a row says, by the indices of the keys that it names, at the key of an index whose aim has this number.
+fn how_by(
+    alloc: Global,
+    aims: &[StateSet],
+    keys: &[SmallKey],
+    aim: &StateSet,
+    near: u32,
+    index: usize,
+    act: Act,
+) -> Result<How, AllocError>
     requires ranked { AreRanked aims.now keys.now }
-    ensures { IfOk result (λ h. how_of h ≡ how_by (wholes aims.now keys.now) (act_of act)) }
+    requires near { number_in nat_cmp aims.now aim.now ≡ near }
+    ensures { IfOk result (λ h. how_of h ≡ how_by (wholes aims.now keys.now) (act_of aim.now act)) }
 {
     match act {
         Act::Bad => Ok(How::Bad),
         Act::Out => Ok(How::Out),
         Act::Both { skip, tried } => Ok(How::Both {
-            skip: number(aims, keys, &skip),
-            tried: number(aims, keys, &tried),
+            skip: lower_number(aims, keys, aim, near, index, skip),
+            tried: lower_number(aims, keys, aim, near, index, tried),
         }),
-        Act::Go(way) => Ok(How::Go {
-            by: way.by,
-            row: number(aims, keys, &way.to),
+        Act::Go(lead) => Ok(How::Go {
+            by: lead.by,
+            row: lower_number(aims, keys, aim, near, index, lead.to),
         }),
         Act::Into { callee, backs } => {
             let backs = numbered(alloc, aims, keys, &backs)?;
@@ -73,7 +133,7 @@ fn how_by(alloc: Global, aims: &[StateSet], keys: &[SmallKey], act: Act) -> Resu
     }
 }
 
-/// What the row of a key does, whose aim may have this number.
+/// What the row of the key of an index does, whose aim has this number.
 fn how_at(
     alloc: Global,
     solved: &Solved,
@@ -82,14 +142,16 @@ fn how_at(
     keys: &[SmallKey],
     key: &Key,
     near: u32,
+    index: usize,
 ) -> Result<How, AllocError>
     requires routed { AreRouted (game_of solved.now.game) (length solved.now.game.graph.parts.items) }
     requires key { IsKey (game_of solved.now.game) (length solved.now.game.graph.parts.items) key.now }
     requires ranked { AreRanked aims.now keys.now }
+    requires near { number_in nat_cmp aims.now key.now.aim ≡ near }
     ensures { IfOk result (λ h. how_of h ≡ how_by (wholes aims.now keys.now) (act (game_of solved.now.game) key.now)) }
 {
     let act = act_at(alloc, solved, entries, key, near)?;
-    how_by(alloc, aims, keys, act)
+    how_by(alloc, aims, keys, &key.aim, near, index, act)
 }
 
 /// How many backs a row has.
@@ -121,7 +183,16 @@ pub(crate) fn hows_within(
     let mut left = ROWS - keys.len();
     for named in keys {
         let key = whole(aims, named);
-        let how = how_at(alloc, solved, entries, aims, keys, &key, named.aim)?;
+        let how = how_at(
+            alloc,
+            solved,
+            entries,
+            aims,
+            keys,
+            &key,
+            named.aim,
+            hows.len(),
+        )?;
         let backs = backs_in(&how);
         if left < backs {
             return Ok(None);

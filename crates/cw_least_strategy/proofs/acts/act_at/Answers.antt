@@ -19,15 +19,15 @@ overflow_add-key c =
     let few = c.requires.routed.short in
     omega (arith, lt, few)
 
-pub below-requires-clause-here : goal.below-requires-clause-here
-below-requires-clause-here c =
+pub lower_pair-requires-clause-here : goal.lower_pair-requires-clause-here
+lower_pair-requires-clause-here c =
     let g = game_of c.args.solved.now.game in
     let k = c.args.key.now in
     let v = turn_visit g (slice_get g.spots k.pos) (c.in-Weaver.ensures ∙ ap (λ (x : Held). option_map (turn_in (game_of x)) (slice_get (game_of x).spots k.pos)) c.game.ensures) in
     (visit_in c.args.solved.now c.requires.routed c.context_of-number.result k.aim k.pos k.state v.0 v.1 v.2 c.context_of-number.ensures v.3).0
 
-pub below-requires-in-Weaver-clause-here : goal.below-requires-in-Weaver-clause-here
-below-requires-in-Weaver-clause-here c =
+pub lower_pair-requires-in-Weaver-clause-here : goal.lower_pair-requires-in-Weaver-clause-here
+lower_pair-requires-in-Weaver-clause-here c =
     let g = game_of c.args.solved.now.game in
     let k = c.args.key.now in
     let v = turn_visit g (slice_get g.spots k.pos) (c.in-Weaver.ensures ∙ ap (λ (x : Held). option_map (turn_in (game_of x)) (slice_get (game_of x).spots k.pos)) c.game.ensures) in

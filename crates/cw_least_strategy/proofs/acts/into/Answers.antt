@@ -36,5 +36,5 @@ returns c =
     let call = the_call j c.args.function c.args.back.0 c.args.split in
     let es = called (slice_get g.spots k.pos) c.args.split j c.args.function c.args.back.0 c.requires.call.1 in
     let entry_is = c.entry-pos.ensures.is ∙ ap (λ (x : Held). (game_of x).entry c.args.function) c.game.ensures in
-    into_act g k call c.below-callee.result (map (λ (b : StateId × Key). (b.0.0, b.1)) c.in_ok-backs.backs.items) es
-    (c.below-callee.ensures ∙ ap₂ (λ (p a : ℕ). below g k p k.state a) entry_is c.aim_at-aim.ensures) c.in_ok-backs.ensures
+    into_act g k call c.in_ok-callee.callee.value (map (λ (b : StateId × Key). (b.0.0, b.1)) c.in_ok-backs.backs.items) es
+    (c.in_ok-callee.ensures.ok ∙ c.below-callee.ensures ∙ ap₂ (λ (p a : ℕ). below g k p k.state a) entry_is c.aim_at-aim.ensures) c.in_ok-backs.ensures

@@ -1,6 +1,8 @@
 use Rattle.std.proofs.Common.{◌≡◌, ℕ, ◌<◌, Some, List, length, sym, ap, subst, ◌∙◌, arith}
 use Rattle.std.specs.Prelude.{get_or, slice_get, Contains}
 use Rattle.std.proofs.lemmas.Option.{slice_get-get_or, get_or_from_slice_get}
+use Rattle.std.specs.Ordering.{nat_cmp}
+use Rattle.cw_fixpoint.specs.Numbers.{number_in}
 use Rattle.cw_product.specs.Product.{game_of}
 use Rattle.cw_least_strategy.specs.declared.key.Key.{Key}
 use Rattle.cw_least_strategy.specs.declared.key.SmallKey.{SmallKey}
@@ -9,6 +11,7 @@ use Rattle.cw_least_strategy.specs.Kept.{IsKey}
 use Rattle.cw_least_strategy.specs.Small.{wholes, backs_for}
 use Rattle.cw_least_strategy.specs.Strategies.{backs_in}
 use Rattle.cw_least_strategy.proofs.Finding.{sum_past}
+use Rattle.cw_least_strategy.proofs.Small.{its_number}
 use Rattle.cw_least_strategy.proofs.rows.hows_within.Goals as goal
 
 -- the key at an index of the loop
@@ -31,6 +34,13 @@ how_at-requires-clause-key c =
     let i = c.loop-named.named-index in
     subst (IsKey (game_of c.args.solved.now.game) (length c.args.solved.now.game.graph.parts.items)) (sym c.whole-key.ensures)
     (c.requires.keys (key_at c.args.keys.now i) (one_of c.args.keys.now i c.loop-named-test.true))
+
+pub how_at-requires-clause-near : goal.how_at-requires-clause-near
+how_at-requires-clause-near c =
+    let i = c.loop-named.named-index in
+    let k = key_at c.args.keys.now i in
+    ap (λ (w : Key). number_in nat_cmp c.args.aims.now w.aim) c.whole-key.ensures
+    ∙ its_number c.args.aims.now c.requires.ranked.ascend.order k.aim (c.requires.ranked.within k (one_of c.args.keys.now i c.loop-named-test.true))
 
 pub returns-then-left-backs-clause-many : goal.returns-then-left-backs-clause-many
 returns-then-left-backs-clause-many c =
