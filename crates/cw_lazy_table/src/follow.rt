@@ -23,6 +23,7 @@ use cw_solve::Solved;
 use std::alloc::AllocError;
 
 /// Appends the key of a pair under a promise, if there is a pair.
+#[inline(always)]
 fn put_pair(
     pair: Option<(PosId, StateId)>,
     promise: usize,
@@ -41,6 +42,7 @@ fn put_pair(
 }
 
 /// Appends the key to which a move leads, if it leads anywhere.
+#[inline(always)]
 fn put_move(game: &Game, key: &Key, by: Move, keys: &mut Vec<Key>) -> Result<(), AllocError>
     requires position { IsPosition (game_of game.now) key.now.pos }
     requires state { IsState (game_of game.now) key.now.state }
@@ -51,6 +53,7 @@ fn put_move(game: &Game, key: &Key, by: Move, keys: &mut Vec<Key>) -> Result<(),
 }
 
 /// Appends the keys to which the environment's moves lead: those one or two that there are at the position, as others lead nowhere.
+#[inline(always)]
 fn put_moves(game: &Game, key: &Key, keys: &mut Vec<Key>) -> Result<(), AllocError>
     requires position { IsPosition (game_of game.now) key.now.pos }
     requires state { IsState (game_of game.now) key.now.state }

@@ -7,6 +7,7 @@ mod indices;
 pub mod key;
 pub mod laws;
 mod lists;
+mod near;
 mod promises;
 mod seam_key;
 pub mod table;

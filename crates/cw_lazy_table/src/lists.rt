@@ -12,6 +12,7 @@ ghost use Rattle.cw_certs.specs.declared.moves.Move.TheVariants.{Refuse};
 use crate::choice::is_lost;
 use crate::follow::set_at;
 use crate::key::Key;
+use crate::near::Near;
 use crate::seam_key::{SeamKey, stands};
 use cw_certs::{AtRow, BackRow, IntoRow, Move, OpenRow, TryRow};
 use cw_core::{MemId, PosId, SeamId, StateId, StateSet};
@@ -65,7 +66,9 @@ fn mem_near(mems: &[(StateId, usize)], near: usize, state: StateId, promise: usi
     }
 }
 
-/// The rows of live pairs: each key's position and the number of its memory, which mostly is the one behind the last, or the first.
+/// The rows of live pairs: each key's position and the number of its memory, which mostly is the one behind the last, or that with which the
+/// position before begins.
+#[inline(never)]
 pub(crate) fn live_rows(
     alloc: Global,
     mems: &[(StateId, usize)],
@@ -74,15 +77,13 @@ pub(crate) fn live_rows(
     requires mems { AreMemories mems.now }
     ensures { IfOk result (λ v. v.items ≡ map (live_row mems.now) keys.now) }
 {
-    let mut rows = Vec::new(alloc);
-    let mut near: usize = 0;
+    let mut rows = Vec::with_capacity(alloc, keys.len())?;
+    let mut near = Near::begin();
     for key in keys {
-        let mem = mem_near(mems, near, StateId(key.state), key.promise);
+        let at = near.guess(key.pos);
+        let mem = mem_near(mems, at, StateId(key.state), key.promise);
         rows.push((PosId(key.pos), mem))?;
-        near = mem.0 as usize + 1;
-        if near >= mems.len() {
-            near = 0;
-        }
+        near.tell(key.pos, mem.0 as usize + 1);
     }
     Ok(rows)
 }
@@ -190,7 +191,7 @@ pub(crate) fn try_rows(
     requires can { (x : SeamKey) → Contains seam_keys.now x → CanAsk game.now solved.now promises.now (key_of x) }
     ensures { IfOk result (λ v. v.items ≡ map (try_row (game_of game.now) (lost_by (game_of game.now) promises.now) mems.now) seam_keys.now) }
 {
-    let mut rows = Vec::new(alloc);
+    let mut rows = Vec::with_capacity(alloc, seam_keys.len())?;
     for seam_key in seam_keys {
         rows.push(try_row(game, solved, promises, mems, seam_key))?;
     }
@@ -208,7 +209,7 @@ pub(crate) fn at_rows(
     requires there { (x : SeamKey) → Contains seam_keys.now x → IsPosition (game_of game.now) x.pos × IsState (game_of game.now) x.state }
     ensures { IfOk result (λ v. v.items ≡ map (at_row (game_of game.now) mems.now) seam_keys.now) }
 {
-    let mut rows = Vec::new(alloc);
+    let mut rows = Vec::with_capacity(alloc, seam_keys.len())?;
     for seam_key in seam_keys {
         rows.push(AtRow {
             seam: SeamId(seam_key.seam),
@@ -230,7 +231,7 @@ pub(crate) fn open_rows(
     requires there { (x : SeamKey) → Contains seam_keys.now x → IsPosition (game_of game.now) x.pos × IsState (game_of game.now) x.state }
     ensures { IfOk result (λ v. v.items ≡ map (open_row (game_of game.now) mems.now) seam_keys.now) }
 {
-    let mut rows = Vec::new(alloc);
+    let mut rows = Vec::with_capacity(alloc, seam_keys.len())?;
     for seam_key in seam_keys {
         rows.push(OpenRow {
             seam: SeamId(seam_key.seam),
@@ -281,7 +282,7 @@ pub(crate) fn into_rows(
     requires can { (x : SeamKey) → Contains seam_keys.now x → CanAsk game.now solved.now promises.now (key_of x) }
     ensures { IfOk result (λ v. v.items ≡ map (into_row (set_at (game_of game.now) promises.now) mems.now) seam_keys.now) }
 {
-    let mut rows = Vec::new(alloc);
+    let mut rows = Vec::with_capacity(alloc, seam_keys.len())?;
     for seam_key in seam_keys {
         rows.push(into_row(game, solved, promises, mems, seam_key))?;
     }
@@ -318,7 +319,7 @@ pub(crate) fn back_rows(
     requires states { (x : SeamKey × Key) → Contains returns.now x → IsState (game_of game.now) x.0.state × IsState (game_of game.now) x.1.state }
     ensures { IfOk result (λ v. v.items ≡ map (back_row (game_of game.now) mems.now) returns.now) }
 {
-    let mut rows = Vec::new(alloc);
+    let mut rows = Vec::with_capacity(alloc, returns.len())?;
     for back in returns {
         rows.push(back_row(game, mems, &back.0, &back.1))?;
     }

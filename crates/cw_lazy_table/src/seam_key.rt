@@ -8,6 +8,7 @@ ghost use Rattle.cw_lazy_table.specs.Kinds.{Asked, Label, Open, Close, Call};
 ghost use Rattle.cw_lazy_table.specs.SeamKeys.{part_in, seam_key, seam_key_of, memory_of, IsPut, AreOf, ComeByKind, AreByKind, put_seam_key, return_cmp, return_of, put_return};
 
 use crate::key::Key;
+use crate::near::Near;
 use cw_core::{PosId, StateId};
 use cw_fixpoint::ascending;
 use cw_game::Spot;
@@ -65,13 +66,16 @@ fn put_memory(
 
 /// The states and the promises of keys. The keys of a position ascend by state, and have mostly the memories of the position before, so few
 /// stand here more than once.
+#[inline(never)]
 pub(crate) fn memories_of(alloc: Global, keys: &[Key]) -> Result<Vec<(StateId, usize)>, AllocError>
     ensures { IfOk result (λ v. AreOf (map memory_of keys.now) v.items) }
 {
     let mut memories = Vec::new(alloc);
-    let mut near: usize = 0;
+    let mut near = Near::begin();
     for key in keys {
-        near = put_memory(&mut memories, near, (StateId(key.state), key.promise))?;
+        let at = near.guess(key.pos);
+        let behind = put_memory(&mut memories, at, (StateId(key.state), key.promise))?;
+        near.tell(key.pos, behind);
     }
     Ok(memories)
 }
@@ -139,6 +143,7 @@ fn put_by_kind(spot: Spot, key: &Key, lists: &mut ByKind) -> Result<(), AllocErr
 }
 
 /// Keys by kind, as they come.
+#[inline(never)]
 fn by_kind(alloc: Global, game: &Game, keys: &[Key]) -> Result<ByKind, AllocError>
     requires { (k : Key) → Contains keys.now k → IsPosition (game_of game.now) k.pos }
     ensures { IfOk result (ComeByKind (game_of game.now) keys.now) }

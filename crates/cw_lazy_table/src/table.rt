@@ -161,6 +161,7 @@ fn backs(
 }
 
 /// The table of what is live.
+#[inline(never)]
 fn table_of(
     alloc: Global,
     game: &Game,
