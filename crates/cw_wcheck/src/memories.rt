@@ -35,14 +35,40 @@ pub fn is_memory_if(cert: &WeaverCert, mem: Option<MemId>) -> bool
     mem.is_none_or(|mem| is_memory(cert, mem))
 }
 
-/// Whether a memory is live at a position. The list of live rows is searched only where the pair doesn't stand at this index of it.
+/// Where the row of a position may stand in the list of live rows, by the position of the row at this index: so many rows behind or before
+/// that as there are positions between. Nothing rests on it but how long a look-up takes.
+fn row_near(cert: &WeaverCert, near: usize, pos: PosId) -> usize {
+    match cert.live().get(near) {
+        Some((there, _)) => {
+            if there.0 <= pos.0 {
+                near.saturating_add((pos.0 - there.0) as usize)
+            } else {
+                near.saturating_sub((there.0 - pos.0) as usize)
+            }
+        }
+        None => near,
+    }
+}
+
+/// Whether a memory is live at a position. The list of live rows is searched only where the pair stands neither at this index of it nor where
+/// the row of its position would stand if each position between had one row.
+#[inline(always)]
 pub fn is_live_near(cert: &WeaverCert, near: usize, pos: PosId, mem: MemId) -> bool
     ensures { result ≡ is_live cert.now pos.0 mem.0 }
 {
-    stands_at(cert, near, pos, mem) || is_live(cert, pos, mem)
+    stands_at(cert, near, pos, mem) || is_live_about(cert, near, pos, mem)
+}
+
+/// The same where it doesn't stand at the index.
+#[inline(never)]
+fn is_live_about(cert: &WeaverCert, near: usize, pos: PosId, mem: MemId) -> bool
+    ensures { result ≡ is_live cert.now pos.0 mem.0 }
+{
+    stands_at(cert, row_near(cert, near, pos), pos, mem) || is_live(cert, pos, mem)
 }
 
 /// Whether a position and a memory stand at an index of the list of live rows.
+#[inline(always)]
 fn stands_at(cert: &WeaverCert, index: usize, pos: PosId, mem: MemId) -> bool
     ensures { result ≡ stands_there pos.0 mem.0 (slice_get cert.now.live index) }
 {
