@@ -81,6 +81,7 @@ fn goes_to(work: &Work, link: usize, at: &Tabled) -> bool
 }
 
 /// Asks for the call of a link that goes to the context of this cell of an entry, if the state of the cell is of its class.
+#[inline(always)]
 fn ask_linked(
     game: &Game,
     work: &mut Work,
@@ -123,6 +124,7 @@ fn ask_linked(
 }
 
 /// Asks for the call of a link, if the link goes to the context of this cell of an entry, and the state of the cell is of its class.
+#[inline(always)]
 pub(crate) fn ask_call(
     game: &Game,
     work: &mut Work,
@@ -153,6 +155,7 @@ pub(crate) fn ask_call(
 }
 
 /// Asks for the calls whose link goes to the context of a cell of an entry.
+#[inline(never)]
 pub(crate) fn ask_callers(
     game: &Game,
     work: &mut Work,

@@ -26,7 +26,7 @@ use cw_product::Game;
 use cw_solve::table::Tabled;
 
 /// Asks for the calls whose link goes to the context of the cell, if it is one of the context's entry.
-#[inline(never)]
+#[inline(always)]
 fn ask_entry(
     game: &Game,
     work: &mut Work,

@@ -162,6 +162,7 @@ fn make_sources(alloc: Global, game: &Game) -> Result<Rows<Source>, NoMemory>
     ensures { IfOk result (AreSources (game_of game.now)) }
 {
     let mut sources = Chains::make(alloc, game.positions())?;
+    sources.reserve(game.positions())?;
     for p in 0..game.positions() {
         add_sources(game, &mut sources, PosId(p))?;
     }
@@ -387,6 +388,7 @@ fn make_pairs(alloc: Global, game: &Game, flags: &Flags) -> Result<Chains<Pair>,
 {
     let lists = flags.flagged() * u32::from(game.states());
     let mut pairs = Chains::make(alloc, lists)?;
+    pairs.reserve(lists)?;
     for p in 0..game.positions() {
         add_pairs(game, flags, &mut pairs, PosId(p))?;
     }
@@ -459,7 +461,7 @@ fn make_bare(
     requires returns { AreReturns (game_of game.now) returns.now }
     ensures { IfOk result (λ plain. ArePlain (game_of game.now) 0 (length (game_of game.now).spots) plain.items) }
 {
-    let mut plain = Vec::new(alloc);
+    let mut plain = Vec::with_capacity(alloc, game.positions() as usize)?;
     for p in 0..game.positions() {
         plain.push(is_bare(game, changes, returns, PosId(p)))?;
     }

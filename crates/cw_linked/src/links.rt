@@ -79,6 +79,7 @@ fn number_of(
 }
 
 /// Takes the link at an index, for so many moves. The indices have each context that is added.
+#[inline(never)]
 pub(crate) fn take_link(
     alloc: Global,
     game: &Game,

@@ -92,6 +92,7 @@ fn ask_own(
 }
 
 /// Asks for the link at a position that returns to the cell, which has this height.
+#[inline(never)]
 pub(crate) fn ask_return(
     game: &Game,
     work: &mut Work,
@@ -127,7 +128,7 @@ pub(crate) fn ask_return(
 }
 
 /// Asks for the links that return to a cell.
-#[inline(never)]
+#[inline(always)]
 pub(crate) fn ask_returns(
     game: &Game,
     returns: &Rows<PosId>,

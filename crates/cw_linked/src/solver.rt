@@ -66,7 +66,7 @@ fn finish_at(
 
 /// Takes the link at an index, for so many moves. Its context is the first to be looked at then, but where its cells stand is asked
 /// anew. The indices have each context that is added.
-#[inline(never)]
+#[inline(always)]
 fn tie_at(
     alloc: Global,
     game: &Game,
@@ -130,14 +130,18 @@ fn steps(
     }
 }
 
+/// For how many contexts there is memory at first. What isn't used of it costs nothing, and a vector that grows is copied with all its
+/// promises.
+const ROOM: usize = 2048;
+
 /// Nothing is found yet.
 fn blank(alloc: Global) -> Result<Work, NoMemory>
     ensures { IfOk result IsBlankWork }
 {
     Ok(Work {
         blocks: Blocks {
-            contexts: Vec::new(alloc),
-            bases: Vec::new(alloc),
+            contexts: Vec::with_capacity(alloc, ROOM)?,
+            bases: Vec::with_capacity(alloc, ROOM)?,
         },
         written: 0,
         store: Store::make(alloc)?,

@@ -129,7 +129,7 @@ pub(crate) fn ask_sources(
 }
 
 /// Asks for the pairs of the same context that lead to a cell, which has this height now, and may change the state.
-#[inline(never)]
+#[inline(always)]
 pub(crate) fn ask_changes(
     game: &Game,
     changes: &Changes,

@@ -68,14 +68,19 @@ fn has_index(game: &Game, blocks: &Blocks, number: usize, index: usize) -> bool
     }
 }
 
-/// The same as `owner`. A context is looked at first: mostly the one whose cell was taken before has this one too.
+/// The same as `owner`. A context is looked at first, as mostly the one whose cell was taken before has this one too; and then the one
+/// behind it, as contexts are added one behind the other.
 pub(crate) fn owner_near(game: &Game, blocks: &Blocks, near: usize, index: usize) -> usize
     requires blocks { AreBlocks (game_of game.now) blocks.now }
     requires within { index < cells_of (game_of game.now) blocks.now.contexts.items }
     ensures { IsOwner (game_of game.now) blocks.now.contexts.items result index }
 {
     if has_index(game, blocks, near, index) {
-        near
+        return near;
+    }
+    let next = near.wrapping_add(1);
+    if has_index(game, blocks, next, index) {
+        next
     } else {
         owner(game, blocks, index)
     }
@@ -118,6 +123,7 @@ pub(crate) fn cell_at(game: &Game, work: &Work, near: usize, index: usize) -> Ce
 }
 
 /// The cell at an index, where the numbers of positions of functions are known, and maybe a context that has it.
+#[inline(never)]
 pub(crate) fn cell_by(game: &Game, runs: &[Divisor], work: &Work, near: usize, index: usize) -> Cell
     requires routed { AreRouted (game_of game.now) (length game.now.graph.parts.items) }
     requires runs { AreRuns (game_of game.now) (length game.now.graph.parts.items) runs.now }
@@ -148,6 +154,7 @@ pub(crate) fn ask_cell(work: &mut Work, index: usize, height: u32) -> Result<(),
 }
 
 /// Has the link wait under a key, unless it waits under a lower one.
+#[inline(always)]
 pub(crate) fn ask_link(work: &mut Work, index: usize, key: u32) -> Result<(), NoMemory>
     requires flagged { is_flagged work.old.store.flags index ≡ true }
     requires some { 0 < key }

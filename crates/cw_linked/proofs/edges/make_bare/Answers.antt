@@ -5,7 +5,7 @@ use Rattle.cw_linked.proofs.Plain.{no_plain, plain_more}
 use Rattle.cw_linked.proofs.edges.make_bare.Goals as goal
 
 pub loop-p-init : goal.loop-p-init
-loop-p-init c = no_plain (game_of c.args.game.now) 0 c.new-plain.result.items c.new-plain.ensures.items
+loop-p-init c = no_plain (game_of c.args.game.now) 0 c.in_ok-plain.plain.items c.in_ok-plain.ensures.items
 
 pub loop-p-preserved : goal.loop-p-preserved
 loop-p-preserved c =

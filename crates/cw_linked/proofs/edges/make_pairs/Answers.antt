@@ -21,5 +21,5 @@ loop-p-init c =
     let g = game_of c.args.game.now in
     let flags = c.args.flags.now in
     let states : c.from.result ≡ g.states.count = omega arith in
-    begun_changes g flags c.in_ok-pairs.pairs (c.flagged.result * c.from.result)
-    (ap (λ (y : ℕ). y * c.from.result) c.flagged.ensures ∙ ap (λ (y : ℕ). number flags * y) states) c.in_ok-pairs.ensures.lists c.in_ok-pairs.ensures.values
+    begun_changes g flags c.reserve.new.self (c.flagged.result * c.from.result)
+    (ap (λ (y : ℕ). y * c.from.result) c.flagged.ensures ∙ ap (λ (y : ℕ). number flags * y) states) (c.reserve.ensures.lists ∙ c.in_ok-pairs.ensures.lists) (c.reserve.ensures.values ∙ c.in_ok-pairs.ensures.values)
