@@ -12,7 +12,7 @@ ghost use Rattle.cw_linked.specs.Queues.{found_of, AreLong, AreHigh};
 ghost use Rattle.cw_linked.specs.Works.{known_of, IsKnown};
 
 use crate::block::{Block, block_of};
-use crate::implied::ask_implied;
+use crate::implied::ask_first;
 use crate::work::Work;
 use cw_core::{NoMemory, PosId, StateId};
 use cw_game::Spot;
@@ -53,7 +53,7 @@ fn ask_position(
         return Ok(());
     }
     for x in 0..game.states() {
-        ask_implied(game, work, at, block, pos, StateId(x))?;
+        ask_first(game, work, at, block, pos, StateId(x))?;
     }
     Ok(())
 }

@@ -9,6 +9,7 @@ ghost use Rattle.cw_solve.specs.Asking.{holds_after, holds_by_moves};
 ghost use Rattle.cw_product.specs.Routed.{AreRouted};
 ghost use Rattle.cw_solve.specs.Rounds.{holds_by};
 ghost use Rattle.cw_solve.specs.Tables.{IsTabled, HasCell};
+ghost use Rattle.cw_linked.specs.Added.{HasNoHeights};
 ghost use Rattle.cw_linked.specs.Blocks.{IsBlock};
 ghost use Rattle.cw_linked.specs.Founds.{implied};
 ghost use Rattle.cw_linked.specs.Queues.{AreLong};
@@ -253,7 +254,7 @@ fn moves_bound(
 
 /// The number of moves within which the end of a function is lost: 1 where it isn't the end of `main` and the context doesn't
 /// promise the state, else 0.
-#[inline(never)]
+#[inline(always)]
 fn exit_bound(game: &Game, blocks: &Blocks, at: &Tabled, function: u32, state: StateId) -> u32
     requires tabled { IsTabled blocks.now at.now }
     requires state { IsState (game_of game.now) state.0 }
@@ -302,5 +303,25 @@ pub(crate) fn bound(
             }
         }
         _ => moves_bound(game, work, at, block, pos, state, spot),
+    }
+}
+
+/// The same as `bound`, where no cell of the context has a height: what is lost begins at an exit and at a label that is bad.
+#[inline(always)]
+pub(crate) fn first_bound(game: &Game, work: &Work, at: &Tabled, pos: PosId, state: StateId) -> u32
+    requires routed { AreRouted (game_of game.now) (length game.now.graph.parts.items) }
+    requires known { IsKnown (game_of game.now) (known_of work.now) }
+    requires cell { HasCell (game_of game.now) work.now.blocks at.now pos.0 state.0 }
+    requires fresh { HasNoHeights (game_of game.now) (known_of work.now) at.now }
+    ensures implied { is_call_in (slice_get (game_of game.now).spots pos.0) ≡ false
+        → IsBound (game_of game.now) (heights_of (game_of game.now) (known_of work.now)) at.now.number pos.0 state.0 at.now.context.promise result }
+    ensures call { is_call_in (slice_get (game_of game.now).spots pos.0) ≡ true → result ≡ 0 }
+    ensures most { result ≤ 1 }
+{
+    let spot = game.spot(pos);
+    match spot {
+        Spot::Exit(function) => exit_bound(game, &work.blocks, at, function, state),
+        Spot::Label(_, _, _) => { if game.bad(pos, state) { 1 } else { 0 } }
+        _ => 0,
     }
 }

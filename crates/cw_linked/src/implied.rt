@@ -6,6 +6,7 @@ ghost use Rattle.cw_game.specs.Pairs.{is_call_in};
 ghost use Rattle.cw_product.specs.Product.{game_of};
 ghost use Rattle.cw_product.specs.Routed.{AreRouted};
 ghost use Rattle.cw_solve.specs.Tables.{HasCell};
+ghost use Rattle.cw_linked.specs.Added.{HasNoHeights};
 ghost use Rattle.cw_linked.specs.Blocks.{IsBlock};
 ghost use Rattle.cw_linked.specs.Founds.{AreRight};
 ghost use Rattle.cw_linked.specs.Queues.{found_of, AreLong, AreHigh, AsksImplied};
@@ -14,7 +15,7 @@ ghost use Rattle.cw_linked.specs.Waiting.{IsSoleTo, IsStepTo, IsVisit};
 ghost use Rattle.cw_linked.specs.Works.{known_of, IsKnown, heights_of, AreUpTo};
 
 use crate::block::{Block, index_in};
-use crate::bounds::{bound, height_in, visit_bound};
+use crate::bounds::{bound, first_bound, height_in, visit_bound};
 use crate::edges::{Pair, Source};
 use crate::work::{Work, ask_cell};
 use cw_core::{NoMemory, PosId, StateId};
@@ -100,6 +101,30 @@ pub(crate) fn ask_implied(
         return ask_bound(game, work, at, block, pos, state);
     }
     Ok(())
+}
+
+/// The same as `ask_implied`, where no cell of the context has a height.
+#[inline(always)]
+pub(crate) fn ask_first(
+    game: &Game,
+    work: &mut Work,
+    at: &Tabled,
+    block: &Block,
+    pos: PosId,
+    state: StateId,
+) -> Result<(), NoMemory>
+    requires routed { AreRouted (game_of game.now) (length game.now.graph.parts.items) }
+    requires known { IsKnown (game_of game.now) (known_of work.old) }
+    requires cell { HasCell (game_of game.now) work.old.blocks at.now pos.0 state.0 }
+    requires fresh { HasNoHeights (game_of game.now) (known_of work.old) at.now }
+    requires block { IsBlock (game_of game.now) work.old.blocks at.now block.now }
+    requires long { AreLong work.old }
+    requires high { AreHigh work.old }
+    requires right { AreRight (game_of game.now) work.old.blocks.contexts.items (found_of (game_of game.now) work.old) }
+    ensures { OnOk result (AsksImplied (game_of game.now) work.old work.new at.now pos.0 state.0) }
+{
+    let within = first_bound(game, work, at, pos, state);
+    ask_within(game, work, at, block, pos, state, within)
 }
 
 /// Asks for the cell of a visit, where the taken heights tell that it is lost.

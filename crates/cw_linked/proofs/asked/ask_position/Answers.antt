@@ -2,7 +2,7 @@ use Rattle.std.proofs.Common.{◌≡◌, ◌+◌, ◌∙◌, ℕ, Some, length, 
 use Rattle.std.specs.Prelude.{slice_get}
 use Rattle.cw_product.specs.Product.{game_of}
 use Rattle.cw_solve.proofs.Tabling.{there_at}
-use Rattle.cw_linked.specs.Added.{ThePair, FirstOf, AllOf}
+use Rattle.cw_linked.specs.Added.{ThePair, FirstOf, AllOf, HasNoHeights}
 use Rattle.cw_linked.specs.Blocks.{IsBlock}
 use Rattle.cw_linked.specs.Founds.{IsClosed}
 use Rattle.cw_linked.specs.Queues.{found_of}
@@ -40,8 +40,8 @@ loop-x-init c =
     let at = c.args.at.now in
     asks_nothing g w c.requires.long c.requires.high c.requires.right at.number at.context (FirstOf c.args.pos.0 0) (λ p q is e. absurd (omega (arith, e.1)))
 
-pub ask_implied-requires : goal.ask_implied-requires
-ask_implied-requires c =
+pub ask_first-requires : goal.ask_first-requires
+ask_first-requires c =
     let g = game_of c.args.game.now in
     let functions = length c.args.game.now.graph.parts.items in
     let at = c.args.at.now in
@@ -54,6 +54,7 @@ ask_implied-requires c =
         of = c.requires.of;
         state = omega (arith, c.loop-x-test.true, c.states-x-end.ensures);
       };
+      fresh = subst (λ (t : Known). HasNoHeights g t at) (sym inv.step.others.known) c.requires.fresh;
       block = subst (λ (t : Known). IsBlock g t.blocks at c.args.block.now) (sym inv.step.others.known) c.requires.block;
       long = inv.step.long;
       high = inv.step.high;
@@ -65,10 +66,10 @@ loop-x-preserved c =
     let g = game_of c.args.game.now in
     let at = c.args.at.now in
     let mid = c.loop-x.work in
-    let new = c.ask_implied.new.work in
+    let new = c.ask_first.new.work in
     let p = c.args.pos.0 in
     let x = c.loop-x.x in
-    let implied = c.in_ok-ask_implied.ensures in
+    let implied = c.in_ok-ask_first.ensures in
     asks_more g c.args.work.now mid new at.number at.context (FirstOf p x) (ThePair p x) (FirstOf p (x + 1)) c.loop-x.invariant
     (asks_one g mid new at.number at.context p x implied.step implied.closed implied.due) (λ r y is. one_more_state p x r y)
 
