@@ -104,7 +104,7 @@ fn reads_in_memory_without_faults(rt: HostRuntime) {
 /// Puts these pieces, and asserts that each is taken.
 fn all_taken<S: Sink>(rt: &impl Abort, sink: &mut S, pieces: &[&str]) {
     for piece in pieces {
-        assert!(rt; piece.len() <= 4096);
+        assert!(rt; piece.len() <= 1024);
         assert!(rt; sink.put(piece.as_bytes()) == Ok(()), "{piece}");
     }
 }

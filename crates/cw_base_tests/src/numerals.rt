@@ -304,7 +304,7 @@ fn lines_are_put_together(rt: HostRuntime) {
     assert!(rt; is_line(&line, "18446744073709551615"));
     set_mask(&mut line, &set_of(0, 3, &[]));
     assert!(rt; is_line(&line, "0xf"));
-    assert!(rt; line.room() == 4093);
+    assert!(rt; line.room() == 1021);
     set_ranges(&mut line, &set_of(0, 11, &[]));
     assert!(rt; is_line(&line, "0-11"));
 }

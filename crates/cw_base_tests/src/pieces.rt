@@ -13,7 +13,7 @@ use std::rt::Files;
 /// The number of a put that isn't made.
 const NEVER: u32 = 1_000_000;
 
-/// A text of so many bytes in which no stretch of 4,096 looks like another.
+/// A text of so many bytes in which no stretch of 1,024 looks like another.
 fn some_text(rt: &impl Abort, alloc: Global, len: u32) -> Vec<u8> {
     let mut text = Vec::new(alloc);
     for at in 0..len {
@@ -45,12 +45,12 @@ fn put_text<S: Sink>(text: &[u8], size: usize, out: &mut S) -> Result<(), SinkFa
     writer.finish(out)
 }
 
-/// Whether a sink has so many bytes of a text, and its longest piece has at least so many bytes, and 4,096 at most.
+/// Whether a sink has so many bytes of a text, and its longest piece has at least so many bytes, and 1,024 at most.
 fn has_front(sink: &MemSink, text: &[u8], taken: usize, longest: usize) -> bool {
     taken <= text.len()
         && sink.bytes() == &text[..taken]
         && longest <= sink.longest()
-        && sink.longest() <= 4096
+        && sink.longest() <= 1024
 }
 
 /// Asserts what a text put in parts of a size is answered where its put of a number fails, and how much of it the sink has then: the size,
@@ -74,19 +74,19 @@ fn all_put(
 }
 
 #[test]
-fn pieces_of_4096_bytes_in_order(rt: HostRuntime) {
+fn pieces_of_1024_bytes_in_order(rt: HostRuntime) {
     let alloc = rt.alloc();
     all_put(
         &rt,
         alloc,
         &some_text(&rt, alloc, 20_000),
-        4096,
+        1024,
         &[
             (1, NEVER, 20_000, Ok(())),
             (7, NEVER, 20_000, Ok(())),
-            (4095, NEVER, 20_000, Ok(())),
-            (4096, NEVER, 20_000, Ok(())),
-            (4097, NEVER, 20_000, Ok(())),
+            (1023, NEVER, 20_000, Ok(())),
+            (1024, NEVER, 20_000, Ok(())),
+            (1025, NEVER, 20_000, Ok(())),
             (9000, NEVER, 20_000, Ok(())),
             (20_000, NEVER, 20_000, Ok(())),
         ],
@@ -102,14 +102,14 @@ fn faults_at_each_put(rt: HostRuntime) {
         &some_text(&rt, alloc, 10_000),
         0,
         &[
-            (100, 0, 2048, Err(SinkFault::Failed)),
-            (100, 1, 6144, Err(SinkFault::Failed)),
-            (100, 2, 9096, Err(SinkFault::Failed)),
-            (100, 3, 10_000, Ok(())),
-            (10_000, 0, 2048, Err(SinkFault::Failed)),
-            (10_000, 1, 6144, Err(SinkFault::Failed)),
-            (10_000, 2, 9096, Err(SinkFault::Failed)),
-            (10_000, 3, 10_000, Ok(())),
+            (100, 0, 512, Err(SinkFault::Failed)),
+            (100, 1, 1536, Err(SinkFault::Failed)),
+            (100, 9, 9608, Err(SinkFault::Failed)),
+            (100, 10, 10_000, Ok(())),
+            (10_000, 0, 512, Err(SinkFault::Failed)),
+            (10_000, 1, 1536, Err(SinkFault::Failed)),
+            (10_000, 9, 9608, Err(SinkFault::Failed)),
+            (10_000, 10, 10_000, Ok(())),
         ],
     );
 }
@@ -120,11 +120,11 @@ fn last_piece_may_be_empty(rt: HostRuntime) {
     all_put(
         &rt,
         alloc,
-        &some_text(&rt, alloc, 4096),
+        &some_text(&rt, alloc, 1024),
         0,
         &[
-            (4096, 1, 4096, Err(SinkFault::Failed)),
-            (1000, 2, 4096, Ok(())),
+            (1024, 1, 1024, Err(SinkFault::Failed)),
+            (1000, 2, 1024, Ok(())),
         ],
     );
     all_put(

@@ -1,5 +1,5 @@
 -- The text of runs, run by run.
-use Rattle.std.proofs.Common.{◌≡◌, ◌≢◌, ℕ, ◌+◌, ◌*◌, ◌<◌, ◌≤◌, eqb, cond, List, [], ◌∷◌, ◌++◌, length, refl, sym, ap, ◌∙◌, arith, inl, inr, append_assoc, length-append}
+use Rattle.std.proofs.Common.{◌≡◌, ◌≢◌, ℕ, ◌+◌, ◌<◌, ◌≤◌, eqb, cond, List, [], ◌∷◌, ◌++◌, length, refl, sym, ap, ◌∙◌, arith, inl, inr, append_assoc, length-append}
 use Rattle.std.specs.Prelude.{codes}
 use Rattle.std.specs.Fmt.{decimal}
 use Rattle.std.proofs.lemmas.Bool.{cases_eq, ne_eqb, eq-eqb}
@@ -45,6 +45,13 @@ unfolding continued runs_text
 continued-start [] = refl
 continued-start (run ∷ runs) = refl
 
+-- what stands there stays
+pub continued_is_longer : (text : List ℕ) (runs : List Run) → length text ≤ length (continued text runs)
+unfolding continued
+continued_is_longer text [] = omega arith
+continued_is_longer [] (run ∷ runs) = omega arith
+continued_is_longer (b ∷ bs) (run ∷ runs) = let whole = length-append (b ∷ bs) (43 ∷ runs_text (run ∷ runs)) in omega (arith, whole)
+
 -- a run more
 pub continued-more : (text : List ℕ) (run : Run) (runs : List Run) → 0 < length (run_text run) → continued text (run ∷ runs) ≡ continued (text ++ (between text ++ run_text run)) runs
 unfolding continued
@@ -59,7 +66,7 @@ continued-more (b ∷ bs) run (next ∷ runs) some =
     rw (between-some b bs) (ap (λ (z : List ℕ). (b ∷ bs) ++ (43 ∷ z)) (runs_text-more run next runs)
     ∙ sym (append_assoc (b ∷ bs) (43 ∷ run_text run) (43 ∷ runs_text (next ∷ runs))))
 
--- the room that a run takes: ten bytes for every three numbers
+-- the room that a run takes
 pub lone_room : (least : ℕ) → least < 1024 → length (decimal least) ≤ 4
 lone_room least lt = length-decimal-le 4 least (omega arith) (omega (arith, lt)) (omega (arith, lt))
 
@@ -67,30 +74,12 @@ pub between_room : (text : List ℕ) → length (between text) ≤ 1
 between_room [] = omega arith
 between_room (b ∷ bs) = rw (between-some b bs) (omega arith)
 
-pub run_room : (text : List ℕ) (run : Run) → run.least ≤ run.greatest → run.greatest < 1024 → 3 * length text ≤ 10 * run.least
-    → (3 * length (text ++ (between text ++ run_text run)) ≤ 10 * (run.greatest + 2))
-run_room text run up below le =
-    let whole = length-append text (between text ++ run_text run) in
-    let part = length-append (between text) (run_text run) in
-    let prefix = between_room text in
-    let first = lone_room run.least (omega (arith, up, below)) in
-    elim (cases_eq run.least run.greatest) [
-      | inl e ↦
-          let here = ap length (lone_text run e) in
-          omega (arith, whole, part, prefix, first, here, up, le)
-      | inr ne ↦
-          let here = ap length (long_text run ne) in
-          let apart = length-append (decimal run.least) (codes "-" ++ decimal run.greatest) in
-          let second = lone_room run.greatest below in
-          omega (arith, whole, part, prefix, first, second, here, apart, up, ne, le)
-    ]
-
 -- what the first number leaves of the room
-pub after_first : (text more : List ℕ) (least : ℕ) → more ≡ (text ++ between text) ++ decimal least → least < 1024 → length text + 46 ≤ 4096 → length more + 41 ≤ 4096
+pub after_first : (text more : List ℕ) (least : ℕ) → more ≡ (text ++ between text) ++ decimal least → least < 1024 → length text + 46 ≤ 1024 → length more + 41 ≤ 1024
 after_first text more least e below le =
     omega (arith, ap length e, length-append (text ++ between text) (decimal least), length-append text (between text), between_room text, lone_room least below, le)
 
-pub after_prefix : (more text : List ℕ) → text ≡ more ++ 45 ∷ [] → length more + 41 ≤ 4096 → length text + 20 ≤ 4096
+pub after_prefix : (more text : List ℕ) → text ≡ more ++ 45 ∷ [] → length more + 41 ≤ 1024 → length text + 20 ≤ 1024
 after_prefix more text e le = omega (arith, ap length e, length-append more (45 ∷ []), le)
 
 -- the run that was put

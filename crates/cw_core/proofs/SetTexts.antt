@@ -1,12 +1,12 @@
 -- How a set is spelled.
-use Rattle.std.proofs.Common.{◌≡◌, ◌≢◌, ℕ, ◌+◌, ◌<◌, ◌≤◌, ◌&&◌, ◌||◌, Bool, true, false, not, cond, eqb, ltb, ltb-true, leb, List, [], ◌∷◌, ◌++◌, length, length-append, get_or, take, refl, sym, ap, ◌∙◌, arith, inl, inr}
+use Rattle.std.proofs.Common.{◌≡◌, ◌≢◌, ℕ, ◌+◌, ◌<◌, ◌≤◌, ◌&&◌, ◌||◌, Bool, true, false, not, cond, eqb, ltb, ltb-true, leb, List, [], ◌∷◌, ◌++◌, length, length-append, get_or, take, refl, sym, ap, ◌∙◌, ◌⊎◌, arith, inl, inr}
 use Rattle.std.specs.Prelude.{codes}
 use Rattle.std.specs.Char.{is_ascii_digit}
 use Rattle.std.specs.Fmt.{decimal}
 use Rattle.std.specs.Int.{is_in_range}
 use Rattle.std.specs.List.{list_all, take_while}
 use Rattle.std.proofs.Math.Seq.{drop-append_seam}
-use Rattle.std.proofs.lemmas.Bool.{cases_eq, eq-eqb, false≢true, le-leb, leb-true}
+use Rattle.std.proofs.lemmas.Bool.{and_right, cases_eq, eq-eqb, false≢true, le-leb, le-ltb, leb-true}
 use Rattle.std.proofs.lemmas.List.Folds.{list_all-append}
 use Rattle.cw_core.specs.Numerals.{hexadecimal, hexadecimal_digits, is_hexadecimal_digit}
 use Rattle.cw_core.specs.Ranges.{Run, run_text, runs_text, ranges, set_spelling, is_spelling_byte, IsSpellingAt, Ascend, IsIn}
@@ -37,6 +37,24 @@ runs_length false x y e = absurd cc
 pub spelled_by : (set : ℕ) (t : Bool) (runs mask : List ℕ) → runs ≡ ranges set → mask ≡ hexadecimal set → t ≡ (not (eqb set 0) && ltb (length runs) (length mask)) → set_spelling set ≡ cond t runs mask
 unfolding set_spelling
 spelled_by set t runs mask e f is = rw (is, e, f) refl
+
+-- where its ranges aren't shorter than the hexadecimal, that is the spelling
+pub masked_if_no_longer : (set : ℕ) → length (hexadecimal set) ≤ length (ranges set) → set_spelling set ≡ hexadecimal set
+masked_if_no_longer set long = spelled_by set false (ranges set) (hexadecimal set) refl refl (sym (and_right (not (eqb set 0)) (ltb (length (ranges set)) (length (hexadecimal set))) (le-ltb (length (ranges set)) (length (hexadecimal set)) long)))
+
+-- a text of all runs, or of the first, as many bytes as any hexadecimal or more
+abbrev pub AreRuns : ℕ → List ℕ → Type 0
+AreRuns set runs = (runs ≡ ranges set) ⊎ ((258 ≤ length runs) × (length runs ≤ length (ranges set)))
+
+-- where it is shorter than the hexadecimal, it has all runs
+pub whole_where_short : (set : ℕ) (runs : List ℕ) → IsBelow 1024 set → AreRuns set runs → length runs < length (hexadecimal set) → runs ≡ ranges set
+whole_where_short set runs below (inl whole) short = whole
+whole_where_short set runs below (inr front) short = let mask = mask_length set below in absurd (omega (arith, front.0, short, mask))
+
+-- and where it isn't, the set is spelled as hexadecimal
+pub mask_where_long : (set : ℕ) (runs : List ℕ) → IsBelow 1024 set → AreRuns set runs → false ≡ (not (eqb set 0) && ltb (length runs) (length (hexadecimal set))) → set_spelling set ≡ hexadecimal set
+mask_where_long set runs below (inl whole) long = spelled_by set false runs (hexadecimal set) whole refl long
+mask_where_long set runs below (inr front) long = let mask = mask_length set below in masked_if_no_longer set (omega (arith, front.0, front.1, mask))
 
 -- ---- which of the two spellings a text is
 

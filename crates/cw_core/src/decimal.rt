@@ -8,14 +8,15 @@ ghost use Rattle.std.specs.Str.Parse.{AllDigits, digits_value};
 ghost use Rattle.cw_core.specs.Numerals.{IsDecimalAt};
 
 use crate::memory::NoMemory;
+use itoa::Buffer;
 
 /// Appends the decimal of a number, without leading zeros. Where the text can't grow, it is as before.
 pub fn put_dec(n: u64, text: &mut Vec<u8>) -> Result<(), NoMemory>
     ensures ok { OnOk result (text.new.items ≡ text.old.items ++ decimal n) }
     ensures err { OnErr result (text.new.items ≡ text.old.items) }
 {
-    let digits = n.to_string(*text.allocator())?;
-    text.extend_from_slice(digits.as_bytes())?;
+    let mut digits = Buffer::new();
+    text.extend_from_slice(digits.format(n).as_bytes())?;
     Ok(())
 }
 

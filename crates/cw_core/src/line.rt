@@ -10,10 +10,10 @@ use crate::state_set::StateSet;
 use itoa::write_digits;
 use std::marker::Model;
 
-/// A text of at most 4,096 bytes. A contract sees it as the list of its bytes. No call takes memory.
+/// A text of at most 1,024 bytes. A contract sees it as the list of its bytes. No call takes memory.
 #[derive(Drop)]
 pub struct Line {
-    bytes: [u8; 4096],
+    bytes: [u8; 1024],
     len: u16,
 }
 
@@ -22,7 +22,7 @@ impl Model for Line {
 
     ghost view = { λ l. take l.len l.bytes };
 
-    ghost invariant = { λ l. l.len ≤ 4096 };
+    ghost invariant = { λ l. l.len ≤ 1024 };
 }
 
 impl Line {
@@ -31,7 +31,7 @@ impl Line {
         ensures empty { result ≡ [] }
     {
         Line {
-            bytes: [0; 4096],
+            bytes: [0; 1024],
             len: 0,
         }
     }
@@ -50,16 +50,16 @@ impl Line {
         &self.bytes[..self.len as usize]
     }
 
-    /// How many bytes more there is room for: 4,096 less the text's length.
+    /// How many bytes more there is room for: 1,024 less the text's length.
     pub fn room(&self) -> usize
-        ensures room { result + length self.now ≡ 4096 }
+        ensures room { result + length self.now ≡ 1024 }
     {
-        4096 - self.len as usize
+        1024 - self.len as usize
     }
 
     /// Appends a text.
     pub fn put_text(&mut self, piece: &[u8])
-        requires room { length self.old + length piece.now ≤ 4096 }
+        requires room { length self.old + length piece.now ≤ 1024 }
         ensures text { self.new ≡ self.old ++ piece.now }
     {
         let from = self.len as usize;
@@ -70,7 +70,7 @@ impl Line {
 
     /// Appends the decimal of a number, without leading zeros, as `put_dec` does.
     pub fn put_number(&mut self, n: u64)
-        requires room { length self.old + 20 ≤ 4096 }
+        requires room { length self.old + 20 ≤ 1024 }
         ensures text { self.new ≡ self.old ++ decimal n }
     {
         let end = write_number(n, &mut self.bytes, self.len as usize);
@@ -79,7 +79,7 @@ impl Line {
 
     /// Appends `0x` and the shortest lower-case hexadecimal of a set's number, as `put_hex` does.
     pub fn put_mask(&mut self, set: &StateSet)
-        requires room { length self.old + 258 ≤ 4096 }
+        requires room { length self.old + 258 ≤ 1024 }
         ensures text { self.new ≡ self.old ++ hexadecimal set.now }
     {
         set.fact_members_are_below_1024();
@@ -88,7 +88,7 @@ impl Line {
 
     /// Appends the same, where there is room for that text, if for no more.
     pub fn put_fitting_mask(&mut self, set: &StateSet)
-        requires room { length self.old + length (hexadecimal set.now) ≤ 4096 }
+        requires room { length self.old + length (hexadecimal set.now) ≤ 1024 }
         ensures text { self.new ≡ self.old ++ hexadecimal set.now }
     {
         self.put_text(b"0x");
@@ -100,9 +100,9 @@ impl Line {
     /// Appends the first of so many digits of a set's number where their count is odd, so that the others are two for
     /// each byte.
     fn put_odd_digit(&mut self, set: &StateSet, count: usize)
-        requires room { length self.old + count ≤ 4096 }
+        requires room { length self.old + count ≤ 1024 }
         requires within { count ≤ 256 }
-        ensures room { length self.new + 2 * (count / 2) ≤ 4096 }
+        ensures room { length self.new + 2 * (count / 2) ≤ 1024 }
         ensures text { self.new ++ map digit_char (lowest_digits (2 * (count / 2)) set.now)
             ≡ self.old ++ map digit_char (lowest_digits count set.now) }
     {
@@ -113,7 +113,7 @@ impl Line {
 
     /// Appends the lowest hexadecimal digits of a set's number, two for each of so many bytes.
     fn put_pairs(&mut self, set: &StateSet, count: usize)
-        requires room { length self.old + 2 * count ≤ 4096 }
+        requires room { length self.old + 2 * count ≤ 1024 }
         requires within { count ≤ 128 }
         ensures text { self.new ≡ self.old ++ map digit_char (lowest_digits (2 * count) set.now) }
     {
@@ -123,7 +123,7 @@ impl Line {
 
     /// Appends a byte.
     fn put_byte(&mut self, byte: u8)
-        requires room { length self.old < 4096 }
+        requires room { length self.old < 1024 }
         ensures text { self.new ≡ self.old ++ byte ∷ [] }
     {
         self.bytes[self.len as usize] = byte;

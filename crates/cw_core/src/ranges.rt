@@ -1,6 +1,6 @@
 //! Sets of states as ranges of numbers.
 
-ghost use Rattle.std.specs.Prelude.{◌≡◌, ℕ, ◌+◌, ◌<◌, ◌≤◌, ◌↔◌, ◌||◌, ◌&&◌, ◌==◌, ◌++◌, [], List, true, false, not, nat_lt, if◌then◌else◌, length, drop, codes, IsTrue, IsNone, IfSome, OnOk, OnErr, Some};
+ghost use Rattle.std.specs.Prelude.{◌≡◌, ℕ, ◌+◌, ◌<◌, ◌≤◌, ◌⊎◌, ◌↔◌, ◌||◌, ◌&&◌, ◌==◌, ◌++◌, [], List, true, false, not, nat_lt, if◌then◌else◌, length, drop, codes, IsTrue, IsNone, IfSome, OnOk, OnErr, Some};
 ghost use Rattle.std.specs.Fmt.{decimal};
 ghost use Rattle.std.specs.List.{prefix_len, take_while};
 ghost use Rattle.cw_core.specs.Numerals.{hexadecimal};
@@ -11,6 +11,9 @@ use crate::ids::StateId;
 use crate::line::Line;
 use crate::memory::NoMemory;
 use crate::state_set::StateSet;
+
+/// How many bytes the hexadecimal of a set of numbers below 1,024 has at the most: `0x` and 256 digits.
+const LONGEST_MASK: usize = 258;
 
 /// Appends a set as format 2 spells it: as ranges, where that text is shorter than the hexadecimal, and as
 /// hexadecimal otherwise. Where the text can't grow, it is as before.
@@ -27,7 +30,7 @@ pub fn put_ranges(set: &StateSet, text: &mut Vec<u8>) -> Result<(), NoMemory>
 impl Line {
     /// Appends a set as format 2 spells it, as `put_ranges` of this crate does.
     pub fn put_ranges(&mut self, set: &StateSet)
-        requires room { length self.old + 258 ≤ 4096 }
+        requires room { length self.old + 258 ≤ 1024 }
         ensures text { self.new ≡ self.old ++ set_spelling set.now }
     {
         let mut runs = Line::new();
@@ -40,15 +43,19 @@ impl Line {
         }
     }
 
-    /// Puts the maximal runs of a set into an empty text.
+    /// Puts the maximal runs of a set into an empty text, or the first of them, as many bytes as the longest hexadecimal of a set or more.
     fn put_runs(&mut self, set: &StateSet)
         requires empty { self.old ≡ [] }
-        ensures text { self.new ≡ ranges set.now }
+        ensures text { (self.new ≡ ranges set.now)
+            ⊎ ((258 ≤ length self.new) × (length self.new ≤ length (ranges set.now))) }
     {
         set.fact_members_are_below_1024();
         let bound = set.bit_count() as u16;
         let mut at: u16 = 0;
         'numbers: while at < bound {
+            if self.bytes().len() >= LONGEST_MASK {
+                return;
+            }
             if set.contains(StateId(at)) {
                 let greatest = greatest_of_run(set, at);
                 self.put_run(at, greatest);
@@ -61,7 +68,7 @@ impl Line {
 
     /// Appends a run, after `+` where something stands there.
     fn put_run(&mut self, least: u16, greatest: u16)
-        requires room { length self.old + 46 ≤ 4096 }
+        requires room { length self.old + 46 ≤ 1024 }
         requires up { least ≤ greatest }
         requires below { greatest < 1024 }
         ensures text { self.new
@@ -78,10 +85,10 @@ impl Line {
 
     /// Appends `+` where something stands there.
     fn put_plus(&mut self)
-        requires room { length self.old < 4096 }
+        requires room { length self.old < 1024 }
         ensures text { self.new ≡ self.old ++ (if length self.old == 0 then [] else codes "+") }
     {
-        if self.room() < 4096 {
+        if self.room() < 1024 {
             self.put_text(b"+");
         }
     }

@@ -45,7 +45,7 @@ pub last_piece : (waiting piece now all front : List ℕ) → now ≡ waiting ++
 last_piece waiting piece now all front e f g = rw (g, f, e) (take_rest (waiting ++ piece) (length waiting) ∙ drop-append_seam waiting piece)
 
 -- a spelling for which there is more room than any needs
-pub short_with : (waiting spelling : List ℕ) (most : ℕ) → length spelling ≤ most → length waiting + most < 4096 → length (waiting ++ spelling) < 4096
+pub short_with : (waiting spelling : List ℕ) (most : ℕ) → length spelling ≤ most → length waiting + most < 1024 → length (waiting ++ spelling) < 1024
 short_with waiting spelling most short more = let q = length-append waiting spelling in omega (arith, short, q, more)
 
 -- the spelling of a set in format 2 is no longer than its hexadecimal may be

@@ -24,7 +24,7 @@ TookBut old new text waiting (Some fault) = (count : ℕ) × Grows old new (take
 -- a sink, by what it tells of its bytes and its two counts, follows the text of a writer; less than a piece waits,
 -- no count fell, and the fault's count rose
 pub record Follows {S : Type 0} (taken : S → Option (List ℕ)) (faults refused : S → ℕ) (writer : Written S) (out : S) : Type 0 where
-  pub short : length writer.waiting < 4096
+  pub short : length writer.waiting < 1024
   pub took : TookBut (taken writer.begun) (taken out) writer.text writer.waiting writer.fault
   pub failed : HasCause SinkFault.Failed (faults writer.begun) (faults out) (answer_of writer.fault)
   pub no_memory : HasCause SinkFault.NoMemory (refused writer.begun) (refused out) (answer_of writer.fault)

@@ -6,14 +6,15 @@ ghost use Rattle.cw_io.specs.Causes.{Rose};
 ghost use Rattle.cw_io.specs.Files.{count_after};
 
 use crate::{ReadFault, Shelf};
+use cw_core::limits::SOURCE_BYTES;
 use std::alloc::Global;
 use std::fs;
 use std::io::Read;
 use std::marker::Model;
 use std::rt::Files;
 
-/// The most bytes that are asked of a file in one turn.
-const CHUNK: usize = 4096;
+/// The most bytes that are asked of a file in one turn: room that is cleared for each file, in few steps while it is small.
+const CHUNK: usize = 2000;
 
 /// The files of the system, by their paths. It doesn't tell what they hold. Each error of opening or reading
 /// raises the one count of faults that all names share.
@@ -74,7 +75,8 @@ fn read_all<F: Read>(alloc: Global, file: &mut F, max: usize) -> Result<Vec<u8>,
     ensures too_long { IsErrOf result ReadFault.TooLong
         → IfSome (F.remaining file.old) (λ left. max < length left) }
 {
-    let mut all = Vec::new(alloc);
+    // A source has room at once: what isn't used of it costs nothing, and a text that grows is copied.
+    let mut all = Vec::with_capacity(alloc, max.min(SOURCE_BYTES) + 1)?;
     let mut chunk = [0u8; CHUNK];
     while all.len() <= max {
         let room = max - all.len();

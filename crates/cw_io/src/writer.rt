@@ -16,7 +16,7 @@ use itoa::Buffer;
 use std::marker::Model;
 use std::snapshot::Snapshot;
 
-/// Puts a text into a sink, in pieces of 4,096 bytes and a last one that is shorter. No call takes memory but
+/// Puts a text into a sink, in pieces of 1,024 bytes and a last one that is shorter. No call takes memory but
 /// the sink's own.
 ///
 /// A fault of the sink stays in the writer: nothing is put after it, and `finish` answers it. `text` is what was
@@ -141,7 +141,7 @@ impl<S: Sink> Writer<S> {
     /// Whether no fault came, and there is more room than so many bytes need.
     #[inline(always)]
     fn has_room_for(&self, count: usize) -> bool
-        ensures room { IsTrue result → length self.now.waiting + count < 4096 }
+        ensures room { IsTrue result → length self.now.waiting + count < 1024 }
         ensures none { IsTrue result → is_some self.now.fault ≡ false }
     {
         self.fault.is_none() && count < self.line.room()
@@ -201,7 +201,7 @@ impl<S: Sink> Writer<S> {
 
     /// Appends a piece for which there is room.
     fn fill(&mut self, piece: &[u8], out: &mut S)
-        requires room { length self.old.waiting + length piece.now ≤ 4096 }
+        requires room { length self.old.waiting + length piece.now ≤ 1024 }
         requires follows { Follows S.taken S.faults S.refused self.old out.old }
         ensures text { self.new.text ≡ self.old.text ++ piece.now }
         ensures begun { self.new.begun ≡ self.old.begun }
