@@ -1,29 +1,18 @@
 -- The numbers of names: what a name more changes, and what all names make.
-use Rattle.std.proofs.Common.{◌≡◌, ℕ, ◌+◌, List, [], ◌∷◌, ◌++◌, Bool, true, false, ◌||◌, cond, Some, None, is_some, map, refl, sym, ap, ap₂, ◌∙◌}
-use Rattle.std.specs.Option.{option_or}
+use Rattle.std.proofs.Common.{◌≡◌, ℕ, zero, suc, ◌+◌, ◌<◌, ◌≤◌, List, [], ◌∷◌, length, drop, get_or, Bool, true, false, ◌||◌, cond, Some, is_some, map, refl, sym, ap, ap₂, ◌∙◌, arith}
+use Rattle.std.specs.Map.{lookup}
 use Rattle.std.specs.List.{list_any, position_from}
 use Rattle.std.specs.Prelude.{position}
 use Rattle.std.specs.Borrow.{Bor}
 use Rattle.std.specs.Str.{bytes_eq}
 use Rattle.std.proofs.lemmas.Iterator.Adapters.{position_from-zero}
+use Rattle.std.proofs.lemmas.Cmp.{nat_list_eq_equiv}
+use Rattle.std.proofs.lemmas.List.{drop_more}
 use Rattle.cw_syntax.specs.Names.{number_in}
-use Rattle.cw_resolve.specs.Listed.{HaveNumbers, found, number_from, text_at}
+use Rattle.cw_resolve.specs.Listed.{HaveNumbers, HaveNumbersFrom, number_from, text_at}
 
 abbrev Entries : Type 0
 Entries = List (Bor (List ℕ) × ℕ)
-
-found_behind : (name : List ℕ) (es : Entries) (t : Bor (List ℕ)) (n : ℕ) → found name (es ++ (t, n) ∷ []) ≡ option_or (found name es) (cond (bytes_eq name t.now) (Some n) None)
-found_behind name [] t n = refl
-found_behind name (e ∷ es) t n = by (bytes_eq name e.0.now) (found_behind name es t n)
-  where
-    by : (b : Bool) → found name (es ++ (t, n) ∷ []) ≡ option_or (found name es) (cond (bytes_eq name t.now) (Some n) None)
-        → cond b (Some e.1) (found name (es ++ (t, n) ∷ [])) ≡ option_or (cond b (Some e.1) (found name es)) (cond (bytes_eq name t.now) (Some n) None)
-    by true h = refl
-    by false h = h
-
-pub put_found : (old new : Entries) (t : Bor (List ℕ)) (n : ℕ) → new ≡ old ++ (t, n) ∷ []
-    → (name : List ℕ) → found name new ≡ option_or (found name old) (cond (bytes_eq name t.now) (Some n) None)
-put_found old new t n is name = ap (found name) is ∙ found_behind name old t n
 
 numbered_on : (name : List ℕ) (n : ℕ) (ts : List (Bor (List ℕ))) → number_from name n ts ≡ position_from (bytes_eq name) n (map text_at ts)
 numbered_on name n [] = refl
@@ -32,10 +21,24 @@ numbered_on name n (t ∷ ts) = ap (cond (bytes_eq name t.now) (Some n)) (number
 numbered : (name : List ℕ) (ts : List (Bor (List ℕ))) → number_from name 0 ts ≡ number_in (map text_at ts) name
 numbered name ts = numbered_on name 0 ts ∙ sym (position_from-zero (bytes_eq name) (map text_at ts))
 
-pub have_numbers : (none all : Entries) (names : List (Bor (List ℕ))) → none ≡ []
-    → ((name : List ℕ) → found name all ≡ option_or (found name none) (number_from name 0 names))
-    → HaveNumbers all names
-have_numbers none all names is h name = h name ∙ ap (λ es. option_or (found name es) (number_from name 0 names)) is ∙ numbered name names
+pub have_numbers : (es : Entries) (ts : List (Bor (List ℕ))) (at : ℕ) → at ≤ 0 → HaveNumbersFrom at es (drop at ts) → HaveNumbers es ts
+have_numbers es ts zero none h name = h name ∙ numbered name.now ts
+have_numbers es ts (suc at) none h name = absurd (omega (arith, none))
+
+-- the entries with a name put in that stands before the others in the list
+one_before : (n : ℕ) (t : Bor (List ℕ)) (ts : List (Bor (List ℕ))) (old new : Entries)
+    → ((q : Bor (List ℕ)) → lookup (λ k. bytes_eq q.now k.now) new ≡ cond (bytes_eq t.now q.now) (Some n) (lookup (λ k. bytes_eq q.now k.now) old))
+    → HaveNumbersFrom (n + 1) old ts → HaveNumbersFrom n new (t ∷ ts)
+one_before n t ts old new updates rest name =
+    updates name
+    ∙ ap₂ (λ b later. cond b (Some n) later) (nat_list_eq_equiv.symm t.now name.now) (rest name)
+
+-- from an index on, where the next index's names have their numbers
+pub one_more : (ts : List (Bor (List ℕ))) (i : ℕ) (none : Bor (List ℕ)) (old new : Entries) → i < length ts
+    → ((q : Bor (List ℕ)) → lookup (λ k. bytes_eq q.now k.now) new ≡ cond (bytes_eq (get_or ts i none).now q.now) (Some i) (lookup (λ k. bytes_eq q.now k.now) old))
+    → HaveNumbersFrom (i + 1) old (drop (i + 1) ts) → HaveNumbersFrom i new (drop i ts)
+one_more ts i none old new short updates rest name =
+    one_before i (get_or ts i none) (drop (i + 1) ts) old new updates rest name ∙ ap (number_from name.now i) (sym (drop_more ts i none short))
 
 module _ {X : Type 0} (p : X → Bool) where
   some_from : (n : ℕ) (xs : List X) → is_some (position_from p n xs) ≡ list_any p xs

@@ -18,9 +18,13 @@ abbrev pub number_from : List ℕ → ℕ → List (Bor (List ℕ)) → Option �
 number_from name n [] = None
 number_from name n (t ∷ ts) = cond (bytes_eq name t.now) (Some n) (number_from name (n + 1) ts)
 
+-- each name has in them the number that it has in the list whose first has this number, and no other has one
+abbrev pub HaveNumbersFrom : ℕ → List (Bor (List ℕ) × ℕ) → List (Bor (List ℕ)) → Type 0
+HaveNumbersFrom n entries names = (name : Bor (List ℕ)) → found name.now entries ≡ number_from name.now n names
+
 -- each name has in them the number that it has in the list, and no other has one
 abbrev pub HaveNumbers : List (Bor (List ℕ) × ℕ) → List (Bor (List ℕ)) → Type 0
-HaveNumbers entries names = (name : List ℕ) → found name entries ≡ number_in (map text_at names) name
+HaveNumbers entries names = (name : Bor (List ℕ)) → found name.now entries ≡ number_in (map text_at names) name.now
 
 abbrev pub scene_by : List ℕ → (functions descriptors labels splits : List (List ℕ)) → Scene
 scene_by source functions descriptors labels splits =

@@ -1,11 +1,10 @@
 //! Names in an order, looked up by their bytes.
 
-ghost use Rattle.std.specs.Prelude.{◌≡◌, ℕ, List, cond, length, map, IfOk, Some, None};
+ghost use Rattle.std.specs.Prelude.{◌≡◌, ◌<◌, [], ℕ, List, length, map, IfOk};
 ghost use Rattle.std.specs.List.{list_any};
-ghost use Rattle.std.specs.Option.{option_or};
 ghost use Rattle.std.specs.Str.{bytes_eq};
 ghost use Rattle.cw_syntax.specs.Names.{number_in};
-ghost use Rattle.cw_resolve.specs.Listed.{HaveNumbers, found, number_from, text_at};
+ghost use Rattle.cw_resolve.specs.Listed.{HaveNumbers, found, text_at};
 
 use crate::names::is_same;
 use indexmap::IndexMap;
@@ -21,19 +20,20 @@ const FEW: usize = 6;
 #[derive(Drop)]
 pub(crate) struct NameList<'s> {
     names: Vec<&'s [u8]>,
-    /// Of names that are the same, the number of the first.
+    /// Of names that are the same, the number of the first; none where there are few.
     numbers: IndexMap<&'s [u8], usize>,
 }
 
 impl<'s> Model for NameList<'s> {
-    ghost use Rattle.std.specs.Prelude.{ℕ, List, map};
+    ghost use Rattle.std.specs.Prelude.{ℕ, List, length, map, ◌<◌};
     ghost use Rattle.cw_resolve.specs.Listed.{HaveNumbers, text_at};
 
     ghost Value = { List (List ℕ) };
 
     ghost view = { λ l. map text_at l.names.items };
 
-    ghost invariant = { λ l. HaveNumbers l.numbers.entries l.names.items };
+    // More than `FEW`.
+    ghost invariant = { λ l. 6 < length l.names.items → HaveNumbers l.numbers.entries l.names.items };
 }
 
 impl<'s> NameList<'s> {
@@ -90,41 +90,34 @@ fn find(numbers: &IndexMap<&[u8], usize>, name: &[u8]) -> Option<usize>
     numbers.get(name).copied()
 }
 
-/// Adds a name with this number, unless it is there.
-fn put<'s>(
-    numbers: &mut IndexMap<&'s [u8], usize>,
-    text: &'s [u8],
-    number: usize,
-) -> Result<(), AllocError>
-    ensures { IfOk result (λ _. (name : List ℕ) → found name numbers.new.entries ≡ option_or (found name numbers.old.entries) (cond (bytes_eq name text.now) (Some number) None)) }
-{
-    if find(numbers, text).is_none() {
-        numbers.insert(text, number)?;
-    }
-    Ok(())
-}
-
-/// Adds names, each with its index in this list.
-fn put_all<'s>(
-    numbers: &mut IndexMap<&'s [u8], usize>,
-    names: &[&'s [u8]],
-) -> Result<(), AllocError>
-    ensures { IfOk result (λ _. (name : List ℕ) → found name numbers.new.entries ≡ option_or (found name numbers.old.entries) (number_from name 0 names.now)) }
-{
-    for (i, text) in names.iter().enumerate() {
-        put(numbers, *text, i)?;
-    }
-    Ok(())
-}
-
-/// The numbers of these names.
+/// The numbers of these names. Who asks for few names walks over them, and these have none. The later names are put first, so that of names
+/// that are the same the first has the last word, and none is looked for before it is put.
 fn numbers_of<'s>(
     alloc: Global,
     names: &[&'s [u8]],
 ) -> Result<IndexMap<&'s [u8], usize>, AllocError>
-    ensures { IfOk result (λ numbers. HaveNumbers numbers.entries names.now) }
+    ensures { IfOk result (λ numbers. FEW < length names.now → HaveNumbers numbers.entries names.now) }
 {
-    let mut numbers = IndexMap::new(alloc);
+    if names.len() <= FEW {
+        return Ok(IndexMap::new(alloc));
+    }
+    let mut numbers = IndexMap::with_capacity(alloc, names.len())?;
     put_all(&mut numbers, names)?;
     Ok(numbers)
+}
+
+/// Puts names into a map without any, each with its index in this list.
+fn put_all<'s>(
+    numbers: &mut IndexMap<&'s [u8], usize>,
+    names: &[&'s [u8]],
+) -> Result<(), AllocError>
+    requires { numbers.old.entries ≡ [] }
+    ensures { IfOk result (λ _. HaveNumbers numbers.new.entries names.now) }
+{
+    let mut at = names.len();
+    while at > 0 {
+        at -= 1;
+        numbers.insert(names[at], at)?;
+    }
+    Ok(())
 }
