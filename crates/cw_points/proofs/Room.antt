@@ -1,9 +1,10 @@
 -- Where there is room for a statement's points there is room for those of its parts.
-use Rattle.std.proofs.Common.{◌≡◌, ◌≤◌, ℕ, ◌+◌, List, [], ◌∷◌, Bool, Option, None, Some, length, refl, ap, arith, length-append}
+use Rattle.std.proofs.Common.{◌≡◌, ◌<◌, ◌≤◌, ℕ, suc, ◌+◌, ◌-◌, List, [], ◌∷◌, Bool, Option, None, Some, length, drop, get_or, refl, sym, ap, ◌∙◌, arith, length-append}
+use Rattle.std.proofs.lemmas.List.{drop_all}
 use Rattle.std.specs.Prelude.{is_some}
 use Rattle.cw_syntax.specs.declared.program.Name.{Name}
 use Rattle.cw_syntax.specs.declared.program.Stmt.{Stmt}
-use Rattle.cw_syntax.specs.Trees.{Tree, Statement, Form, Block, Labels, Chooses, Whiles, Does, Fors, Perhaps, just, Statements, cons, Definition, form_of, statement_of}
+use Rattle.cw_syntax.specs.Trees.{Tree, Statement, Form, Block, Labels, Chooses, Whiles, Does, Fors, Perhaps, just, Statements, cons, Definition, form_of, statement_of, statements_of}
 use Rattle.cw_syntax.specs.Plans.{Scene, place_if}
 use Rattle.cw_points.specs.declared.graph.Point.{Point}
 use Rattle.cw_points.specs.declared.graph.Point.TheVariants as point
@@ -14,7 +15,7 @@ use Rattle.cw_points.specs.Graphs.{node, test_node, step_nodes}
 use Rattle.cw_points.specs.Sizes.{size, size_of, size_all, size_from, capped}
 use Rattle.cw_points.specs.Drawing.{Drawn, with_nodes, with_node, with_seam, laid, laid_one}
 use Rattle.cw_points.proofs.Adding.{laid_nodes}
-use Rattle.cw_points.proofs.Counting.{one_place}
+use Rattle.cw_points.proofs.Counting.{one_place, one_more}
 use Rattle.cw_points.proofs.Functions.{one_length}
 use Rattle.cw_points.proofs.Lengths.{step_length}
 
@@ -109,6 +110,39 @@ module _ (s : Stmt) (d : Drawn) (few : length d.nodes + size (statement_of s) �
         nodes_grow (step_nodes f begun t) d,
         step_length f begun t,
       )
+
+-- how many points the parts of a statement have that has so many
+module _ (s : Stmt) (own : ℕ) (is : own ≡ size (statement_of s)) where
+  pub one_less : (form : Form) (n : ℕ) → form_of s.what ≡ form → size_of form ≡ suc n → own - 1 ≡ n
+  one_less form n e f = omega (arith, is, ap size_of e, f)
+
+  pub own_less : (form : Form) (part part' : Statement) → form_of s.what ≡ form → size_of form ≡ suc (size part) → part' ≡ part → own - 1 ≡ size part'
+  own_less form part part' e f g = one_less form (size part) e f ∙ sym (ap size g)
+
+  pub other_left : (t : Tree) (arm other : Statement) (n : ℕ) → form_of s.what ≡ Chooses t arm (just other) → n ≡ size arm → own - 1 - n ≡ size other
+  other_left t arm other n e f = omega (arith, is, ap size_of e, f)
+
+  pub block_own : (ss ss' : Statements) → form_of s.what ≡ Block ss → ss' ≡ ss → own ≡ size_all ss'
+  block_own ss ss' e f = omega (arith, is, ap size_of e, ap size_all f)
+
+  pub other_own : (t : Tree) (arm other other' : Statement) (n : ℕ) (d : Drawn) → length d.nodes + size (statement_of s) ≤ 8192 → form_of s.what ≡ Chooses t arm (just other)
+      → n ≡ capped (size arm) → other' ≡ other → own - 1 - n ≡ size other'
+  other_own t arm other other' n d few e f g = other_left t arm other n e (whole n (size arm) (length d.nodes) f (arm_part s d few t arm (just other) e)) ∙ sym (ap size g)
+
+-- those that are counted
+pub arm_own : (s : Stmt) (d : Drawn) → length d.nodes + size (statement_of s) ≤ 8192 → (t : Tree) (arm arm' : Statement) (other : Perhaps) (n : ℕ) → form_of s.what ≡ Chooses t arm other
+    → n ≡ capped (size arm) → arm' ≡ arm → n ≡ size arm'
+arm_own s d few t arm arm' other n e f g = whole n (size arm) (length d.nodes) f (arm_part s d few t arm other e) ∙ sym (ap size g)
+
+pub for_own : (s : Stmt) (d : Drawn) → length d.nodes + size (statement_of s) ≤ 8192 → (init : Perhaps) (test step : Option Tree) (body body' : Statement) (n : ℕ) →
+    form_of s.what ≡ Fors init test step body → n ≡ capped (size body) → body' ≡ body → n ≡ size body'
+for_own s d few init test step body body' n e f g = whole n (size body) (length d.nodes) f (for_part s d few init test step body e) ∙ sym (ap size g)
+
+-- the last of some statements has what is left
+pub last_own : (ss : List Stmt) (s : Stmt) (i left : ℕ) → i < length ss → s ≡ get_or ss i s → i + 1 ≡ length ss → left ≡ size_all (statements_of (drop i ss)) → left ≡ size (statement_of s)
+last_own ss s i left lt is last all =
+    let none : drop (i + 1) ss ≡ [] = drop_all (i + 1) ss (omega (arith, last)) in
+    omega (arith, all, ap size_all (one_more ss s i lt is), ap (λ l. size_all (statements_of l)) none)
 
 -- for the first of some statements, and for the rest behind it
 pub first_room : (d : Drawn) (s : Statement) (rest all : Statements) → all ≡ cons s rest → length d.nodes + size_all all ≤ 8192 → length d.nodes + size s ≤ 8192

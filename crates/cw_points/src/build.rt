@@ -52,7 +52,7 @@ fn lay_function(
     };
     let start = first(size, entry + 1, exit);
     draft.put_seam(Point::Entry, number, start, function.brace, None)?;
-    lay_all(draft, scene, number, &function.body, ways)?;
+    lay_all(draft, scene, number, &function.body, size, ways)?;
     draft.put_exit(number)?;
     let split = scene.is_split(scene.text(function.name));
     Ok(Part {

@@ -1,6 +1,6 @@
 //! The points and seams of statements.
 
-ghost use Rattle.std.specs.Prelude.{◌≡◌, ◌+◌, ◌≤◌, ℕ, length, is_some, Some, None, IfOk, OnOk};
+ghost use Rattle.std.specs.Prelude.{◌≡◌, ◌+◌, ◌≤◌, ℕ, true, length, is_some, Some, None, IfOk, OnOk};
 ghost use Rattle.cw_syntax.specs.Trees.{Stated, Evaluates, tree_of, statement_of, statements_of};
 ghost use Rattle.cw_syntax.specs.declared.program.Head.{out-Head};
 ghost use Rattle.cw_points.specs.Points.{one_if};
@@ -8,7 +8,7 @@ ghost use Rattle.cw_points.specs.Sizes.{size, size_all};
 ghost use Rattle.cw_points.specs.Graphs.{first, step_nodes, test_node};
 ghost use Rattle.cw_points.specs.Drawing.{drawn_of, looped, before, with_nodes, with_node, laid, laid_all};
 
-use crate::count::{count, count_all};
+use crate::count::count;
 use crate::draft::{Draft, Ways, first};
 use crate::graph::Point;
 use cw_core::limits::POINTS;
@@ -116,18 +116,29 @@ fn put_head(
     Ok(turn)
 }
 
-/// A statement.
+/// How many points a statement has, of which so many are left with those behind it: all of them, where it is the last.
+fn own_count(statement: &Stmt, last: bool, left: u32) -> u32
+    requires few { size (statement_of statement.now) ≤ POINTS }
+    requires last { last ≡ true → left ≡ size (statement_of statement.now) }
+    ensures { result ≡ size (statement_of statement.now) }
+{
+    if last { left } else { count(statement) }
+}
+
+/// A statement, which has so many points.
 #[cycle(lay)]
 fn lay(
     draft: &mut Draft,
     scene: &Scene,
     function: u16,
     statement: &Stmt,
+    own: u32,
     ways: Ways,
 ) -> Result<(), AllocError>
     requires labels { length scene.now.names.labels ≤ 65535 }
     requires descriptors { length scene.now.names.descriptors ≤ 255 }
     requires functions { length scene.now.functions ≤ 65535 }
+    requires own { own ≡ size (statement_of statement.now) }
     requires few { length draft.old.nodes.items + size (statement_of statement.now) ≤ POINTS }
     ensures { OnOk result (drawn_of draft.new ≡ laid scene.now function (statement_of statement.now) ways (drawn_of draft.old)) }
 {
@@ -138,72 +149,80 @@ fn lay(
         What::Continue => draft.put_step(function, ways.continued),
         What::Return(_) => draft.put_step(function, Some(ways.exit)),
         What::Expr(e) => lay_expression(draft, scene, function, e, statement.from, ways),
-        What::Block(statements) => lay_all(draft, scene, function, statements, ways),
+        What::Block(statements) => lay_all(draft, scene, function, statements, own, ways),
         What::Label(name, mark, body) => {
             let label = scene.label_number(scene.text(*name));
             let at = draft.next_point();
-            let next = first(count(body), at + 1, ways.next);
+            let inner = own - 1;
+            let next = first(inner, at + 1, ways.next);
             draft.put_seam(Point::Label(label), function, next, *mark, None)?;
-            lay(draft, scene, function, body, ways)
+            lay(draft, scene, function, body, inner, ways)
         }
         What::If(_, arm, other) => match other {
             None => {
                 let at = draft.next_point();
-                let holds = first(count(arm), at + 1, ways.next);
+                let inner = own - 1;
+                let holds = first(inner, at + 1, ways.next);
                 draft.put_branch(function, holds, ways.next)?;
-                lay(draft, scene, function, arm, ways)
+                lay(draft, scene, function, arm, inner, ways)
             }
             Some(other) => {
                 let at = draft.next_point();
-                let own = count(arm);
-                let holds = first(own, at + 1, ways.next);
-                let fails = first(count(other), at + 1 + own, ways.next);
+                let inner = count(arm);
+                let rest = own - 1 - inner;
+                let holds = first(inner, at + 1, ways.next);
+                let fails = first(rest, at + 1 + inner, ways.next);
                 draft.put_branch(function, holds, fails)?;
-                lay(draft, scene, function, arm, ways)?;
-                lay(draft, scene, function, other, ways)
+                lay(draft, scene, function, arm, inner, ways)?;
+                lay(draft, scene, function, other, rest, ways)
             }
         },
         What::While(_, body) => {
             let at = draft.next_point();
-            let holds = first(count(body), at + 1, at);
+            let inner = own - 1;
+            let holds = first(inner, at + 1, at);
             draft.put_branch(function, holds, ways.next)?;
-            lay(draft, scene, function, body, looped(ways, at))
+            lay(draft, scene, function, body, inner, looped(ways, at))
         }
         What::Do(body, _) => {
             let at = draft.next_point();
-            let test = at + count(body);
-            lay(draft, scene, function, body, looped(ways, test))?;
+            let inner = own - 1;
+            let test = at + inner;
+            lay(draft, scene, function, body, inner, looped(ways, test))?;
             draft.put_branch(function, at, ways.next)
         }
         What::For(head, body) => {
-            let turn = put_head(draft, function, head, count(body), ways.next)?;
-            lay(draft, scene, function, body, looped(ways, turn))
+            let inner = count(body);
+            let turn = put_head(draft, function, head, inner, ways.next)?;
+            lay(draft, scene, function, body, inner, looped(ways, turn))
         }
     }
 }
 
-/// These statements, one after the other.
+/// These statements, which have so many points, one after the other.
 #[cycle(lay)]
 pub(crate) fn lay_all(
     draft: &mut Draft,
     scene: &Scene,
     function: u16,
     statements: &[Stmt],
+    size: u32,
     ways: Ways,
 ) -> Result<(), AllocError>
     requires labels { length scene.now.names.labels ≤ 65535 }
     requires descriptors { length scene.now.names.descriptors ≤ 255 }
     requires functions { length scene.now.functions ≤ 65535 }
+    requires size { size ≡ size_all (statements_of statements.now) }
     requires few { length draft.old.nodes.items + size_all (statements_of statements.now) ≤ POINTS }
     ensures { OnOk result (drawn_of draft.new ≡ laid_all scene.now function (statements_of statements.now) ways (drawn_of draft.old)) }
 {
-    let mut left = count_all(statements);
-    for statement in statements {
-        let own = count(statement);
+    let mut left = size;
+    for (i, statement) in statements.iter().enumerate() {
+        let own = own_count(statement, i + 1 == statements.len(), left);
         left -= own;
         let at = draft.next_point();
         let next = first(left, at + own, ways.next);
-        lay(draft, scene, function, statement, before(ways, next))?;
+        lay(draft, scene, function, statement, own, before(ways, next))?;
     }
     Ok(())
 }

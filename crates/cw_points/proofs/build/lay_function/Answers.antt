@@ -1,4 +1,4 @@
-use Rattle.std.proofs.Common.{◌+◌, length, ap, refl, ◌∙◌}
+use Rattle.std.proofs.Common.{◌+◌, length, ap, refl, sym, ◌∙◌}
 use Rattle.cw_syntax.specs.Trees.{statements_of, definition_of}
 use Rattle.cw_points.specs.Sizes.{size_all, capped}
 use Rattle.cw_points.specs.Drawing.{drawn_of, laid_all}
@@ -24,3 +24,10 @@ returns-clause-drawn c =
 pub lay_all-requires-clause-few : goal.lay_all-requires-clause-few
 lay_all-requires-clause-few c = body_room (drawn_of c.args.draft.now) (drawn_of c.put_seam.new.self) c.args.number c.first-start.result c.args.function.now.brace
     (definition_of c.args.function.now).body (statements_of c.deref-2.result.now) (ap statements_of c.deref-2.ensures.value) c.in_ok-put_seam.ensures c.requires.few
+
+pub lay_all-requires-clause-size : goal.lay_all-requires-clause-size
+lay_all-requires-clause-size c =
+    let d = drawn_of c.args.draft.now in
+    let body = (definition_of c.args.function.now).body in
+    whole c.count_all-size.result (size_all body) (length d.nodes) (c.count_all-size.ensures ∙ ap (λ l. capped (size_all (statements_of l))) c.deref.ensures.value)
+    (body_part (length d.nodes) body c.requires.few) ∙ sym (ap (λ l. size_all (statements_of l)) c.deref-2.ensures.value)

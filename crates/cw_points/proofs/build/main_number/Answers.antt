@@ -1,4 +1,4 @@
-use Rattle.std.proofs.Common.{◌≡◌, length, codes, ◌∙◌, rules}
+use Rattle.std.proofs.Common.{◌≡◌, codes, ◌∙◌, rules}
 use Rattle.std.specs.Option.{unwrap_or}
 use Rattle.cw_syntax.specs.Names.{number_in}
 use Rattle.cw_points.proofs.Numbers.{number_or_length}
