@@ -26,6 +26,7 @@ use cw_dfa::Rules;
 use cw_rights::{Descriptor, Limit, Policy, Rule};
 use indexmap::IndexSet;
 use std::alloc::Global;
+use std::mem::forget;
 use toml::Table;
 
 /// Whether the rules have more literals than 64 in all.
@@ -236,7 +237,11 @@ pub fn read_policy(alloc: Global, text: &[u8]) -> Result<Policy, PolicyFault>
     };
     match toml::table_from_str(alloc, text) {
         Ok(table) => match read_table(alloc, &table) {
-            Ok(policy) => Ok(policy),
+            Ok(policy) => {
+                // The end of the process gives the blocks of the tree back at once.
+                forget(table);
+                Ok(policy)
+            }
             Err(fault) => Err(fault),
         },
         Err(fault) => {

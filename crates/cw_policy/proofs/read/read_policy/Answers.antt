@@ -25,8 +25,8 @@ returns-in-Ok-read_table-clause-policy c =
 pub returns-in-Ok-read_table-clause-valid : goal.returns-in-Ok-read_table-clause-valid
 returns-in-Ok-read_table-clause-valid c = is_valid c.args.text.now (policy_of c.in-Ok-read_table.policy) (returns-in-Ok-read_table-clause-policy c)
 
-pub returns-in-Ok-table_from_str-clause-fault : goal.returns-in-Ok-table_from_str-clause-fault
-returns-in-Ok-table_from_str-clause-fault c =
+pub returns-in-Err-read_table-clause-fault : goal.returns-in-Err-read_table-clause-fault
+returns-in-Err-read_table-clause-fault c =
     let utf8 : IsUtf8 c.args.text.now = search rules in
     let parsed : parse_document c.args.text.now ≡ Some (table_view c.in-Ok-table_from_str.table) = search rules in
     fault_is c.args.text.now (table_view c.in-Ok-table_from_str.table) c.in-Err-read_table.fault utf8 parsed c.in-Err-read_table.ensures.fault
