@@ -94,13 +94,15 @@ module _ (g : Game) where
         | inr same ↦ absurd (let k = same.1 in omega (arith, k))
       ]) lt changing leads
 
-  -- a position that keeps the state has none
-  pub led_none_more : (Is : ℕ → ℕ → ℕ → ℕ → Type 0) (p : ℕ) → keeps_state (slice_get g.spots p) ≡ true → AreLed g Is p 0 → AreLed g Is (p + 1) 0
-  led_none_more Is p keeps are m n r x before lt changing leads =
+  -- a position from which no move leads that may change the state has none
+  pub led_none_more : (Is : ℕ → ℕ → ℕ → ℕ → Type 0) (p : ℕ) → ((n r x : ℕ) → keeps_state (slice_get g.spots p) ≡ false → Leads g p n r x → ⊥) → AreLed g Is p 0 → AreLed g Is (p + 1) 0
+  led_none_more Is p none are m n r x before lt changing leads =
       elim before [
         | inl less ↦ elim (cases_lt m p) [
           | inl earlier ↦ are m n r x (inl earlier) lt changing leads
-          | inr ge ↦ let here : m ≡ p = omega (arith, less, ge) in absurd (false≢true (sym changing ∙ ap (λ (y : ℕ). keeps_state (slice_get g.spots y)) here ∙ keeps))
+          | inr ge ↦
+              let here : m ≡ p = omega (arith, less, ge) in
+              absurd (none n r x (ap (λ (y : ℕ). keeps_state (slice_get g.spots y)) (sym here) ∙ changing) (subst (λ (y : ℕ). Leads g y n r x) here leads))
         ]
         | inr same ↦ absurd (let k = same.1 in omega (arith, k))
       ]
@@ -189,12 +191,13 @@ module _ (g : Game) where
       soles = are.soles;
     }
 
-    pub no_pair_more : (pairs : Chained Pair) (p : ℕ) → keeps_state (slice_get g.spots p) ≡ true → AreChangesTo g flags pairs p 0 → AreChangesTo g flags pairs (p + 1) 0
-    no_pair_more pairs p keeps are = record {
+    pub no_pair_more : (pairs : Chained Pair) (p : ℕ) → ((n r x : ℕ) → keeps_state (slice_get g.spots p) ≡ false → Leads g p n r x → ⊥) → AreChangesTo g flags pairs p 0
+        → AreChangesTo g flags pairs (p + 1) 0
+    no_pair_more pairs p none are = record {
       lists = are.lists;
       few = (let f = are.few in omega (arith, f));
       fine = are.fine;
-      leads = led_none_more (IsListed g flags pairs) p keeps are.leads;
+      leads = led_none_more (IsListed g flags pairs) p none are.leads;
       soles = are.soles;
     }
 

@@ -1,10 +1,10 @@
 -- The positions to which a move leads that may change the state are flagged, and lists stand for the pairs of these alone.
-use Rattle.std.proofs.Common.{◌≡◌, ℕ, zero, suc, ◌+◌, ◌*◌, ◌<◌, ◌≤◌, List, [], Bool, true, false, Option, Some, None, length, get_or, set, sym, ap, ◌∙◌, subst, arith, inl, inr}
+use Rattle.std.proofs.Common.{◌≡◌, ℕ, zero, suc, ◌+◌, ◌*◌, ◌<◌, ◌≤◌, List, [], Bool, true, false, Option, Some, None, length, get_or, set, refl, sym, ap, ◌∙◌, subst, arith, inl, inr}
 use Rattle.std.specs.Prelude.{◌⊎◌, slice_get, option_map, IfSome, Contains}
 use Rattle.std.proofs.lemmas.Bool.{cases_eq, cases_lt, false≢true}
 use Rattle.std.proofs.lemmas.List.{length-set, get_or-set_same, get_or-set_other}
 use Rattle.std.proofs.lemmas.Nat.{mul-add-lt}
-use Rattle.std.proofs.lemmas.Option.{same_Some}
+use Rattle.std.proofs.lemmas.Option.{same_Some, none-some}
 use Rattle.cw_lemmas.proofs.Lists.{contains_one}
 use Rattle.cw_lemmas.proofs.Options.{cond_none_some as not_left}
 use Rattle.cw_lemmas.proofs.Truths.{or_middle}
@@ -19,7 +19,7 @@ use Rattle.cw_positions.specs.Closed.{LeadsWithin}
 use Rattle.cw_product.specs.Moves.{pair_of, is_left_in}
 use Rattle.cw_product.specs.Routed.{targets}
 use Rattle.cw_solve.proofs.Calling.{next_target}
-use Rattle.cw_linked.specs.Edges.{first_target, second_target, FlagsTarget, AreReachedTo, AreReached}
+use Rattle.cw_linked.specs.Edges.{changes_state, first_target, second_target, FlagsTarget, AreReachedTo, AreReached}
 use Rattle.cw_linked.specs.Steps.{Leads}
 use Rattle.cw_linked.specs.Waiting.{keeps_state, list_of}
 
@@ -85,6 +85,47 @@ one_of_both p r (Some (SplitCall j f n)) changing plain at = absurd (false≢tru
 one_of_both p r (Some (Exit f)) changing plain at = absurd (let lt = at.1 in omega (arith, lt))
 one_of_both p r None changing plain at = absurd (let lt = at.1 in omega (arith, lt))
 
+-- where no moves lead that may change the state, there is none of both
+no_first : (p : ℕ) (o : Option Spot) → changes_state o ≡ false → first_target p o ≡ None
+no_first p (Some (Asked j i a)) e = absurd (false≢true (sym e))
+no_first p (Some (Label j l n)) e = absurd (false≢true (sym e))
+no_first p (Some (Open j d n)) e = absurd (false≢true (sym e))
+no_first p (Some (Close j d n)) e = absurd (false≢true (sym e))
+no_first p (Some (Visit j i a)) e = refl
+no_first p (Some (Step n)) e = refl
+no_first p (Some (Branch m n)) e = refl
+no_first p (Some (Call j f n)) e = refl
+no_first p (Some (SplitCall j f n)) e = refl
+no_first p (Some (Exit f)) e = refl
+no_first p None e = refl
+
+no_second : (p : ℕ) (o : Option Spot) → changes_state o ≡ false → second_target p o ≡ None
+no_second p (Some (Asked j i a)) e = absurd (false≢true (sym e))
+no_second p (Some (Label j l n)) e = absurd (false≢true (sym e))
+no_second p (Some (Open j d n)) e = absurd (false≢true (sym e))
+no_second p (Some (Close j d n)) e = absurd (false≢true (sym e))
+no_second p (Some (Visit j i a)) e = refl
+no_second p (Some (Step n)) e = refl
+no_second p (Some (Branch m n)) e = refl
+no_second p (Some (Call j f n)) e = refl
+no_second p (Some (SplitCall j f n)) e = refl
+no_second p (Some (Exit f)) e = refl
+no_second p None e = refl
+
+-- where they lead, they may change the state
+pub no_keeper : (o : Option Spot) → changes_state o ≡ true → keeps_state o ≡ false
+no_keeper (Some (Asked j i a)) e = refl
+no_keeper (Some (Label j l n)) e = refl
+no_keeper (Some (Open j d n)) e = refl
+no_keeper (Some (Close j d n)) e = refl
+no_keeper (Some (Visit j i a)) e = absurd (false≢true e)
+no_keeper (Some (Step n)) e = absurd (false≢true e)
+no_keeper (Some (Branch m n)) e = absurd (false≢true e)
+no_keeper (Some (Call j f n)) e = absurd (false≢true e)
+no_keeper (Some (SplitCall j f n)) e = absurd (false≢true e)
+no_keeper (Some (Exit f)) e = absurd (false≢true e)
+no_keeper None e = absurd (false≢true e)
+
 module _ (g : Game) where
   leads_to_one : (p q r x : ℕ) → keeps_state (slice_get g.spots p) ≡ false → Leads g p q r x → (first_target p (slice_get g.spots p) ≡ Some r) ⊎ (second_target p (slice_get g.spots p) ≡ Some r)
   leads_to_one p q r x changing leads =
@@ -92,6 +133,12 @@ module _ (g : Game) where
       let left = not_left (is_left_in g q o) (option_map pair_of (leads_in g p q [] o leads.0)) (r, x) leads.2 in
       let plain = or_middle (bad_in g q o) (is_call_in o) (is_exit_in o) left.0 in
       one_of_both p r o changing plain (next_target g p q o leads.0 (r, x) leads.2)
+
+  -- so no move leads anywhere then that may change the state
+  pub idle_leads : (p q r x : ℕ) → changes_state (slice_get g.spots p) ≡ false → keeps_state (slice_get g.spots p) ≡ false → Leads g p q r x → ⊥
+  idle_leads p q r x idle changing leads =
+      let o = slice_get g.spots p in
+      elim (leads_to_one p q r x changing leads) [ inl e ↦ none-some r (sym (no_first p o idle) ∙ e) | inr e ↦ none-some r (sym (no_second p o idle) ∙ e) ]
 
   -- those of one position more
   pub a_position_flagged : (old mid new : List Bool) (p : ℕ) (first second : Option ℕ) → AreReachedTo g old p 0 → first ≡ first_target p (slice_get g.spots p)

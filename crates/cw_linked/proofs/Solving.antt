@@ -124,7 +124,7 @@ module _ (g : Game) (functions : ℕ) (routed : AreRouted g functions) (alike : 
   pub linked_less : (old mid new : Work) → (index moves : ℕ) → FreesLink old mid index moves → work_left g new < work_left g mid → work_left g new < work_left g old
   linked_less old mid new index moves frees less = let same = kept_left g old mid frees.others.known frees.others.to in omega (arith, less, same)
 
-  pub linked_beyond : (old mid new : Work) → IsWork g old → (index moves : ℕ) → FreesLink old mid index moves → (c : Context) → TakesLink g mid new (TooMany c) → Ends g (known_of new) (Some c)
+  pub linked_beyond : (old mid new : Work) → IsWork g old → (index moves : ℕ) → FreesLink old mid index moves → (c : Context) → TakesLink g mid new TooMany c → Ends g (known_of new) (Some c)
   linked_beyond old mid new work index moves frees c takes =
       (subst (λ (w : Work). IsKnown g (known_of w)) (sym takes.0) (freed_known g functions routed alike old mid work index moves frees), takes.1)
 

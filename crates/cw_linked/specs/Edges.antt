@@ -47,6 +47,14 @@ AreLed g Is m n = (p q r x : ℕ) → (p < m) ⊎ ((p ≡ m) × (q < n)) → q <
 abbrev pub IsReached : List Bool → (p q r x : ℕ) → Type 0
 IsReached flags p q r x = is_flagged flags r ≡ true
 
+-- whether moves lead from where this stands that may change the state: none leads anywhere from a call or an exit
+abbrev pub changes_state : Option Spot → Bool
+changes_state (Some (Asked j i a)) = true
+changes_state (Some (Label j l n)) = true
+changes_state (Some (Open j d n)) = true
+changes_state (Some (Close j d n)) = true
+changes_state _ = false
+
 -- the positions to which moves may lead that may change the state, one or two
 abbrev pub first_target : ℕ → Option Spot → Option ℕ
 first_target p (Some (Asked j i a)) = Some (p + 1)

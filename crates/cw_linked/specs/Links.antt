@@ -21,7 +21,7 @@ abbrev pub NumbersContext : Game → (old new : Work) → Context → Option ℕ
 NumbersContext g old new c (Some number) = IsNumbered g old new c number
 NumbersContext g old new c None = (new ≡ old) × IsBeyond g (known_of new) c
 
--- less is left to do, or a context is needed whose cells are too many
-abbrev pub TakesLink : Game → (old new : Work) → Stepped → Type 0
-TakesLink g old new More = IsWork g new × (work_left g new < work_left g old)
-TakesLink g old new (TooMany c) = (new ≡ old) × IsBeyond g (known_of new) c
+-- less is left to do, or the context is needed that was wanted, and its cells are too many
+abbrev pub TakesLink : Game → (old new : Work) → Stepped → Context → Type 0
+TakesLink g old new More c = IsWork g new × (work_left g new < work_left g old)
+TakesLink g old new TooMany c = (new ≡ old) × IsBeyond g (known_of new) c

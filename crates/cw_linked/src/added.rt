@@ -103,15 +103,15 @@ pub(crate) fn add(
     alloc: Global,
     game: &Game,
     work: &mut Work,
-    context: Context,
+    context: &Context,
 ) -> Result<(), NoMemory>
     requires routed { AreRouted (game_of game.now) (length game.now.graph.parts.items) }
     requires kept { IsOpen (game_of game.now) work.old }
-    requires contexts { AreTabled (game_of game.now) (work.old.blocks.contexts.items ++ context ∷ []) }
-    ensures { OnOk result (AddsContext (game_of game.now) work.old work.new context) }
+    requires contexts { AreTabled (game_of game.now) (work.old.blocks.contexts.items ++ context.now ∷ []) }
+    ensures { OnOk result (AddsContext (game_of game.now) work.old work.new context.now) }
 {
     let number = work.blocks.contexts.len();
-    enlarge(alloc, game, work, &context)?;
+    enlarge(alloc, game, work, context)?;
     let at = numbered(game, &work.blocks, number);
     free_all(game, work, &at)?;
     ask_all(game, work, &at)?;

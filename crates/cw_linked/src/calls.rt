@@ -14,6 +14,7 @@ ghost use Rattle.cw_linked.specs.Works.{known_of, IsKnown, heights_of, cell_of};
 
 use crate::work::{Cell, Work, ask_cell, cell_at};
 use cw_core::{NoMemory, PosId, StateId};
+use cw_links::Link;
 use cw_product::{Game, Turn};
 use cw_solve::table::{Tabled, slot};
 
@@ -53,34 +54,29 @@ pub(crate) fn is_same(a: StateId, b: StateId) -> bool
     a.0 == b.0
 }
 
-/// The greater of the number of moves of the link at an index and a height.
-fn greater(work: &Work, link: usize, height: u32) -> u32
-    requires long { AreLong work.now }
-    requires within { link < length work.now.store.heights }
-    ensures one { (slice_index work.now.store.waves link ≡ result) ⊎ (height ≡ result) }
-    ensures moves { slice_index work.now.store.waves link ≤ result }
+/// The greater of a link's number of moves and a height.
+fn greater(moves: u32, height: u32) -> u32
+    ensures one { (moves ≡ result) ⊎ (height ≡ result) }
+    ensures moves { moves ≤ result }
     ensures high { height ≤ result }
 {
-    let moves = work.store.wave(link);
     if moves < height { height } else { moves }
 }
 
-/// Whether the link at an index goes to a context.
-fn goes_to(work: &Work, link: usize, at: &Tabled) -> bool
-    requires long { AreLong work.now }
-    requires within { link < length work.now.store.heights }
-    ensures is { result ≡ true → slice_index work.now.store.to link ≡ suc at.now.number }
-    ensures not { result ≡ false → slice_index work.now.store.to link ≡ suc at.now.number → ⊥ }
+/// Whether a list has the links that go to a context.
+fn is_list_of(list: u32, at: &Tabled) -> bool
+    ensures is { result ≡ true → list ≡ suc at.now.number }
+    ensures not { result ≡ false → list ≡ suc at.now.number → ⊥ }
 {
-    let to = work.store.to(link) as usize;
-    if to == 0 {
+    if list == 0 {
         false
     } else {
-        to - 1 == at.number()
+        list as usize - 1 == at.number()
     }
 }
 
-/// Asks for the call of a link that goes to the context of this cell of an entry, if the state of the cell is of its class.
+/// Asks for the call of a link with so many moves that goes to the context of this cell of an entry, if the state of the cell is of its
+/// class.
 #[inline(always)]
 fn ask_linked(
     game: &Game,
@@ -90,6 +86,7 @@ fn ask_linked(
     state: StateId,
     height: u32,
     link: usize,
+    moves: u32,
 ) -> Result<(), NoMemory>
     requires routed { AreRouted (game_of game.now) (length game.now.graph.parts.items) }
     requires known { IsKnown (game_of game.now) (known_of work.old) }
@@ -99,6 +96,7 @@ fn ask_linked(
     requires some { 0 < height }
     requires within { link < length work.old.store.heights }
     requires goes { slice_index work.old.store.to link ≡ suc at.now.number }
+    requires moves { slice_index work.old.store.waves link ≡ moves }
     requires long { AreLong work.old }
     requires high { AreHigh work.old }
     requires right { AreRight (game_of game.now) work.old.blocks.contexts.items (found_of (game_of game.now) work.old) }
@@ -112,7 +110,7 @@ fn ask_linked(
         Some(class) => {
             if is_same(class, caller.state) {
                 let index = slot(game, &work.blocks, &caller.at, caller.pos, state);
-                let most = greater(work, link, height);
+                let most = greater(moves, height);
                 let within = most + 1;
                 ask_cell(work, index, within)?;
                 Ok(())
@@ -146,8 +144,42 @@ pub(crate) fn ask_call(
     requires right { AreRight (game_of game.now) work.old.blocks.contexts.items (found_of (game_of game.now) work.old) }
     ensures { OnOk result (AsksCaller (game_of game.now) work.old work.new link (cell_of at.now pos state)) }
 {
-    if goes_to(work, link, at) {
-        ask_linked(game, work, at, pos, state, height, link)?;
+    if is_list_of(work.store.to(link), at) {
+        let moves = work.store.wave(link);
+        ask_linked(game, work, at, pos, state, height, link, moves)?;
+        Ok(())
+    } else {
+        Ok(())
+    }
+}
+
+/// The same, of a link of which it is known what is kept of it.
+#[inline(always)]
+fn ask_caller(
+    game: &Game,
+    work: &mut Work,
+    cell: &Cell,
+    height: u32,
+    link: Link,
+) -> Result<(), NoMemory>
+    requires routed { AreRouted (game_of game.now) (length game.now.graph.parts.items) }
+    requires known { IsKnown (game_of game.now) (known_of work.old) }
+    requires cell { HasCell (game_of game.now) work.old.blocks cell.now.at cell.now.pos.0 cell.now.state.0 }
+    requires entry { cell.now.pos.0 ≡ (game_of game.now).entry cell.now.at.context.function }
+    requires taken { heights_of (game_of game.now) (known_of work.old) cell.now.at.number cell.now.pos.0 cell.now.state.0 ≡ height }
+    requires some { 0 < height }
+    requires within { link.index < length work.old.store.heights }
+    requires list { link.list ≡ slice_index work.old.store.to link.index }
+    requires moves { link.moves ≡ slice_index work.old.store.waves link.index }
+    requires long { AreLong work.old }
+    requires high { AreHigh work.old }
+    requires right { AreRight (game_of game.now) work.old.blocks.contexts.items (found_of (game_of game.now) work.old) }
+    ensures { OnOk result (AsksCaller (game_of game.now) work.old work.new link.index (cell_of cell.now.at cell.now.pos cell.now.state)) }
+{
+    if is_list_of(link.list, &cell.at) {
+        ask_linked(
+            game, work, &cell.at, cell.pos, cell.state, height, link.index, link.moves,
+        )?;
         Ok(())
     } else {
         Ok(())
@@ -179,8 +211,8 @@ pub(crate) fn ask_callers(
 {
     let mut next = work.store.first(cell.at.number() as u32 + 1);
     'walk: while let Some(link) = next {
-        let index = work.store.index(link);
-        ask_call(game, work, &cell.at, cell.pos, cell.state, height, index)?;
+        let told = work.store.linked(link);
+        ask_caller(game, work, cell, height, told)?;
         next = work.store.next(link);
     }
     Ok(())

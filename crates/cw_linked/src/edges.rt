@@ -8,7 +8,7 @@ ghost use Rattle.cw_product.specs.Moves.{IsPosition, IsState, next_at, numbers};
 ghost use Rattle.cw_product.specs.MovesAt.{first_move, second_move};
 ghost use Rattle.cw_product.specs.Routed.{AreRouted};
 ghost use Rattle.cw_solve.specs.Rounds.{positions};
-ghost use Rattle.cw_linked.specs.Edges.{AddsSource, first_target, second_asked, second_target, FlagsTarget, AddsMove, AddsMoves, AreSourcesTo, AreReached, AreReachedTo, AreChangesTo, AreReturnsTo};
+ghost use Rattle.cw_linked.specs.Edges.{AddsSource, first_target, second_asked, second_target, FlagsTarget, AddsMove, AddsMoves, changes_state, AreSourcesTo, AreReached, AreReachedTo, AreChangesTo, AreReturnsTo};
 ghost use Rattle.cw_linked.specs.Plain.{IsPlain, ArePlain};
 ghost use Rattle.cw_linked.specs.Returns.{AreReturns};
 ghost use Rattle.cw_linked.specs.Runs.{AreRuns};
@@ -21,7 +21,7 @@ use cw_certs::Move;
 use cw_core::limits::POSITIONS_TIMES_STATES;
 use cw_core::{NoMemory, PosId, StateId};
 use cw_game::Spot;
-use cw_links::{Chains, Flags, Rows};
+use cw_links::{Chains, RankedFlags, Rows};
 use cw_product::{Game, Turn};
 use cw_rights::Primitive;
 use cw_solve::table::positions;
@@ -48,7 +48,7 @@ pub(crate) struct Source {
 /// leads are flagged, and only their pairs have a list.
 #[derive(Drop)]
 pub(crate) struct Changes {
-    pub flags: Flags,
+    pub flags: RankedFlags,
     pub pairs: Chains<Pair>,
 }
 
@@ -78,6 +78,19 @@ fn keeps(game: &Game, pos: PosId) -> bool
         Spot::Visit(_, _, _) | Spot::Step(_) | Spot::Branch(_, _) => true,
         Spot::Asked(_, _, _) | Spot::Label(_, _, _) => false,
         Spot::Open(_, _, _) | Spot::Close(_, _, _) => false,
+        Spot::Call(_, _, _) | Spot::SplitCall(_, _, _) | Spot::Exit(_) => false,
+    }
+}
+
+/// Whether moves lead from a position that may change the state: none leads anywhere from a call or an exit.
+fn is_changing(game: &Game, pos: PosId) -> bool
+    requires position { IsPosition (game_of game.now) pos.0 }
+    ensures { changes_state (slice_get (game_of game.now).spots pos.0) ≡ result }
+{
+    match game.spot(pos) {
+        Spot::Asked(_, _, _) | Spot::Label(_, _, _) => true,
+        Spot::Open(_, _, _) | Spot::Close(_, _, _) => true,
+        Spot::Visit(_, _, _) | Spot::Step(_) | Spot::Branch(_, _) => false,
         Spot::Call(_, _, _) | Spot::SplitCall(_, _, _) | Spot::Exit(_) => false,
     }
 }
@@ -244,11 +257,11 @@ fn flag_all(game: &Game, flags: &mut [bool])
 }
 
 /// The flags, with how many come before an index.
-fn ranked(alloc: Global, flags: &[bool]) -> Result<Flags, NoMemory>
+fn ranked(alloc: Global, flags: &[bool]) -> Result<RankedFlags, NoMemory>
     requires { length flags.now ≤ POSITIONS_TIMES_STATES }
     ensures { IfOk result (λ all. all ≡ flags.now) }
 {
-    let mut all = Flags::make(alloc);
+    let mut all = RankedFlags::make(alloc, flags.len())?;
     for flag in flags {
         all.push(*flag)?;
     }
@@ -256,7 +269,7 @@ fn ranked(alloc: Global, flags: &[bool]) -> Result<Flags, NoMemory>
 }
 
 /// Flags of the positions to which a move leads that may change the state.
-fn make_flags(alloc: Global, game: &Game) -> Result<Flags, NoMemory>
+fn make_flags(alloc: Global, game: &Game) -> Result<RankedFlags, NoMemory>
     requires routed { AreRouted (game_of game.now) (length game.now.graph.parts.items) }
     ensures { IfOk result (AreReached (game_of game.now)) }
 {
@@ -292,9 +305,10 @@ fn is_lone(first: Option<(PosId, StateId)>, second: Option<(PosId, StateId)>) ->
 }
 
 /// Puts a pair into the list of the one to which a move leads, if it leads to one.
+#[inline(always)]
 fn add_move(
     game: &Game,
-    flags: &Flags,
+    flags: &RankedFlags,
     pairs: &mut Chains<Pair>,
     pair: Pair,
     target: Option<(PosId, StateId)>,
@@ -325,7 +339,7 @@ fn add_move(
 /// Puts a pair into the lists of those to which its moves lead.
 fn add_moves(
     game: &Game,
-    flags: &Flags,
+    flags: &RankedFlags,
     pairs: &mut Chains<Pair>,
     pos: PosId,
     state: StateId,
@@ -360,7 +374,7 @@ fn add_moves(
 /// Puts the pairs of a position that may change the state into the lists of those to which their moves lead.
 fn add_pairs(
     game: &Game,
-    flags: &Flags,
+    flags: &RankedFlags,
     pairs: &mut Chains<Pair>,
     pos: PosId,
 ) -> Result<(), NoMemory>
@@ -370,7 +384,7 @@ fn add_pairs(
     requires before { AreChangesTo (game_of game.now) flags.now pairs.old pos.0 0 }
     ensures { OnOk result (AreChangesTo (game_of game.now) flags.now pairs.new (pos.0 + 1) 0) }
 {
-    if keeps(game, pos) {
+    if !is_changing(game, pos) {
         return Ok(());
     }
     let moves = game.moves(pos);
@@ -381,7 +395,7 @@ fn add_pairs(
 }
 
 /// For each pair at a flagged position those at positions that may change the state, from which a move leads there.
-fn make_pairs(alloc: Global, game: &Game, flags: &Flags) -> Result<Chains<Pair>, NoMemory>
+fn make_pairs(alloc: Global, game: &Game, flags: &RankedFlags) -> Result<Chains<Pair>, NoMemory>
     requires routed { AreRouted (game_of game.now) (length game.now.graph.parts.items) }
     requires flagged { AreReached (game_of game.now) flags.now }
     ensures { IfOk result (λ pairs. AreChanges (game_of game.now) (record { flags = flags.now; pairs = pairs })) }

@@ -24,8 +24,8 @@ use std::alloc::Global;
 #[derive(Drop)]
 pub(crate) enum Stepped {
     More,
-    /// This context is needed, and its cells are too many.
-    TooMany(Context),
+    /// The context is needed to which the link is to go, and its cells are too many.
+    TooMany,
 }
 
 /// Adds a context, to the lists of the indices too.
@@ -34,13 +34,13 @@ fn add_indexed(
     game: &Game,
     work: &mut Work,
     indices: &mut Indices,
-    context: Context,
+    context: &Context,
 ) -> Result<(), NoMemory>
     requires routed { AreRouted (game_of game.now) (length game.now.graph.parts.items) }
     requires kept { IsOpen (game_of game.now) work.old }
-    requires contexts { AreTabled (game_of game.now) (work.old.blocks.contexts.items ++ context ∷ []) }
+    requires contexts { AreTabled (game_of game.now) (work.old.blocks.contexts.items ++ context.now ∷ []) }
     requires listed { HasListed indices.old work.old.blocks.contexts.items }
-    ensures adds { OnOk result (AddsContext (game_of game.now) work.old work.new context) }
+    ensures adds { OnOk result (AddsContext (game_of game.now) work.old work.new context.now) }
     ensures listed { OnOk result (HasListed indices.new work.new.blocks.contexts.items) }
 {
     let function = context.function;
@@ -72,13 +72,14 @@ fn number_of(
             if work.store.indices() as u32 + size(game, context.function) > CELLS as u32 {
                 return Ok(None);
             }
-            add_indexed(alloc, game, work, indices, *context)?;
+            add_indexed(alloc, game, work, indices, context)?;
             Ok(Some(number))
         }
     }
 }
 
-/// Takes the link at an index, for so many moves. The indices have each context that is added.
+/// Takes the link at an index, for so many moves. The indices have each context that is added. The one to which the link is to go is
+/// wanted then.
 #[inline(never)]
 pub(crate) fn take_link(
     alloc: Global,
@@ -88,12 +89,13 @@ pub(crate) fn take_link(
     index: usize,
     link: &Cell,
     moves: u32,
+    wanted: &mut Context,
 ) -> Result<Stepped, NoMemory>
     requires routed { AreRouted (game_of game.now) (length game.now.graph.parts.items) }
     requires freed { IsFreed (game_of game.now) work.old link.now index moves }
     requires some { 0 < slice_index work.old.store.to index → 0 < moves }
     requires listed { HasListed indices.old work.old.blocks.contexts.items }
-    ensures takes { IfOk result (λ stepped. TakesLink (game_of game.now) work.old work.new stepped) }
+    ensures takes { IfOk result (λ stepped. TakesLink (game_of game.now) work.old work.new stepped wanted.new) }
     ensures listed { OnOk result (HasListed indices.new work.new.blocks.contexts.items) }
 {
     let Turn::Call {
@@ -104,12 +106,10 @@ pub(crate) fn take_link(
     else {
         unreachable!()
     };
-    let context = Context {
-        function: callee,
-        promise: promise_of(game, work, link, back, split, moves),
-    };
-    let Some(number) = number_of(alloc, game, work, indices, &context)? else {
-        return Ok(Stepped::TooMany(context));
+    wanted.function = callee;
+    promise_of(game, work, link, back, split, moves, &mut wanted.promise);
+    let Some(number) = number_of(alloc, game, work, indices, wanted)? else {
+        return Ok(Stepped::TooMany);
     };
     let to = numbered(game, &work.blocks, number);
     tie_link(game, work, index, link, back, moves, &to)?;

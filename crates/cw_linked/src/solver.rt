@@ -65,7 +65,7 @@ fn finish_at(
 }
 
 /// Takes the link at an index, for so many moves. Its context is the first to be looked at then, but where its cells stand is asked
-/// anew. The indices have each context that is added.
+/// anew. The indices have each context that is added, and the one to which the link is to go is wanted then.
 #[inline(always)]
 fn tie_at(
     alloc: Global,
@@ -76,6 +76,7 @@ fn tie_at(
     home: &mut Home,
     index: usize,
     moves: u32,
+    wanted: &mut Context,
 ) -> Result<Stepped, NoMemory>
     requires routed { AreRouted (game_of game.now) (length game.now.graph.parts.items) }
     requires runs { AreRuns (game_of game.now) (length game.now.graph.parts.items) edges.now.runs.items }
@@ -84,13 +85,13 @@ fn tie_at(
     requires freed { IsFreedAt (game_of game.now) work.old index moves }
     requires some { 0 < slice_index work.old.store.to index → 0 < moves }
     requires listed { HasListed indices.old work.old.blocks.contexts.items }
-    ensures takes { IfOk result (λ stepped. TakesLink (game_of game.now) work.old work.new stepped) }
+    ensures takes { IfOk result (λ stepped. TakesLink (game_of game.now) work.old work.new stepped wanted.new) }
     ensures listed { OnOk result (HasListed indices.new work.new.blocks.contexts.items) }
     ensures home { home.new.past ≡ 0 }
 {
     let link = cell_by(game, &edges.runs, work, home.cell.at.number(), index);
     home.past = 0;
-    let stepped = take_link(alloc, game, work, indices, index, &link, moves)?;
+    let stepped = take_link(alloc, game, work, indices, index, &link, moves, wanted)?;
     home.cell = link;
     Ok(stepped)
 }
@@ -114,6 +115,7 @@ fn steps(
     ensures { IfOk result (λ more. Ends (game_of game.now) (known_of work.new) more) }
 {
     let mut home = no_home(game, &work.blocks);
+    let mut wanted = main_context(game);
     'steps: loop {
         match pop(work) {
             Popped::Nothing => return Ok(None),
@@ -121,9 +123,19 @@ fn steps(
                 finish_at(game, edges, work, &mut home, index, height)?;
             }
             Popped::Link(index, moves) => {
-                match tie_at(alloc, game, edges, work, indices, &mut home, index, moves)? {
+                match tie_at(
+                    alloc,
+                    game,
+                    edges,
+                    work,
+                    indices,
+                    &mut home,
+                    index,
+                    moves,
+                    &mut wanted,
+                )? {
                     Stepped::More => {}
-                    Stepped::TooMany(context) => return Ok(Some(context)),
+                    Stepped::TooMany => return Ok(Some(wanted)),
                 }
             }
         }
@@ -155,7 +167,7 @@ fn begun(alloc: Global, game: &Game) -> Result<Work, NoMemory>
     ensures alone { IfOk result (λ work. work.blocks.contexts.items ≡ context (game_of game.now).main (all_states (game_of game.now)) ∷ []) }
 {
     let mut work = blank(alloc)?;
-    add(alloc, game, &mut work, main_context(game))?;
+    add(alloc, game, &mut work, &main_context(game))?;
     Ok(work)
 }
 

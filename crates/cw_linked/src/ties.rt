@@ -59,16 +59,17 @@ pub(crate) fn promise_of(
     back: PosId,
     split: bool,
     moves: u32,
-) -> StateSet
+    set: &mut StateSet,
+)
     requires routed { AreRouted (game_of game.now) (length game.now.graph.parts.items) }
     requires known { IsKnown (game_of game.now) (known_of work.now) }
     requires long { AreLong work.now }
     requires cell { HasCell (game_of game.now) work.now.blocks link.now.at back.0 link.now.state.0 }
-    ensures { IsSetOf (game_of game.now) result (λ x. holds_by moves
+    ensures { IsSetOf (game_of game.now) set.new (λ x. holds_by moves
         (heights_of (game_of game.now) (known_of work.now) link.now.at.number back.0 (returned (game_of game.now).states (kept_at split link.now.state.0) x))) }
 {
     let block = block_of(game, &work.blocks, &link.at);
-    let mut set = StateSet::empty();
+    *set = StateSet::empty();
     for x in 0..game.states() {
         let exit = StateId(x);
         let then = game.returned(link.state, exit, split);
@@ -76,7 +77,6 @@ pub(crate) fn promise_of(
             set.insert(exit);
         }
     }
-    set
 }
 
 /// Ties the link at an index to a context, with a promise for so many moves.

@@ -18,11 +18,12 @@ use crate::edges::{Changes, Pair, Source};
 use crate::implied::{ask_before, ask_change};
 use crate::work::{Cell, Work};
 use cw_core::{NoMemory, PosId, StateId};
-use cw_links::{Flags, Rows};
+use cw_links::{RankedFlags, Rows};
 use cw_product::Game;
 
 /// The number of the list of a pair whose position is flagged.
-pub(crate) fn list_of(game: &Game, flags: &Flags, pos: PosId, state: StateId) -> u32
+#[inline(always)]
+pub(crate) fn list_of(game: &Game, flags: &RankedFlags, pos: PosId, state: StateId) -> u32
     requires routed { AreRouted (game_of game.now) (length game.now.graph.parts.items) }
     requires long { length flags.now ≡ length (game_of game.now).spots }
     requires flagged { is_flagged flags.now pos.0 ≡ true }

@@ -15,6 +15,7 @@ pub mod Spreads
 pub mod Blocks
 mod Bits
 pub mod Plain
+mod Ranking
 pub mod CellNumbers
 pub mod Queueing
 pub mod Linking

@@ -6,6 +6,8 @@ pub mod Queues
 pub mod Nearest
 pub mod Flags
 pub mod Limbs
+pub mod Marked
+pub mod Ranked
 pub mod Blocks
 pub mod Cells
 pub mod Keys

@@ -116,7 +116,7 @@ impl Keys {
         match next(&mut self.queue, &self.cells, &self.due) {
             None => Popped::Nothing,
             Some((element, key)) => {
-                let number = (element / 2) as usize;
+                let number = element / 2;
                 if element % 2 == 0 {
                     self.cells.take(number, key / 2);
                     Popped::Cell(number, key)
@@ -191,13 +191,13 @@ impl Keys {
 }
 
 /// Takes elements until one is taken under the key that it has.
-fn next(queue: &mut NearQueue, cells: &Cells, due: &[u32]) -> Option<(u32, u32)>
+fn next(queue: &mut NearQueue, cells: &Cells, due: &[u32]) -> Option<(usize, u32)>
     requires { AreWaiting cells.now.asked due.now queue.old }
     ensures next { IfSome result (λ taken. IsNext cells.now.asked due.now queue.new taken.0 taken.1) }
     ensures none { IfNone result (AreEmpty cells.now.asked due.now) }
     ensures waiting { IfNone result (AreWaiting cells.now.asked due.now queue.new) }
 {
-    while let Some((element, key)) = queue.take() {
+    while let Some((element, key)) = queue.take_wide() {
         if key_of(cells, due, element) == key {
             return Some((element, key));
         }
@@ -207,11 +207,11 @@ fn next(queue: &mut NearQueue, cells: &Cells, due: &[u32]) -> Option<(u32, u32)>
 
 /// The key of an element.
 #[inline(always)]
-fn key_of(cells: &Cells, due: &[u32], element: u32) -> u32
+fn key_of(cells: &Cells, due: &[u32], element: usize) -> u32
     requires { IsElement cells.now.asked due.now element }
     ensures { result ≡ key_of cells.now.asked due.now element }
 {
-    let number = (element / 2) as usize;
+    let number = element / 2;
     if element % 2 == 0 {
         cells.key(number)
     } else {

@@ -61,6 +61,11 @@ impl Model for NearQueue {
 fn part_of(near: &Near, key: u32) -> Apart
     ensures { IsApart near.now key result }
 {
+    if key == near.soon_key {
+        if !near.soon.is_empty() {
+            return Apart::Soon;
+        }
+    }
     if key == near.present_key {
         return Apart::Now;
     }
@@ -68,10 +73,7 @@ fn part_of(near: &Near, key: u32) -> Apart
         return Apart::Before;
     }
     if near.soon.is_empty() {
-        return Apart::Next;
-    }
-    if key == near.soon_key {
-        Apart::Soon
+        Apart::Next
     } else {
         Apart::Later
     }
@@ -205,25 +207,27 @@ fn put_in(near: &mut Near, later: &mut Queue, element: u32, key: u32) -> Result<
     }
 }
 
-/// Takes an element that waits now, with its key, the least one.
+/// Takes an element that waits now, with its key, the least one. Two numbers of 32 bits would be packed into one and taken apart again
+/// for each element that is taken, so the element is wider than it has to be.
 #[inline(always)]
-fn take_now(near: &mut Near, later: &Queue) -> Option<(u32, u32)>
+fn take_now(near: &mut Near, later: &Queue) -> Option<(usize, u32)>
     requires kept { AreNear near.old later.now }
     requires some { 0 < length near.old.present.items }
     requires least { near.old.present_key ≤ near.old.floor }
     ensures kept { AreNear near.new later.now }
     ensures taken { IfSome result (λ taken. Takes (all_stacks near.old later.now) (all_stacks near.new later.now) taken.0 taken.1) }
+    ensures few { IfSome result (λ taken. taken.0 ≤ 4294967295) }
     ensures some { IfNone result ⊥ }
 {
     let _ = later;
     match near.present.pop() {
         None => None,
-        Some(element) => Some((element, near.present_key)),
+        Some(element) => Some((element as usize, near.present_key)),
     }
 }
 
 /// Takes an element that waits later, with its key, where what waits now has no lower one.
-fn take_later(near: &mut Near, later: &mut Queue) -> Option<(u32, u32)>
+fn take_later(near: &mut Near, later: &mut Queue) -> Option<(usize, u32)>
     requires kept { AreNear near.old later.old }
     requires alone { length near.old.present.items ≡ 0 → length near.old.soon.items ≡ 0 }
     requires lower { (length near.old.present.items ≡ 0) ⊎ HasLower later.old near.old.present_key }
@@ -232,24 +236,26 @@ fn take_later(near: &mut Near, later: &mut Queue) -> Option<(u32, u32)>
     ensures none { IfNone result (AreNone (all_stacks near.old later.old)) }
     ensures left { IfNone result (all_stacks near.new later.new ≡ all_stacks near.old later.old) }
     ensures empty { IfNone result (length near.old.present.items ≡ 0) }
+    ensures few { IfSome result (λ taken. taken.0 ≤ 4294967295) }
 {
     match later.take() {
         None => None,
         Some((element, key)) => {
             near.floor = key;
-            Some((element, key))
+            Some((element as usize, key))
         }
     }
 }
 
 /// Takes an element from under the least key, with that key.
 #[inline(always)]
-fn take_in(near: &mut Near, later: &mut Queue) -> Option<(u32, u32)>
+fn take_in(near: &mut Near, later: &mut Queue) -> Option<(usize, u32)>
     requires { AreNear near.old later.old }
     ensures kept { AreNear near.new later.new }
     ensures taken { IfSome result (λ taken. Takes (all_stacks near.old later.old) (all_stacks near.new later.new) taken.0 taken.1) }
     ensures none { IfNone result (AreNone (all_stacks near.old later.old)) }
     ensures left { IfNone result (all_stacks near.new later.new ≡ all_stacks near.old later.old) }
+    ensures few { IfSome result (λ taken. taken.0 ≤ 4294967295) }
 {
     advance(near);
     if is_first(near, later) {
@@ -295,6 +301,20 @@ impl NearQueue {
         ensures none { IsNone result ↔ AreNone self.old }
         ensures taken { IfSome result (λ taken. Takes self.old self.new taken.0 taken.1) }
         ensures left { IfNone result (self.new ≡ self.old) }
+    {
+        match self.take_wide() {
+            None => None,
+            Some((element, key)) => Some((element as u32, key)),
+        }
+    }
+
+    /// The same as `take`.
+    #[inline(always)]
+    pub(crate) fn take_wide(&mut self) -> Option<(usize, u32)>
+        ensures none { IsNone result ↔ AreNone self.old }
+        ensures taken { IfSome result (λ taken. Takes self.old self.new taken.0 taken.1) }
+        ensures left { IfNone result (self.new ≡ self.old) }
+        ensures few { IfSome result (λ taken. taken.0 ≤ 4294967295) }
     {
         take_in(&mut self.near, &mut self.later)
     }

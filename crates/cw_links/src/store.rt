@@ -6,9 +6,9 @@ ghost use Rattle.cw_links.specs.Flags.{is_flagged, number, rank};
 ghost use Rattle.cw_links.specs.Keys.{asked_with, lowered};
 ghost use Rattle.cw_links.specs.Stores.{IsBlank, IsKnown, IsAt, Pushes, PushesPlain, PopsIndex, Ties, with_asked, with_due, with_lists};
 
-use crate::Flags;
 use crate::callers::Callers;
 use crate::keys::Keys;
+use crate::marks::Marks;
 use crate::popped::Popped;
 use cw_core::NoMemory;
 use cw_core::limits::CELLS;
@@ -22,12 +22,18 @@ use std::marker::Model;
 /// and their numbers of moves, 0 at all other indices. In `lists` a link has the number of its rank among the links.
 #[derive(Drop)]
 pub struct Store {
-    flags: Flags,
+    flags: Marks,
     keys: Keys,
     callers: Callers,
     waves: Vec<u32>,
-    /// The index of each link. What is read here is tested, so nothing is asked of it.
-    link_indices: Vec<u32>,
+}
+
+/// A link: its index, the number of the list in which it stands, and its number of moves.
+#[derive(Clone, Copy, Drop)]
+pub struct Link {
+    pub index: usize,
+    pub list: u32,
+    pub moves: u32,
 }
 
 impl Model for Store {
@@ -46,11 +52,10 @@ impl Store {
         ensures { IfOk result IsBlank }
     {
         Ok(Store {
-            flags: Flags::make(alloc),
+            flags: Marks::make(alloc),
             keys: Keys::make(alloc)?,
             callers: Callers::make(alloc)?,
             waves: Vec::new(alloc),
-            link_indices: Vec::new(alloc),
         })
     }
 
@@ -139,7 +144,7 @@ impl Store {
         ensures { PopsIndex self.old self.new result }
     {
         let popped = self.keys.pop();
-        at_index(&self.flags, &self.link_indices, popped)
+        at_index(&self.flags, popped)
     }
 
     /// Puts the link at an index into a list, with a number of moves.
@@ -201,13 +206,9 @@ impl Store {
         self.keys.reserve_link()?;
         self.callers.reserve()?;
         self.waves.reserve(1)?;
-        self.link_indices.reserve(1)?;
-        let index = self.flags.len() as u32;
-        self.flags.push(true)?;
+        self.flags.push()?;
         self.keys.push_cells(1);
         add_link(&mut self.keys, &mut self.callers, &mut self.waves);
-        // There is room, so the push is not refused.
-        let _ = self.link_indices.push(index);
         Ok(())
     }
 
@@ -239,7 +240,23 @@ impl Store {
         ensures flagged { is_flagged self.now.flags result ≡ true }
         ensures rank { rank self.now.flags result ≡ link }
     {
-        index_of(&self.flags, &self.link_indices, link as usize)
+        self.flags.index(link)
+    }
+
+    /// The index of a link, and what is kept there of it.
+    #[inline(always)]
+    pub fn linked(&self, link: u32) -> Link
+        requires { link < number self.now.flags }
+        ensures flagged { is_flagged self.now.flags result.index ≡ true }
+        ensures rank { rank self.now.flags result.index ≡ link }
+        ensures list { result.list ≡ slice_index self.now.to result.index }
+        ensures moves { result.moves ≡ slice_index self.now.waves result.index }
+    {
+        Link {
+            index: self.flags.index(link),
+            list: self.callers.to(link as usize),
+            moves: self.waves[link as usize],
+        }
     }
 
     /// The heights of the cells by index. It takes no memory.
@@ -251,50 +268,13 @@ impl Store {
             keys,
             callers: _,
             waves: _,
-            link_indices: _,
         } = self;
         keys.into_heights()
     }
 }
 
-/// The index of a link as it was noted, 0 where none was.
-fn noted(indices: &[u32], link: usize) -> usize {
-    match indices.get(link) {
-        None => 0,
-        Some(index) => *index as usize,
-    }
-}
-
-/// Whether an index is that of a link.
-fn is_index(flags: &Flags, index: usize, link: usize) -> bool
-    ensures flagged { result ≡ true → is_flagged flags.now index ≡ true }
-    ensures rank { result ≡ true → rank flags.now index ≡ link }
-{
-    if index >= flags.len() {
-        return false;
-    }
-    if !flags.is_flagged(index) {
-        return false;
-    }
-    flags.rank(index) as usize == link
-}
-
-/// The index of a link: the one that was noted, mostly. Where that isn't it, the indices are halved at each step.
-fn index_of(flags: &Flags, indices: &[u32], link: usize) -> usize
-    requires few { length flags.now ≤ CELLS }
-    requires known { link < number flags.now }
-    ensures flagged { is_flagged flags.now result ≡ true }
-    ensures rank { rank flags.now result ≡ link }
-{
-    let index = noted(indices, link);
-    if is_index(flags, index, link) {
-        return index;
-    }
-    flags.index(link as u32)
-}
-
 /// What is taken, with the index in the stead of a link's number.
-fn at_index(flags: &Flags, indices: &[u32], popped: Popped) -> Popped
+fn at_index(flags: &Marks, popped: Popped) -> Popped
     requires few { length flags.now ≤ CELLS }
     requires known { IsKnown flags.now popped }
     ensures { IsAt flags.now popped result }
@@ -302,7 +282,7 @@ fn at_index(flags: &Flags, indices: &[u32], popped: Popped) -> Popped
     match popped {
         Popped::Nothing => Popped::Nothing,
         Popped::Cell(index, key) => Popped::Cell(index, key),
-        Popped::Link(link, key) => Popped::Link(index_of(flags, indices, link), key),
+        Popped::Link(link, key) => Popped::Link(flags.index(link as u32), key),
     }
 }
 

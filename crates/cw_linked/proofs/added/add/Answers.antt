@@ -16,11 +16,11 @@ numbered-at-requires c =
     let functions = length c.args.game.now.graph.parts.items in
     let w = c.args.work.now in
     let pushed = c.enlarge.new.work in
-    let there = pushed_there g functions c.requires.routed (alike c.args.game.now) w pushed c.args.context c.requires.kept c.requires.contexts c.in_ok-enlarge.ensures in
-    let lt = few_number pushed.blocks.contexts.items (length w.blocks.contexts.items) c.args.context there in
+    let there = pushed_there g functions c.requires.routed (alike c.args.game.now) w pushed c.args.context.now c.requires.kept c.requires.contexts c.in_ok-enlarge.ensures in
+    let lt = few_number pushed.blocks.contexts.items (length w.blocks.contexts.items) c.args.context.now there in
     record {
       routed = c.requires.routed;
-      blocks = (is_pushed_known g functions c.requires.routed (alike c.args.game.now) w pushed c.args.context c.requires.kept c.requires.contexts c.in_ok-enlarge.ensures).blocks;
+      blocks = (is_pushed_known g functions c.requires.routed (alike c.args.game.now) w pushed c.args.context.now c.requires.kept c.requires.contexts c.in_ok-enlarge.ensures).blocks;
       within = omega (arith, lt, c.len-number.ensures, w.blocks.contexts.ok.0);
     }
 
@@ -32,10 +32,10 @@ free_all-requires c =
     let pushed = c.enlarge.new.work in
     record {
       routed = c.requires.routed;
-      known = is_pushed_known g functions c.requires.routed (alike c.args.game.now) w pushed c.args.context c.requires.kept c.requires.contexts c.in_ok-enlarge.ensures;
+      known = is_pushed_known g functions c.requires.routed (alike c.args.game.now) w pushed c.args.context.now c.requires.kept c.requires.contexts c.in_ok-enlarge.ensures;
       tabled = c.numbered-at.ensures.there;
-      long = is_pushed_long g functions c.requires.routed (alike c.args.game.now) w pushed c.args.context c.requires.kept c.requires.contexts c.in_ok-enlarge.ensures;
-      flagged = is_pushed_flagged g functions c.requires.routed (alike c.args.game.now) w pushed c.args.context c.requires.kept c.requires.contexts c.in_ok-enlarge.ensures;
+      long = is_pushed_long g functions c.requires.routed (alike c.args.game.now) w pushed c.args.context.now c.requires.kept c.requires.contexts c.in_ok-enlarge.ensures;
+      flagged = is_pushed_flagged g functions c.requires.routed (alike c.args.game.now) w pushed c.args.context.now c.requires.kept c.requires.contexts c.in_ok-enlarge.ensures;
     }
 
 pub ask_all-requires : goal.ask_all-requires
@@ -45,7 +45,7 @@ ask_all-requires c =
     let w = c.args.work.now in
     let pushed = c.enlarge.new.work in
     let freed = c.free_all.new.work in
-    let d = c.args.context in
+    let d = c.args.context.now in
     let last = length w.blocks.contexts.items in
     let here : c.len-number.result ≡ last = omega (arith, c.len-number.ensures, w.blocks.contexts.ok.0) in
     let same = same_tabled pushed.blocks c.numbered-at.result last d (c.numbered-at.ensures.number ∙ here) c.numbered-at.ensures.there
@@ -70,7 +70,7 @@ returns c =
     let w = c.args.work.now in
     let pushed = c.enlarge.new.work in
     let freed = c.free_all.new.work in
-    let d = c.args.context in
+    let d = c.args.context.now in
     let last = length w.blocks.contexts.items in
     let here : c.len-number.result ≡ last = omega (arith, c.len-number.ensures, w.blocks.contexts.ok.0) in
     let same = same_tabled pushed.blocks c.numbered-at.result last d (c.numbered-at.ensures.number ∙ here) c.numbered-at.ensures.there

@@ -50,17 +50,17 @@ walk-init c =
 
 pub next-next-requires : goal.next-next-requires
 next-next-requires c =
-    subst (λ (ms : List Bool). c.in-Some.link < number ms) (sym c.in_ok-ask_call.ensures.step.others.flags)
+    subst (λ (ms : List Bool). c.in-Some.link < number ms) (sym c.in_ok-ask_caller.ensures.step.others.flags)
     (subst (λ (o : Option ℕ). IfSome o (λ link. link < number c.walk.work.store.flags)) c.in-Some.is c.walk.invariant.known)
 
-pub ask_call-requires-clause-right : goal.ask_call-requires-clause-right
-ask_call-requires-clause-right c =
+pub ask_caller-requires-clause-right : goal.ask_caller-requires-clause-right
+ask_caller-requires-clause-right c =
     next_right (game_of c.args.game.now) (length c.args.game.now.graph.parts.items) c.requires.routed (alike c.args.game.now) c.args.work.now c.walk.work c.requires.known c.walk.invariant.step
 
 pub walk-smaller : goal.walk-smaller
 walk-smaller c =
-    (walk_goes_on c.ask_call.new.work.store.lists c.args.work.now.store.lists (c.in_ok-ask_call.ensures.step.others.lists ∙ c.walk.invariant.step.others.lists)
-    (number c.ask_call.new.work.store.flags) (c.args.cell.now.at.number + 1) c.in-Some.link c.walk.next c.next-next.result
+    (walk_goes_on c.ask_caller.new.work.store.lists c.args.work.now.store.lists (c.in_ok-ask_caller.ensures.step.others.lists ∙ c.walk.invariant.step.others.lists)
+    (number c.ask_caller.new.work.store.flags) (c.args.cell.now.at.number + 1) c.in-Some.link c.walk.next c.next-next.result
     c.in-Some.is c.walk.invariant.at c.next-next.ensures.apart c.next-next.ensures.within).fewer
 
 pub walk-preserved : goal.walk-preserved
@@ -71,17 +71,17 @@ walk-preserved c =
     let cell = c.args.cell.now in
     let l = cell.at.number + 1 in
     let link = c.in-Some.link in
-    let s = walk_goes_on c.ask_call.new.work.store.lists c.args.work.now.store.lists (c.in_ok-ask_call.ensures.step.others.lists ∙ c.walk.invariant.step.others.lists)
-    (number c.ask_call.new.work.store.flags) l c.in-Some.link c.walk.next c.next-next.result
+    let s = walk_goes_on c.ask_caller.new.work.store.lists c.args.work.now.store.lists (c.in_ok-ask_caller.ensures.step.others.lists ∙ c.walk.invariant.step.others.lists)
+    (number c.ask_caller.new.work.store.flags) l c.in-Some.link c.walk.next c.next-next.result
     c.in-Some.is c.walk.invariant.at c.next-next.ensures.apart c.next-next.ensures.within in
     record {
       known = c.next-next.ensures.known;
-      step = two_steps g w c.walk.work c.ask_call.new.work c.walk.invariant.step c.in_ok-ask_call.ensures.step;
+      step = two_steps g w c.walk.work c.ask_caller.new.work c.walk.invariant.step c.in_ok-ask_caller.ensures.step;
       at = s.at;
-      left = subst (λ (ys : List ℕ). AllCalled g w.blocks.contexts.items (found_of g c.ask_call.new.work)
+      left = subst (λ (ys : List ℕ). AllCalled g w.blocks.contexts.items (found_of g c.ask_caller.new.work)
           (CallsLeft g w.blocks.contexts.items w.store.flags (found_of g w) ys cell.at.number cell.pos.0 cell.state.0)) (sym s.left)
-          (asked_call_left g functions c.requires.routed (alike c.args.game.now) w c.walk.work c.ask_call.new.work c.requires.known c.walk.invariant.step link c.index-index.result s.back cell
-          c.requires.flagged c.index-index.ensures.flagged c.index-index.ensures.rank c.in_ok-ask_call.ensures
+          (asked_call_left g functions c.requires.routed (alike c.args.game.now) w c.walk.work c.ask_caller.new.work c.requires.known c.walk.invariant.step link c.linked-told.result.index s.back cell
+          c.requires.flagged c.linked-told.ensures.flagged c.linked-told.ensures.rank c.in_ok-ask_caller.ensures
           (subst (λ (ys : List ℕ). AllCalled g w.blocks.contexts.items (found_of g c.walk.work)
           (CallsLeft g w.blocks.contexts.items w.store.flags (found_of g w) ys cell.at.number cell.pos.0 cell.state.0)) s.rest c.walk.invariant.left));
     }

@@ -1,5 +1,5 @@
-use Rattle.std.proofs.Common.{◌+◌, ◌∙◌, length, arith}
-use Rattle.std.specs.Prelude.{slice_get, slice_index}
+use Rattle.std.proofs.Common.{◌≡◌, ℕ, ◌+◌, ◌∙◌, length, sym, subst, arith}
+use Rattle.std.specs.Prelude.{◌⊎◌, slice_get, slice_index}
 use Rattle.cw_product.specs.Product.{game_of}
 use Rattle.cw_solve.proofs.Calling.{cell_within}
 use Rattle.cw_linked.specs.Works.{known_of, index_at, cell_of}
@@ -8,6 +8,10 @@ use Rattle.cw_linked.proofs.Callers.{call_asked, call_unasked}
 use Rattle.cw_linked.proofs.Returning.{greater_low, other_class}
 use Rattle.cw_linked.proofs.Takings.{few_written}
 use Rattle.cw_linked.proofs.calls.ask_linked.Goals as goal
+
+-- where a link has so many moves
+of_moves : (moves wave most height : ℕ) → wave ≡ moves → (moves ≡ most) ⊎ (height ≡ most) → (wave ≡ most) ⊎ (height ≡ most)
+of_moves moves wave most height e one = subst (λ (k : ℕ). (k ≡ most) ⊎ (height ≡ most)) (sym e) one
 
 pub class_at-requires-clause-position : goal.class_at-requires-clause-position
 class_at-requires-clause-position c =
@@ -34,10 +38,13 @@ returns-then-is_same c =
     let cell = cell_of c.args.at.now c.args.pos c.args.state in
     let s = c.in-Some.ensures.some in
     let most = c.greater-most.result in
-    call_asked g (length c.args.game.now.graph.parts.items) c.requires.routed (alike c.args.game.now) w c.requires.known c.ask_cell.new.work c.requires.long c.requires.high c.requires.right cell c.requires.cell c.args.height
-    c.requires.some c.requires.taken c.args.link c.cell_at-caller.result c.cell_at-caller.ensures s.0 s.1 (s.2 ∙ c.is_same.ensures.is c.if-is_same.true) c.requires.goes c.requires.entry most (most + 1) c.slot-index.result
-    (omega arith) c.greater-most.ensures.one c.greater-most.ensures.moves c.greater-most.ensures.high
-    (greater_low most c.args.height (slice_index w.store.waves c.args.link) w.written c.greater-most.ensures.one (c.requires.high.waves c.args.link)
+    let wave = slice_index w.store.waves c.args.link in
+    let one = of_moves c.args.moves wave most c.args.height c.requires.moves c.greater-most.ensures.one in
+    call_asked g (length c.args.game.now.graph.parts.items) c.requires.routed (alike c.args.game.now) w c.requires.known c.ask_cell.new.work c.requires.long c.requires.high c.requires.right
+    cell c.requires.cell c.args.height c.requires.some c.requires.taken c.args.link c.cell_at-caller.result c.cell_at-caller.ensures s.0 s.1 (s.2 ∙ c.is_same.ensures.is c.if-is_same.true)
+    c.requires.goes c.requires.entry most (most + 1) c.slot-index.result
+    (omega arith) one (omega (arith, c.requires.moves, c.greater-most.ensures.moves)) c.greater-most.ensures.high
+    (greater_low most c.args.height wave w.written one (c.requires.high.waves c.args.link)
     (let h = c.requires.high.heights (index_at g w.blocks.contexts.items cell.at.number cell.pos.0 cell.state.0) in omega (arith, h, c.requires.taken)))
     c.slot-index.ensures.is c.in_ok-ask_cell-in-Some.ensures
 
@@ -47,7 +54,9 @@ overflow_add-within c =
     let w = c.args.work.now in
     let cell = cell_of c.args.at.now c.args.pos c.args.state in
     let most = c.greater-most.result in
-    let l = (greater_low most c.args.height (slice_index w.store.waves c.args.link) w.written c.greater-most.ensures.one (c.requires.high.waves c.args.link)
+    let wave = slice_index w.store.waves c.args.link in
+    let one = of_moves c.args.moves wave most c.args.height c.requires.moves c.greater-most.ensures.one in
+    let l = (greater_low most c.args.height wave w.written one (c.requires.high.waves c.args.link)
     (let h = c.requires.high.heights (index_at g w.blocks.contexts.items cell.at.number cell.pos.0 cell.state.0) in omega (arith, h, c.requires.taken))) in
     let f = few_written g (known_of w) c.requires.known in
     omega (arith, l, f)
@@ -58,7 +67,9 @@ ask_cell-requires-clause-few c =
     let w = c.args.work.now in
     let cell = cell_of c.args.at.now c.args.pos c.args.state in
     let most = c.greater-most.result in
-    let l = (greater_low most c.args.height (slice_index w.store.waves c.args.link) w.written c.greater-most.ensures.one (c.requires.high.waves c.args.link)
+    let wave = slice_index w.store.waves c.args.link in
+    let one = of_moves c.args.moves wave most c.args.height c.requires.moves c.greater-most.ensures.one in
+    let l = (greater_low most c.args.height wave w.written one (c.requires.high.waves c.args.link)
     (let h = c.requires.high.heights (index_at g w.blocks.contexts.items cell.at.number cell.pos.0 cell.state.0) in omega (arith, h, c.requires.taken))) in
     let f = few_written g (known_of w) c.requires.known in
     omega (arith, l, f)

@@ -1,17 +1,20 @@
 use Rattle.std.proofs.Common.{arith}
 use Rattle.cw_product.specs.Product.{game_of}
 use Rattle.cw_linked.proofs.Edging.{a_pair_more, no_pair_more, a_position_more}
+use Rattle.cw_linked.proofs.Reaching.{no_keeper, idle_leads}
 use Rattle.cw_linked.proofs.edges.add_pairs.Goals as goal
 
-pub returns-then-keeps : goal.returns-then-keeps
-returns-then-keeps c = no_pair_more (game_of c.args.game.now) c.args.flags.now c.args.pairs.now c.args.pos.0 c.if-keeps.ensures c.requires.before
+pub returns-then-not-is_changing : goal.returns-then-not-is_changing
+returns-then-not-is_changing c =
+    let g = game_of c.args.game.now in
+    no_pair_more g c.args.flags.now c.args.pairs.now c.args.pos.0 (λ n r x changing leads. idle_leads g c.args.pos.0 n r x c.if-not-is_changing.ensures changing leads) c.requires.before
 
 pub add_moves-requires-clause-flagged : goal.add_moves-requires-clause-flagged
 add_moves-requires-clause-flagged c r x =
-    c.requires.flagged.leads c.args.pos.0 c.loop-q.q r x c.requires.position (omega (arith, c.states-q-end.ensures, c.loop-q-test.true)) c.if-keeps.ensures
+    c.requires.flagged.leads c.args.pos.0 c.loop-q.q r x c.requires.position (omega (arith, c.states-q-end.ensures, c.loop-q-test.true)) (no_keeper _ c.if-not-is_changing.ensures)
 
 pub add_moves-requires-clause-changing : goal.add_moves-requires-clause-changing
-add_moves-requires-clause-changing c = c.if-keeps.ensures
+add_moves-requires-clause-changing c = no_keeper _ c.if-not-is_changing.ensures
 
 pub loop-q-preserved : goal.loop-q-preserved
 loop-q-preserved c =

@@ -30,8 +30,8 @@ number_of-requires-clause-needed c =
     let w = c.args.work.now in
     let link = c.args.link.now in
     let call = call_here g functions c.requires.routed w link c.args.index c.args.moves c.requires.freed c.in-Call.callee c.in-Call.split c.in-Call.back c.in-Call.ensures in
-    let to : Context = context c.in-Call.callee c.promise_of.result in
-    let read = read_here g functions c.requires.routed w link c.args.index c.args.moves c.requires.freed call.0 c.in-Call.split c.in-Call.back.0 c.promise_of.result call.2
+    let to : Context = context c.in-Call.callee c.promise_of.new.set in
+    let read = read_here g functions c.requires.routed w link c.args.index c.args.moves c.requires.freed call.0 c.in-Call.split c.in-Call.back.0 c.promise_of.new.set call.2
     call.4 c.promise_of.ensures in
     is_needed g functions c.requires.routed w link c.args.index c.args.moves c.requires.freed call.0 call.1 to call.3 read
 
@@ -42,8 +42,8 @@ numbered-to-requires c =
     let w = c.args.work.now in
     let link = c.args.link.now in
     let call = call_here g functions c.requires.routed w link c.args.index c.args.moves c.requires.freed c.in-Call.callee c.in-Call.split c.in-Call.back c.in-Call.ensures in
-    let to : Context = context c.in-Call.callee c.promise_of.result in
-    let read = read_here g functions c.requires.routed w link c.args.index c.args.moves c.requires.freed call.0 c.in-Call.split c.in-Call.back.0 c.promise_of.result call.2
+    let to : Context = context c.in-Call.callee c.promise_of.new.set in
+    let read = read_here g functions c.requires.routed w link c.args.index c.args.moves c.requires.freed call.0 c.in-Call.split c.in-Call.back.0 c.promise_of.new.set call.2
     call.4 c.promise_of.ensures in
     let numbered : IsNumbered g w c.number_of.new.work to c.in-Some.number = subst (λ (o : Option ℕ). NumbersContext g w c.number_of.new.work to o) c.in-Some.is c.in_ok-number.ensures.number in
     let tieable = is_tieable g functions c.requires.routed w link c.args.index c.args.moves c.requires.freed call.0 call.1 to call.3 read c.number_of.new.work c.in-Some.number numbered in
@@ -60,8 +60,8 @@ tie_link-requires-clause-tieable c =
     let w = c.args.work.now in
     let link = c.args.link.now in
     let call = call_here g functions c.requires.routed w link c.args.index c.args.moves c.requires.freed c.in-Call.callee c.in-Call.split c.in-Call.back c.in-Call.ensures in
-    let to : Context = context c.in-Call.callee c.promise_of.result in
-    let read = read_here g functions c.requires.routed w link c.args.index c.args.moves c.requires.freed call.0 c.in-Call.split c.in-Call.back.0 c.promise_of.result call.2
+    let to : Context = context c.in-Call.callee c.promise_of.new.set in
+    let read = read_here g functions c.requires.routed w link c.args.index c.args.moves c.requires.freed call.0 c.in-Call.split c.in-Call.back.0 c.promise_of.new.set call.2
     call.4 c.promise_of.ensures in
     let numbered : IsNumbered g w c.number_of.new.work to c.in-Some.number = subst (λ (o : Option ℕ). NumbersContext g w c.number_of.new.work to o) c.in-Some.is c.in_ok-number.ensures.number in
     let same = same_tabled c.number_of.new.work.blocks c.numbered-to.result c.in-Some.number to c.numbered-to.ensures.number c.numbered-to.ensures.there numbered.there in
@@ -76,8 +76,8 @@ returns-clause-takes c =
     let w = c.args.work.now in
     let link = c.args.link.now in
     let call = call_here g functions c.requires.routed w link c.args.index c.args.moves c.requires.freed c.in-Call.callee c.in-Call.split c.in-Call.back c.in-Call.ensures in
-    let to : Context = context c.in-Call.callee c.promise_of.result in
-    let read = read_here g functions c.requires.routed w link c.args.index c.args.moves c.requires.freed call.0 c.in-Call.split c.in-Call.back.0 c.promise_of.result call.2
+    let to : Context = context c.in-Call.callee c.promise_of.new.set in
+    let read = read_here g functions c.requires.routed w link c.args.index c.args.moves c.requires.freed call.0 c.in-Call.split c.in-Call.back.0 c.promise_of.new.set call.2
     call.4 c.promise_of.ensures in
     let numbered : IsNumbered g w c.number_of.new.work to c.in-Some.number = subst (λ (o : Option ℕ). NumbersContext g w c.number_of.new.work to o) c.in-Some.is c.in_ok-number.ensures.number in
     let to_number : ℕ → List ℕ = λ n. slice_set c.number_of.new.work.store.to c.args.index (n + 1) in

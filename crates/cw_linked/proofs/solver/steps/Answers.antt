@@ -72,19 +72,19 @@ tie_at-requires-clause-listed c = subst (λ (t : Known). HasListed c.steps.indic
 pub steps-preserved : goal.steps-preserved
 steps-preserved c =
     let g = game_of c.args.game.now in
-    let takes = subst (λ (s : Stepped). TakesLink g c.pop.new.work c.tie_at.new.work s) c.in-More.is c.in_ok-tie_at-in-Link.ensures.takes in
+    let takes = subst (λ (s : Stepped). TakesLink g c.pop.new.work c.tie_at.new.work s c.tie_at.new.wanted) c.in-More.is c.in_ok-tie_at-in-Link.ensures.takes in
     record { work = takes.0; listed = c.in_ok-tie_at-in-Link.ensures.listed; home = λ lt. absurd (omega (arith, lt, c.tie_at.ensures.home)) }
 
 pub steps-smaller : goal.steps-smaller
 steps-smaller c =
     let g = game_of c.args.game.now in
-    let takes = subst (λ (s : Stepped). TakesLink g c.pop.new.work c.tie_at.new.work s) c.in-More.is c.in_ok-tie_at-in-Link.ensures.takes in
+    let takes = subst (λ (s : Stepped). TakesLink g c.pop.new.work c.tie_at.new.work s c.tie_at.new.wanted) c.in-More.is c.in_ok-tie_at-in-Link.ensures.takes in
     linked_less g (length c.args.game.now.graph.parts.items) c.requires.routed (alike c.args.game.now)
     c.steps.work c.pop.new.work c.tie_at.new.work c.in-Link.index c.in-Link.moves c.in-Link.ensures takes.1
 
 pub returns-in-TooMany : goal.returns-in-TooMany
 returns-in-TooMany c =
     let g = game_of c.args.game.now in
-    let takes = subst (λ (s : Stepped). TakesLink g c.pop.new.work c.tie_at.new.work s) c.in-TooMany.is c.in_ok-tie_at-in-Link.ensures.takes in
+    let takes = subst (λ (s : Stepped). TakesLink g c.pop.new.work c.tie_at.new.work s c.tie_at.new.wanted) c.in-TooMany.is c.in_ok-tie_at-in-Link.ensures.takes in
     linked_beyond g (length c.args.game.now.graph.parts.items) c.requires.routed (alike c.args.game.now)
-    c.steps.work c.pop.new.work c.tie_at.new.work c.steps.invariant.work c.in-Link.index c.in-Link.moves c.in-Link.ensures c.in-TooMany.context takes
+    c.steps.work c.pop.new.work c.tie_at.new.work c.steps.invariant.work c.in-Link.index c.in-Link.moves c.in-Link.ensures c.tie_at.new.wanted takes

@@ -8,7 +8,7 @@ use Rattle.cw_linked.proofs.Reaching.{list_within}
 use Rattle.cw_linked.proofs.waiting.list_of.Goals as goal
 
 pub rank-requires : goal.rank-requires
-rank-requires c = omega (arith, flagged_within c.args.flags.now c.args.pos.0 c.requires.flagged)
+rank-requires c = c.requires.flagged
 
 pub overflow_mul-result : goal.overflow_mul-result
 overflow_mul-result c =

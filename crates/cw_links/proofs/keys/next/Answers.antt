@@ -5,19 +5,19 @@ use Rattle.cw_links.proofs.keys.next.Goals as goal
 
 pub key_of-requires : goal.key_of-requires
 key_of-requires c =
-    taken_element c.args.cells.now.asked c.args.due.now c.loop-element.queue c.take.new.self c.in-Some.element c.in-Some.key c.loop-element.invariant c.in-Some.ensures.taken
+    taken_element c.args.cells.now.asked c.args.due.now c.loop-element.queue c.take_wide.new.self c.in-Some.element c.in-Some.key c.loop-element.invariant c.in-Some.ensures.taken
 
 pub loop-element-preserved : goal.loop-element-preserved
 loop-element-preserved c =
-    passed_over c.args.cells.now.asked c.args.due.now c.loop-element.queue c.take.new.self c.in-Some.element c.in-Some.key c.loop-element.invariant c.in-Some.ensures.taken
+    passed_over c.args.cells.now.asked c.args.due.now c.loop-element.queue c.take_wide.new.self c.in-Some.element c.in-Some.key c.loop-element.invariant c.in-Some.ensures.taken
     (λ is. c.if-key_of-key.false (c.key_of.ensures ∙ is))
 
 pub loop-element-smaller : goal.loop-element-smaller
-loop-element-smaller c = takes_one c.loop-element.queue c.take.new.self c.in-Some.element c.in-Some.key c.in-Some.ensures.taken
+loop-element-smaller c = takes_one c.loop-element.queue c.take_wide.new.self c.in-Some.element c.in-Some.key c.in-Some.ensures.taken
 
 pub returns-then-key_of-key-clause-next : goal.returns-then-key_of-key-clause-next
 returns-then-key_of-key-clause-next c =
-    is_next c.args.cells.now.asked c.args.due.now c.loop-element.queue c.take.new.self c.in-Some.element c.in-Some.key c.loop-element.invariant c.in-Some.ensures.taken
+    is_next c.args.cells.now.asked c.args.due.now c.loop-element.queue c.take_wide.new.self c.in-Some.element c.in-Some.key c.loop-element.invariant c.in-Some.ensures.taken
     (sym c.key_of.ensures ∙ c.if-key_of-key.true)
 
 pub returns-clause-none : goal.returns-clause-none
