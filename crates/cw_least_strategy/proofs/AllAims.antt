@@ -44,7 +44,7 @@ out_twice : (n set : ℕ) → set < 2 ^ n → (x : ℕ) (t : Bool) → nat_lt x 
 out_twice n set lt x true e = twice (has set x)
 out_twice n set lt x false e = both_ways false (has set x) (λ f. let w : false ≡ true = f in cc) (λ h. sym e ∙ low n set lt x h)
 
-others_twice : (g : Game) (set : ℕ) → set < 2 ^ g.states.count → others g (others g set) ≡ set
+pub others_twice : (g : Game) (set : ℕ) → set < 2 ^ g.states.count → others g (others g set) ≡ set
 others_twice g set lt =
     same_set (others g (others g set)) set
     (λ x. has_set (λ y. not (has (others g set) y)) g.states.count x

@@ -19,3 +19,5 @@ pub mod Small
 pub mod Parts
 pub mod Backs
 pub mod Existing
+mod Numbered
+mod Searching

@@ -54,7 +54,7 @@ lower_small a k l =
     ap (λ o. ordering_then o (ordering_then (nat_cmp a.pos k.pos) (ordering_then (nat_cmp a.state k.state) (nat_cmp a.aim k.aim)))) n
 
 -- a number that is below how many there are is that of an item
-found_at : (es : List ℕ) (e : ℕ) → number_in nat_cmp es e < length es → slice_get es (number_in nat_cmp es e) ≡ Some e
+pub found_at : (es : List ℕ) (e : ℕ) → number_in nat_cmp es e < length es → slice_get es (number_in nat_cmp es e) ≡ Some e
 found_at [] e l = absurd (omega (arith, l))
 found_at (y ∷ ys) e l = by (eq_by_cmp nat_cmp y e) refl l (found_at ys e)
   where

@@ -15,6 +15,7 @@ use Rattle.cw_least_strategy.specs.declared.acts.Lead.{Lead}
 use Rattle.cw_least_strategy.specs.declared.heights.Lower.{Lower}
 use Rattle.cw_least_strategy.specs.Heights.{others}
 use Rattle.cw_least_strategy.specs.declared.key.Key.{Key}
+use Rattle.cw_least_strategy.specs.declared.key.LentKey.{LentKey}
 use Rattle.cw_least_strategy.specs.declared.key.Way.{Way}
 use Rattle.cw_least_strategy.specs.Strategies.{backs_in, row_at, start_key, Act, Bad, Out, Both, Go, Into}
 
@@ -34,6 +35,10 @@ IsThere g p aim = IsUnder g p (others g aim)
 -- a call stands at p, which returns to this position, plain or split
 abbrev pub IsCall : Game → (p back : ℕ) → Bool → Type 0
 IsCall g p back split = (function : ℕ) × HasCall g p function back split
+
+-- the key whose aim is lent
+abbrev pub key_of : LentKey → Key
+key_of k = record { height = k.height; pos = k.pos; state = k.state; aim = k.aim.now }
 
 -- the key of a pair below a key, for an aim, and the way of a move that leads there
 abbrev pub key_at : ℕ → Lower → Key

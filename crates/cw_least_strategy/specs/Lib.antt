@@ -5,6 +5,7 @@ pub mod Heights
 pub mod Kept
 pub mod Parts
 pub mod Laws
+pub mod Numbered
 pub mod Small
 pub mod Strategies
 pub mod There

@@ -1,5 +1,6 @@
 -- Working definitions: a strategy in two lists, of the keys with the numbers of their aims and of what is done at each.
 use Rattle.std.specs.Prelude.{◌≡◌, ℕ, ◌+◌, ◌<◌, ◌≤◌, List, [], ◌∷◌, Contains, map, length, slice_index, sum_by}
+use Rattle.std.specs.List.{AllZip}
 use Rattle.cw_core.specs.Quantities.{limit_of}
 use Rattle.cw_core.specs.declared.quantity.Quantity.TheVariants.{Rows}
 use Rattle.cw_certs.specs.declared.strategy.How.{How as HowData}
@@ -8,6 +9,8 @@ use Rattle.cw_fixpoint.specs.Closures.{Reached, Exactly}
 use Rattle.cw_game.specs.Games.{Game}
 use Rattle.cw_least_strategy.specs.Small.{whole, wholes, backs_for, AreRanked}
 use Rattle.cw_least_strategy.specs.Strategies.{key_cmp, named, how_by, act}
+use Rattle.cw_least_strategy.specs.Acts.{act_of}
+use Rattle.cw_least_strategy.specs.declared.acts.Act.{Act as ActData}
 use Rattle.cw_least_strategy.specs.declared.key.Key.{Key}
 use Rattle.cw_least_strategy.specs.declared.key.SmallKey.{SmallKey}
 
@@ -27,6 +30,13 @@ strategy_by states aims keys hows = record { states = states; rows = rows_by aim
 pub record ArePaired (aims : List ℕ) (keys : List SmallKey) (hows : List HowData) : Type 0 where
   pub long : length hows ≡ length keys
   pub within : (k : SmallKey) → Contains keys k → k.aim < length aims
+
+-- this is done at a key, and at each of a list in turn
+abbrev pub IsDone : Game → List ℕ → SmallKey → ActData → Type 0
+IsDone g aims k a = act_of (slice_index aims k.aim) a ≡ act g (whole aims k)
+
+abbrev pub AreDone : Game → List ℕ → List SmallKey → List ActData → Type 0
+AreDone g aims keys acts = AllZip (IsDone g aims) keys acts
 
 -- what is done at a key, by the numbers of rows
 abbrev pub how_in : Game → List ℕ → List SmallKey → SmallKey → How

@@ -4,7 +4,7 @@ ghost use Rattle.std.specs.Prelude.{◌≡◌, ℕ, ◌<◌, [], map, length, If
 ghost use Rattle.std.specs.List.{cons_option};
 ghost use Rattle.cw_product.specs.Product.{game_of};
 ghost use Rattle.cw_product.specs.Routed.{AreRouted};
-ghost use Rattle.cw_least_strategy.specs.Acts.{act_of, key_at, way_at, IsIn, IsCall};
+ghost use Rattle.cw_least_strategy.specs.Acts.{act_of, key_at, key_of, way_at, IsIn, IsCall};
 ghost use Rattle.cw_solve.specs.Tables.{HasCall};
 ghost use Rattle.cw_solve.specs.Contexts.{returning};
 ghost use Rattle.cw_least_strategy.specs.Kept.{IsKey};
@@ -12,7 +12,7 @@ ghost use Rattle.cw_least_strategy.specs.Strategies.{way, sooner, best, moves, a
 
 use crate::contexts::Entries;
 use crate::heights::{Lower, below, lower_pair};
-use crate::key::Key;
+use crate::key::{Key, LentKey};
 use cw_certs::Move;
 use cw_core::{PosId, StateId, StateSet};
 use cw_product::Turn;
@@ -44,11 +44,11 @@ pub(crate) struct Lead {
 }
 
 /// Where a move leads from a key.
-fn lead_by(solved: &Solved, number: u32, key: &Key, by: Move) -> Option<Lead>
+fn lead_by(solved: &Solved, number: u32, key: &LentKey, by: Move) -> Option<Lead>
     requires routed { AreRouted (game_of solved.now.game) (length solved.now.game.graph.parts.items) }
-    requires key { IsKey (game_of solved.now.game) (length solved.now.game.graph.parts.items) key.now }
-    requires here { IsIn solved.now number key.now.aim key.now.pos key.now.state }
-    ensures { option_map (way_at key.now.aim) result ≡ way (game_of solved.now.game) key.now by }
+    requires key { IsKey (game_of solved.now.game) (length solved.now.game.graph.parts.items) (key_of key.now) }
+    requires here { IsIn solved.now number key.now.aim.now key.now.pos key.now.state }
+    ensures { option_map (way_at key.now.aim.now) result ≡ way (game_of solved.now.game) (key_of key.now) by }
 {
     match solved.game().next(PosId(key.pos), StateId(key.state), by) {
         None => None,
@@ -77,11 +77,11 @@ fn sooner(a: Option<Lead>, b: Option<Lead>) -> Option<Lead>
 }
 
 /// The move to the pair of the least height, where there is one move at most.
-fn lead_of(solved: &Solved, number: u32, key: &Key, by: Option<Move>) -> Option<Lead>
+fn lead_of(solved: &Solved, number: u32, key: &LentKey, by: Option<Move>) -> Option<Lead>
     requires routed { AreRouted (game_of solved.now.game) (length solved.now.game.graph.parts.items) }
-    requires key { IsKey (game_of solved.now.game) (length solved.now.game.graph.parts.items) key.now }
-    requires here { IsIn solved.now number key.now.aim key.now.pos key.now.state }
-    ensures { option_map (way_at key.now.aim) result ≡ best (game_of solved.now.game) key.now (cons_option by []) }
+    requires key { IsKey (game_of solved.now.game) (length solved.now.game.graph.parts.items) (key_of key.now) }
+    requires here { IsIn solved.now number key.now.aim.now key.now.pos key.now.state }
+    ensures { option_map (way_at key.now.aim.now) result ≡ best (game_of solved.now.game) (key_of key.now) (cons_option by []) }
 {
     match by {
         None => None,
@@ -90,11 +90,11 @@ fn lead_of(solved: &Solved, number: u32, key: &Key, by: Option<Move>) -> Option<
 }
 
 /// The move to the pair of the least height.
-fn best(solved: &Solved, number: u32, key: &Key) -> Option<Lead>
+fn best(solved: &Solved, number: u32, key: &LentKey) -> Option<Lead>
     requires routed { AreRouted (game_of solved.now.game) (length solved.now.game.graph.parts.items) }
-    requires key { IsKey (game_of solved.now.game) (length solved.now.game.graph.parts.items) key.now }
-    requires here { IsIn solved.now number key.now.aim key.now.pos key.now.state }
-    ensures { option_map (way_at key.now.aim) result ≡ best (game_of solved.now.game) key.now moves }
+    requires key { IsKey (game_of solved.now.game) (length solved.now.game.graph.parts.items) (key_of key.now) }
+    requires here { IsIn solved.now number key.now.aim.now key.now.pos key.now.state }
+    ensures { option_map (way_at key.now.aim.now) result ≡ best (game_of solved.now.game) (key_of key.now) moves }
 {
     let moves = solved.game().moves(PosId(key.pos));
     sooner(
@@ -107,17 +107,17 @@ fn best(solved: &Solved, number: u32, key: &Key) -> Option<Lead>
 fn after_return(
     solved: &Solved,
     number: u32,
-    key: &Key,
+    key: &LentKey,
     back: PosId,
     split: bool,
     exit: u16,
 ) -> Lower
     requires routed { AreRouted (game_of solved.now.game) (length solved.now.game.graph.parts.items) }
-    requires key { IsKey (game_of solved.now.game) (length solved.now.game.graph.parts.items) key.now }
-    requires here { IsIn solved.now number key.now.aim key.now.pos key.now.state }
+    requires key { IsKey (game_of solved.now.game) (length solved.now.game.graph.parts.items) (key_of key.now) }
+    requires here { IsIn solved.now number key.now.aim.now key.now.pos key.now.state }
     requires exit { exit < (game_of solved.now.game).states.count }
     requires call { IsCall (game_of solved.now.game) key.now.pos back.0 split }
-    ensures { key_at key.now.aim result ≡ after_return (game_of solved.now.game) key.now (returning back.0 split) exit }
+    ensures { key_at key.now.aim.now result ≡ after_return (game_of solved.now.game) (key_of key.now) (returning back.0 split) exit }
 {
     let state = solved
         .game()
@@ -126,12 +126,12 @@ fn after_return(
 }
 
 /// The exit states whose return's pair has a height below the call's.
-fn aim_at(solved: &Solved, number: u32, key: &Key, back: PosId, split: bool) -> StateSet
+fn aim_at(solved: &Solved, number: u32, key: &LentKey, back: PosId, split: bool) -> StateSet
     requires routed { AreRouted (game_of solved.now.game) (length solved.now.game.graph.parts.items) }
-    requires key { IsKey (game_of solved.now.game) (length solved.now.game.graph.parts.items) key.now }
-    requires here { IsIn solved.now number key.now.aim key.now.pos key.now.state }
+    requires key { IsKey (game_of solved.now.game) (length solved.now.game.graph.parts.items) (key_of key.now) }
+    requires here { IsIn solved.now number key.now.aim.now key.now.pos key.now.state }
     requires call { IsCall (game_of solved.now.game) key.now.pos back.0 split }
-    ensures { result ≡ aim_at (game_of solved.now.game) key.now (returning back.0 split) }
+    ensures { result ≡ aim_at (game_of solved.now.game) (key_of key.now) (returning back.0 split) }
 {
     let mut aim = StateSet::empty();
     for x in 0..solved.game().states() {
@@ -147,21 +147,21 @@ fn backs_at(
     alloc: Global,
     solved: &Solved,
     number: u32,
-    key: &Key,
+    key: &LentKey,
     back: PosId,
     split: bool,
 ) -> Result<Vec<(StateId, Key)>, AllocError>
     requires routed { AreRouted (game_of solved.now.game) (length solved.now.game.graph.parts.items) }
-    requires key { IsKey (game_of solved.now.game) (length solved.now.game.graph.parts.items) key.now }
-    requires here { IsIn solved.now number key.now.aim key.now.pos key.now.state }
+    requires key { IsKey (game_of solved.now.game) (length solved.now.game.graph.parts.items) (key_of key.now) }
+    requires here { IsIn solved.now number key.now.aim.now key.now.pos key.now.state }
     requires call { IsCall (game_of solved.now.game) key.now.pos back.0 split }
-    ensures { IfOk result (λ v. map (λ b. (b.0.0, b.1)) v.items ≡ backs_at (game_of solved.now.game) key.now (returning back.0 split)) }
+    ensures { IfOk result (λ v. map (λ b. (b.0.0, b.1)) v.items ≡ backs_at (game_of solved.now.game) (key_of key.now) (returning back.0 split)) }
 {
     let mut backs = Vec::new(alloc);
     for x in 0..solved.game().states() {
         let to = after_return(solved, number, key, back, split, x);
         if 0 < to.height {
-            backs.push((StateId(x), to.key(key.aim)))?;
+            backs.push((StateId(x), to.key(*key.aim)))?;
         }
     }
     Ok(backs)
@@ -173,17 +173,17 @@ fn into(
     solved: &Solved,
     entries: &Entries,
     number: u32,
-    key: &Key,
+    key: &LentKey,
     near: u32,
     function: u16,
     back: PosId,
     split: bool,
 ) -> Result<Act, AllocError>
     requires routed { AreRouted (game_of solved.now.game) (length solved.now.game.graph.parts.items) }
-    requires key { IsKey (game_of solved.now.game) (length solved.now.game.graph.parts.items) key.now }
-    requires here { IsIn solved.now number key.now.aim key.now.pos key.now.state }
+    requires key { IsKey (game_of solved.now.game) (length solved.now.game.graph.parts.items) (key_of key.now) }
+    requires here { IsIn solved.now number key.now.aim.now key.now.pos key.now.state }
     requires call { HasCall (game_of solved.now.game) key.now.pos function back.0 split }
-    ensures { IfOk result (λ a. act_of key.now.aim a ≡ act (game_of solved.now.game) key.now) }
+    ensures { IfOk result (λ a. act_of key.now.aim.now a ≡ act (game_of solved.now.game) (key_of key.now)) }
 {
     let aim = aim_at(solved, number, key, back, split);
     let state = StateId(key.state);
@@ -201,21 +201,23 @@ fn into(
     Ok(Act::Into { callee, backs })
 }
 
-/// What is done at a key, whose aim may have this number.
+/// What is done at a key of the context of a number, whose aim may have the number `near`.
+#[inline(always)]
 pub(crate) fn act_at(
     alloc: Global,
     solved: &Solved,
     entries: &Entries,
-    key: &Key,
+    key: &LentKey,
     near: u32,
+    number: u32,
 ) -> Result<Act, AllocError>
     requires routed { AreRouted (game_of solved.now.game) (length solved.now.game.graph.parts.items) }
-    requires key { IsKey (game_of solved.now.game) (length solved.now.game.graph.parts.items) key.now }
-    ensures { IfOk result (λ a. act_of key.now.aim a ≡ act (game_of solved.now.game) key.now) }
+    requires key { IsKey (game_of solved.now.game) (length solved.now.game.graph.parts.items) (key_of key.now) }
+    requires here { IsIn solved.now number key.now.aim.now key.now.pos key.now.state }
+    ensures { IfOk result (λ a. act_of key.now.aim.now a ≡ act (game_of solved.now.game) (key_of key.now)) }
 {
     let pos = PosId(key.pos);
     let state = StateId(key.state);
-    let number = entries.context_of(solved, pos, state, &key.aim, near);
     match solved.game().turn(pos) {
         Turn::Exit { .. } => Ok(Act::Out),
         Turn::Weaver => Ok(Act::Both {

@@ -5,10 +5,11 @@ ghost use Rattle.std.specs.Ordering.{nat_cmp};
 ghost use Rattle.cw_fixpoint.specs.Numbers.{number_in};
 ghost use Rattle.cw_product.specs.Product.{game_of};
 ghost use Rattle.cw_product.specs.Routed.{AreRouted};
+ghost use Rattle.cw_least_strategy.specs.Acts.{key_of};
 ghost use Rattle.cw_least_strategy.specs.Small.{whole, small, Ascend, AreAims};
 
 use crate::heights::others;
-use crate::key::{Key, SmallKey};
+use crate::key::{Key, LentKey, SmallKey};
 use cw_core::StateSet;
 use cw_fixpoint::{number_of, ordered};
 use cw_solve::Solved;
@@ -29,7 +30,7 @@ pub(crate) fn aims_of(alloc: Global, solved: &Solved) -> Result<Vec<StateSet>, A
 }
 
 /// The number of an aim, and how many they are where it is none of them.
-fn aim_number(aims: &[StateSet], aim: &StateSet) -> u32
+pub(crate) fn aim_number(aims: &[StateSet], aim: &StateSet) -> u32
     requires ascend { Ascend aims.now }
     ensures { result ≡ number_in nat_cmp aims.now aim.now }
 {
@@ -50,14 +51,14 @@ pub(crate) fn small(aims: &[StateSet], key: &Key) -> SmallKey
 }
 
 /// The key that a small one stands for.
-pub(crate) fn whole(aims: &[StateSet], key: &SmallKey) -> Key
+pub(crate) fn whole<'a>(aims: &'a [StateSet], key: &SmallKey) -> LentKey<'a>
     requires within { key.now.aim < length aims.now }
-    ensures { result ≡ whole aims.now key.now }
+    ensures { key_of result ≡ whole aims.now key.now }
 {
-    Key {
+    LentKey {
         height: key.height,
         pos: key.pos,
         state: key.state,
-        aim: aims[key.aim as usize],
+        aim: &aims[key.aim as usize],
     }
 }

@@ -55,7 +55,7 @@ fn own_row(alloc: Global, row: &LeastRow) -> Result<EnvRow, AllocError>
 }
 
 /// The strategy with an aim for each row.
-pub(crate) fn certificate(alloc: Global, strategy: &LeastStrategy) -> Result<EnvCert, AllocError>
+pub fn certificate(alloc: Global, strategy: &LeastStrategy) -> Result<EnvCert, AllocError>
     ensures { IfOk result (λ c. strategy_of c ≡ strategy.now) }
 {
     let mut rows = Vec::with_capacity(alloc, strategy.count())?;

@@ -1,12 +1,16 @@
 //! The contexts of a solved game, looked up.
 
-ghost use Rattle.std.specs.Prelude.{◌<◌, length};
+ghost use Rattle.std.specs.Prelude.{◌<◌, length, slice_index, IsTrue, IfOk};
 ghost use Rattle.cw_product.specs.Product.{game_of};
 ghost use Rattle.cw_product.specs.Routed.{AreRouted};
 ghost use Rattle.cw_least_strategy.specs.Acts.{IsIn, IsThere};
 ghost use Rattle.cw_least_strategy.specs.Heights.{others};
+ghost use Rattle.cw_least_strategy.specs.Numbered.{AreNumbered, HasPosition};
+ghost use Rattle.cw_least_strategy.specs.Small.{Ascend};
 
+use crate::aims::aim_number;
 use crate::heights::others;
+use crate::key::SmallKey;
 use cw_core::{PosId, StateId, StateSet};
 use cw_solve::Solved;
 use std::alloc::{AllocError, Global};
@@ -20,11 +24,12 @@ struct Entry {
 }
 
 /// The contexts of a solved game in the order of their entries, and where those of each aim begin. What is found there is tested,
-/// so no proof rests on the order.
+/// so no proof rests on the order. Of each context by its number the number of its aim (`AreNumbered`).
 #[derive(Drop)]
 pub(crate) struct Entries {
     entries: Vec<Entry>,
     firsts: Vec<usize>,
+    numbers: Vec<u32>,
 }
 
 /// The entry of a context.
@@ -52,10 +57,43 @@ fn firsts_of(alloc: Global, entries: &[Entry]) -> Result<Vec<usize>, AllocError>
     Ok(firsts)
 }
 
+/// The numbers that the aims of all contexts have.
+fn numbers_of(alloc: Global, solved: &Solved, aims: &[StateSet]) -> Result<Vec<u32>, AllocError>
+    requires routed { AreRouted (game_of solved.now.game) (length solved.now.game.graph.parts.items) }
+    requires ascend { Ascend aims.now }
+    ensures { IfOk result (λ v. AreNumbered solved.now aims.now v.items) }
+{
+    let mut numbers = Vec::new(alloc);
+    for number in 0..solved.contexts() {
+        let aim = others(solved.game(), &solved.context(number).promise);
+        numbers.push(aim_number(aims, &aim))?;
+    }
+    Ok(numbers)
+}
+
+/// Whether a position is one of the function of a context.
+#[inline(always)]
+fn has_position(solved: &Solved, number: u32, pos: u32) -> bool
+    requires routed { AreRouted (game_of solved.now.game) (length solved.now.game.graph.parts.items) }
+    requires number { number < length solved.now.contexts }
+    ensures { IsTrue result → HasPosition solved.now number pos }
+{
+    solved.fact_contexts_are_needed();
+    let function = solved.context(number).function;
+    let game = solved.game();
+    game.entry(function).0 <= pos && pos <= game.exit(function).0
+}
+
 impl Entries {
     /// The entries of all contexts.
-    pub(crate) fn make(alloc: Global, solved: &Solved) -> Result<Entries, AllocError>
+    pub(crate) fn make(
+        alloc: Global,
+        solved: &Solved,
+        aims: &[StateSet],
+    ) -> Result<Entries, AllocError>
         requires routed { AreRouted (game_of solved.now.game) (length solved.now.game.graph.parts.items) }
+        requires ascend { Ascend aims.now }
+        ensures { IfOk result (λ e. AreNumbered solved.now aims.now e.numbers.items) }
     {
         let mut entries = Vec::new(alloc);
         for number in 0..solved.contexts() {
@@ -63,7 +101,35 @@ impl Entries {
         }
         entries.sort()?;
         let firsts = firsts_of(alloc, &entries)?;
-        Ok(Entries { entries, firsts })
+        let numbers = numbers_of(alloc, solved, aims)?;
+        Ok(Entries {
+            entries,
+            firsts,
+            numbers,
+        })
+    }
+
+    /// Whether the context of a number has a key, by the number of the key's aim.
+    #[inline(always)]
+    pub(crate) fn has(
+        &self,
+        solved: &Solved,
+        aims: &[StateSet],
+        number: u32,
+        key: &SmallKey,
+    ) -> bool
+        requires routed { AreRouted (game_of solved.now.game) (length solved.now.game.graph.parts.items) }
+        requires numbered { AreNumbered solved.now aims.now self.now.numbers.items }
+        requires aim { key.now.aim < length aims.now }
+        requires state { key.now.state < (game_of solved.now.game).states.count }
+        ensures { IsTrue result → IsIn solved.now number (slice_index aims.now key.now.aim) key.now.pos key.now.state }
+    {
+        let _ = aims;
+        solved.fact_contexts_are_needed();
+        match self.numbers.get(number as usize) {
+            Some(aim) if *aim == key.aim => has_position(solved, number, key.pos),
+            _ => false,
+        }
     }
 
     /// The number of the one context that may have a position and the aim of this number, as aims stand in order.

@@ -6,12 +6,12 @@ ghost use Rattle.cw_fixpoint.specs.Numbers.{number_in};
 ghost use Rattle.cw_product.specs.Product.{game_of};
 ghost use Rattle.cw_product.specs.Routed.{AreRouted};
 ghost use Rattle.cw_game.specs.Pairs.{has};
-ghost use Rattle.cw_least_strategy.specs.Acts.{IsIn, key_at};
+ghost use Rattle.cw_least_strategy.specs.Acts.{IsIn, key_at, key_of};
 ghost use Rattle.cw_least_strategy.specs.Heights.{others, height_within};
 ghost use Rattle.cw_least_strategy.specs.Small.{small};
 ghost use Rattle.cw_least_strategy.specs.Strategies.{below};
 
-use crate::key::{Key, SmallKey};
+use crate::key::{Key, LentKey, SmallKey};
 use cw_core::{PosId, StateId, StateSet};
 use cw_product::Game;
 use cw_solve::Solved;
@@ -48,7 +48,7 @@ fn height_within(
 pub(crate) fn below(
     solved: &Solved,
     number: u32,
-    key: &Key,
+    key: &LentKey,
     pos: PosId,
     state: StateId,
     aim: StateSet,
@@ -56,7 +56,7 @@ pub(crate) fn below(
     requires routed { AreRouted (game_of solved.now.game) (length solved.now.game.graph.parts.items) }
     requires here { IsIn solved.now number aim pos.0 state.0 }
     requires positive { 0 < key.now.height }
-    ensures { result ≡ below (game_of solved.now.game) key.now pos.0 state.0 aim }
+    ensures { result ≡ below (game_of solved.now.game) (key_of key.now) pos.0 state.0 aim }
 {
     Key {
         height: height_within(solved, number, key.height - 1, pos, state, &aim),
@@ -107,18 +107,18 @@ impl Lower {
 pub(crate) fn lower_pair(
     solved: &Solved,
     number: u32,
-    key: &Key,
+    key: &LentKey,
     pos: PosId,
     state: StateId,
 ) -> Lower
     requires routed { AreRouted (game_of solved.now.game) (length solved.now.game.graph.parts.items) }
-    requires here { IsIn solved.now number key.now.aim pos.0 state.0 }
+    requires here { IsIn solved.now number key.now.aim.now pos.0 state.0 }
     requires positive { 0 < key.now.height }
-    ensures { key_at key.now.aim result ≡ below (game_of solved.now.game) key.now pos.0 state.0 key.now.aim }
+    ensures { key_at key.now.aim.now result ≡ below (game_of solved.now.game) (key_of key.now) pos.0 state.0 key.now.aim.now }
 {
     Lower {
         pos,
         state,
-        height: height_within(solved, number, key.height - 1, pos, state, &key.aim),
+        height: height_within(solved, number, key.height - 1, pos, state, key.aim),
     }
 }

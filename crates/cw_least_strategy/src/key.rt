@@ -14,6 +14,15 @@ pub struct Key {
     pub aim: StateSet,
 }
 
+/// A key whose aim is lent, as a copy of an aim costs more than the rest of a key.
+#[derive(Clone, Copy, Drop)]
+pub(crate) struct LentKey<'a> {
+    pub height: u32,
+    pub pos: u32,
+    pub state: u16,
+    pub aim: &'a StateSet,
+}
+
 /// A key with its aim by number: the index of the aim among those of all contexts, ascending. So small keys are in the order of
 /// the keys that they stand for.
 #[derive(Clone, Copy, Drop, PartialEq, Eq, PartialOrd, Ord)]

@@ -3,13 +3,14 @@
 
 mod acts;
 mod aims;
-mod certificate;
+pub mod certificate;
 mod contexts;
 mod heights;
 pub mod key;
 pub mod laws;
 mod named;
 mod rows;
+mod search;
 mod strategy;
 pub mod table;
 

@@ -1,21 +1,18 @@
 //! What the rows of a strategy do.
 
-ghost use Rattle.std.specs.Prelude.{◌≡◌, ◌+◌, ◌<◌, ◌≤◌, map, length, slice_get, sum_by, Contains, IsTrue, IfOk, IfSome, IfNone, Some};
+ghost use Rattle.std.specs.Prelude.{◌≡◌, ◌+◌, ◌<◌, ◌≤◌, map, length, slice_get, sum_by, IsTrue, IfOk, IfSome, IfNone, Some};
 ghost use Rattle.std.specs.List.Sorted.{IsStrictlySortedBy};
 ghost use Rattle.std.specs.Ordering.{nat_cmp};
 ghost use Rattle.cw_certs.specs.Strategies.{how_of};
 ghost use Rattle.cw_fixpoint.specs.Numbers.{number_in};
 ghost use Rattle.cw_product.specs.Product.{game_of};
-ghost use Rattle.cw_product.specs.Routed.{AreRouted};
 ghost use Rattle.cw_least_strategy.specs.Acts.{act_of, key_at};
-ghost use Rattle.cw_least_strategy.specs.Kept.{IsKey};
-ghost use Rattle.cw_least_strategy.specs.Small.{small_cmp, whole, wholes, backs_for, AreRanked};
-ghost use Rattle.cw_least_strategy.specs.Parts.{how_in};
-ghost use Rattle.cw_least_strategy.specs.Strategies.{number, act, how_by, backs_in};
+ghost use Rattle.cw_least_strategy.specs.Small.{small_cmp, wholes, backs_for, AreRanked};
+ghost use Rattle.cw_least_strategy.specs.Parts.{how_in, AreDone, IsDone};
+ghost use Rattle.cw_least_strategy.specs.Strategies.{number, how_by, backs_in};
 
-use crate::acts::{Act, act_at};
-use crate::aims::{small, whole};
-use crate::contexts::Entries;
+use crate::acts::Act;
+use crate::aims::small;
 use crate::heights::Lower;
 use crate::key::{Key, SmallKey};
 use cw_certs::How;
@@ -26,6 +23,7 @@ use cw_solve::Solved;
 use std::alloc::{AllocError, Global};
 
 /// Whether a key stands at an index.
+#[inline(always)]
 fn stands_at(keys: &[SmallKey], index: usize, wanted: &SmallKey) -> bool
     ensures { IsTrue result → slice_get keys.now index ≡ Some wanted.now }
 {
@@ -40,9 +38,20 @@ fn stands_at(keys: &[SmallKey], index: usize, wanted: &SmallKey) -> bool
     }
 }
 
-/// The index of a small key among the keys, and how many they are where it is none of them. The key before an index is looked at
-/// first, as most rows name the row before them.
+/// The index of a small key among the keys, and how many they are where it is none of them.
 #[tactic(auto, using(crate::proofs::Small::small_exact))]
+#[cold]
+#[inline(never)]
+fn searched(keys: &[SmallKey], wanted: &SmallKey) -> usize
+    requires order { IsStrictlySortedBy small_cmp keys.now }
+    ensures is { result ≡ number_in small_cmp keys.now wanted.now }
+    ensures within { result ≤ length keys.now }
+{
+    number_of(keys, wanted)
+}
+
+/// The same. The key before an index is looked at first, as most rows name the row before them.
+#[inline(always)]
 fn index_of(keys: &[SmallKey], wanted: &SmallKey, index: usize) -> usize
     requires order { IsStrictlySortedBy small_cmp keys.now }
     ensures is { result ≡ number_in small_cmp keys.now wanted.now }
@@ -52,7 +61,7 @@ fn index_of(keys: &[SmallKey], wanted: &SmallKey, index: usize) -> usize
     if stands_at(keys, before, wanted) {
         before
     } else {
-        number_of(keys, wanted)
+        searched(keys, wanted)
     }
 }
 
@@ -66,6 +75,7 @@ fn number(aims: &[StateSet], keys: &[SmallKey], key: &Key) -> u32
 }
 
 /// The same of a pair, for an aim that has this number, named at the key of an index.
+#[inline(always)]
 fn lower_number(
     aims: &[StateSet],
     keys: &[SmallKey],
@@ -106,52 +116,51 @@ fn how_by(
     aim: &StateSet,
     near: u32,
     index: usize,
-    act: Act,
+    act: &Act,
 ) -> Result<How, AllocError>
     requires ranked { AreRanked aims.now keys.now }
     requires near { number_in nat_cmp aims.now aim.now ≡ near }
-    ensures { IfOk result (λ h. how_of h ≡ how_by (wholes aims.now keys.now) (act_of aim.now act)) }
+    ensures { IfOk result (λ h. how_of h ≡ how_by (wholes aims.now keys.now) (act_of aim.now act.now)) }
 {
     match act {
         Act::Bad => Ok(How::Bad),
         Act::Out => Ok(How::Out),
         Act::Both { skip, tried } => Ok(How::Both {
-            skip: lower_number(aims, keys, aim, near, index, skip),
-            tried: lower_number(aims, keys, aim, near, index, tried),
+            skip: lower_number(aims, keys, aim, near, index, *skip),
+            tried: lower_number(aims, keys, aim, near, index, *tried),
         }),
         Act::Go(lead) => Ok(How::Go {
             by: lead.by,
             row: lower_number(aims, keys, aim, near, index, lead.to),
         }),
         Act::Into { callee, backs } => {
-            let backs = numbered(alloc, aims, keys, &backs)?;
+            let backs = numbered(alloc, aims, keys, backs)?;
             Ok(How::Into {
-                callee: number(aims, keys, &callee),
+                callee: number(aims, keys, callee),
                 backs,
             })
         }
     }
 }
 
-/// What the row of the key of an index does, whose aim has this number.
+/// What the row of a key of an index does, at which this is done.
 fn how_at(
     alloc: Global,
     solved: &Solved,
-    entries: &Entries,
     aims: &[StateSet],
     keys: &[SmallKey],
-    key: &Key,
-    near: u32,
+    key: &SmallKey,
     index: usize,
+    act: &Act,
 ) -> Result<How, AllocError>
-    requires routed { AreRouted (game_of solved.now.game) (length solved.now.game.graph.parts.items) }
-    requires key { IsKey (game_of solved.now.game) (length solved.now.game.graph.parts.items) key.now }
     requires ranked { AreRanked aims.now keys.now }
-    requires near { number_in nat_cmp aims.now key.now.aim ≡ near }
-    ensures { IfOk result (λ h. how_of h ≡ how_by (wholes aims.now keys.now) (act (game_of solved.now.game) key.now)) }
+    requires within { key.now.aim < length aims.now }
+    requires done { IsDone (game_of solved.now.game) aims.now key.now act.now }
+    ensures { IfOk result (λ h. how_of h ≡ how_in (game_of solved.now.game) aims.now keys.now key.now) }
 {
-    let act = act_at(alloc, solved, entries, key, near)?;
-    how_by(alloc, aims, keys, &key.aim, near, index, act)
+    let _ = solved;
+    let aim = &aims[key.aim as usize];
+    how_by(alloc, aims, keys, aim, key.aim, index, act)
 }
 
 /// How many backs a row has.
@@ -164,41 +173,32 @@ fn backs_in(how: &How) -> usize
     }
 }
 
-/// What the rows of the keys do; none where they and their backs are more than 65,536.
+/// What the rows of the keys do, at which this is done; none where they and their backs are more than 65,536.
 pub(crate) fn hows_within(
     alloc: Global,
     solved: &Solved,
-    entries: &Entries,
     aims: &[StateSet],
     keys: &[SmallKey],
+    acts: &[Act],
 ) -> Result<Option<Vec<How>>, AllocError>
-    requires routed { AreRouted (game_of solved.now.game) (length solved.now.game.graph.parts.items) }
-    requires keys { (k : SmallKey) → Contains keys.now k → IsKey (game_of solved.now.game) (length solved.now.game.graph.parts.items) (whole aims.now k) }
     requires ranked { AreRanked aims.now keys.now }
+    requires done { AreDone (game_of solved.now.game) aims.now keys.now acts.now }
     ensures hows { IfOk result (λ o. IfSome o (λ v. map how_of v.items ≡ map (how_in (game_of solved.now.game) aims.now keys.now) keys.now)) }
     ensures few { IfOk result (λ o. IfSome o (λ _. length keys.now + sum_by (backs_for (game_of solved.now.game) aims.now keys.now) keys.now ≤ ROWS)) }
     ensures many { IfOk result (λ o. IfNone o (ROWS < length keys.now + sum_by (backs_for (game_of solved.now.game) aims.now keys.now) keys.now)) }
 {
     let mut hows = Vec::with_capacity(alloc, keys.len())?;
     let mut left = ROWS - keys.len();
-    for named in keys {
-        let key = whole(aims, named);
-        let how = how_at(
-            alloc,
-            solved,
-            entries,
-            aims,
-            keys,
-            &key,
-            named.aim,
-            hows.len(),
-        )?;
+    let mut index = 0;
+    for key in keys {
+        let how = how_at(alloc, solved, aims, keys, key, index, &acts[index])?;
         let backs = backs_in(&how);
         if left < backs {
             return Ok(None);
         }
         left -= backs;
         hows.push(how)?;
+        index += 1;
     }
     Ok(Some(hows))
 }

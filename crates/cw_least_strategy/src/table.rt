@@ -17,13 +17,12 @@ use crate::aims::{aims_of, small};
 use crate::certificate::certificate;
 use crate::contexts::Entries;
 use crate::key::{Key, SmallKey};
-use crate::named::Named;
 use crate::rows::hows_within;
+use crate::search::done_up_to;
 use crate::strategy::LeastStrategy;
 use cw_certs::{EnvCert, How};
 use cw_core::StateSet;
 use cw_core::limits::ROWS;
-use cw_fixpoint::descended_up_to;
 use cw_product::Game;
 use cw_solve::{Solved, TableFault};
 use std::alloc::{AllocError, Global};
@@ -70,17 +69,11 @@ fn parts_within(
     ensures parts { IfOk result (λ o. IfSome o (λ (keys, hows). AreParts (game_of solved.now.game) aims.now start.now keys.items hows.items)) }
     ensures many { IfOk result (λ o. IfNone o ((s : Strategy) → IsLeastStrategy (game_of solved.now.game) s → ROWS < rows_of s)) }
 {
-    let entries = Entries::make(alloc, solved)?;
+    let entries = Entries::make(alloc, solved, aims)?;
     let first = small(aims, start);
-    let named = Named {
-        alloc,
-        solved,
-        entries,
-        aims,
-    };
-    match descended_up_to(alloc, &named, &[first], ROWS)? {
+    match done_up_to(alloc, solved, &entries, aims, first, ROWS)? {
         None => Ok(None),
-        Some(keys) => match hows_within(alloc, solved, &named.entries, aims, &keys)? {
+        Some((keys, acts)) => match hows_within(alloc, solved, aims, &keys, &acts)? {
             None => Ok(None),
             Some(hows) => Ok(Some((keys, hows))),
         },

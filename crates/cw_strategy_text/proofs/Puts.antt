@@ -1,10 +1,12 @@
 -- Lines as they are put.
-use Rattle.std.proofs.Common.{◌≡◌, ℕ, zero, suc, ◌+◌, List, [], ◌∷◌, ◌++◌, Some, take, sym, ap, ◌∙◌, arith, append-nil, append_assoc, add-one}
+use Rattle.std.proofs.Common.{◌≡◌, ℕ, zero, suc, ◌+◌, List, [], ◌∷◌, ◌++◌, Bool, true, false, cond, Some, take, refl, sym, ap, ◌∙◌, arith, append-nil, append_assoc, add-one}
 use Rattle.std.specs.List.{flat_map}
-use Rattle.std.specs.Prelude.{codes, slice_get}
+use Rattle.std.specs.Prelude.{◌==◌, codes, slice_get}
 use Rattle.std.proofs.lemmas.Option.{same_Some, none-some}
 use Rattle.std.specs.Fmt.{decimal}
 use Rattle.cw_certs.specs.Strategies.{Row, Strategy}
+use Rattle.cw_core.specs.Numerals.{hexadecimal, hexadecimal_digits}
+use Rattle.cw_core.specs.Ranges.{set_spelling}
 use Rattle.cw_text.specs.Lines.{line, joined, set_text, states_line, end_line}
 use Rattle.cw_strategy_text.specs.StrategyText.{head_line, how_fields, row_line, row_lines, strategy_text}
 use Rattle.cw_strategy_text.specs.Fields.{put_line}
@@ -92,3 +94,12 @@ pub strategy_put : (format : ℕ) (s : Strategy) (t0 t1 t2 t3 : List ℕ) → t1
     → t3 ≡ t0 ++ strategy_text format s
 unfolding strategy_text
 strategy_put format s t0 t1 t2 t3 h0 h1 h2 = rw (h2, h1, h0) (regrouped t0 (head_line format) (states_line s.states) (row_lines format 0 s.rows) end_line)
+
+-- the empty set is spelled the same in each format
+same_or : (b : Bool) (text : List ℕ) → text ≡ cond b text text
+same_or true text = refl
+same_or false text = refl
+
+pub empty_put : (format set : ℕ) (old new : List ℕ) → set ≡ 0 → new ≡ old ++ codes "0x0" → new ≡ old ++ set_text format set
+unfolding set_text set_spelling hexadecimal hexadecimal_digits
+empty_put format set old new none put = put ∙ ap (λ (l : List ℕ). old ++ l) (same_or (format == 2) (codes "0x0")) ∙ ap (λ (n : ℕ). old ++ set_text format n) (sym none)

@@ -125,7 +125,21 @@ fn put_row_head<S: Sink>(
     writer.put(b" ", out);
     writer.put_number(u64::from(at.1.0), out);
     writer.put(b" ", out);
-    put_set(aim, format, writer, out);
+    put_aim(aim, format, writer, out);
+}
+
+/// Appends an aim. Most are empty, and no format has ranges for that.
+fn put_aim<S: Sink>(aim: &StateSet, format: u8, writer: &mut Writer<S>, out: &mut S)
+    requires follows { Follows S.taken S.faults S.refused writer.old out.old }
+    ensures text { writer.new.text ≡ writer.old.text ++ set_text format aim.now }
+    ensures begun { writer.new.begun ≡ writer.old.begun }
+    ensures follows { Follows S.taken S.faults S.refused writer.new out.new }
+{
+    if *aim == StateSet::empty() {
+        writer.put(b"0x0", out);
+    } else {
+        put_set(aim, format, writer, out);
+    }
 }
 
 /// Appends what a row does, each field after a space.

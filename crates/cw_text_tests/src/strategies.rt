@@ -437,7 +437,7 @@ fn text_of(rt: &impl Abort, alloc: Global, cert: &EnvCert, format: u8) -> SureSi
 }
 
 /// Asserts what a sink answers whose puts of these numbers fail, what it has then, and that the longest piece has at least so many
-/// bytes and at most 4,096.
+/// bytes and at most 1,024.
 fn is_printed(
     rt: &impl Abort,
     alloc: Global,
@@ -451,7 +451,7 @@ fn is_printed(
     let mut sink = MemSink::make(alloc, failing);
     assert!(rt; print_env(cert, 1, &mut sink) == want);
     assert!(rt; sink.bytes() == bytes);
-    assert!(rt; least <= sink.longest() && sink.longest() <= 4096);
+    assert!(rt; least <= sink.longest() && sink.longest() <= 1024);
 }
 
 #[test]
@@ -474,16 +474,16 @@ fn front_of(bytes: &[u8], count: usize) -> &[u8] {
     }
 }
 
-/// A long text is put in pieces of 4,096 bytes; after one that fails nothing more is put.
+/// A long text is put in pieces of 1,024 bytes; after one that fails nothing more is put.
 #[test]
 fn put_in_pieces(rt: HostRuntime) {
     let alloc = rt.alloc();
     let cert = rows_from(&rt, alloc, 0, 600);
     let whole = text_of(&rt, alloc, &cert, 1);
     let bytes = whole.bytes();
-    assert!(rt; bytes.len() > 3 * 4096);
-    is_printed(&rt, alloc, &cert, &[], Ok(()), bytes, 4096);
-    let half = front_of(bytes, 4096 + 2048);
+    assert!(rt; bytes.len() > 3 * 1024);
+    is_printed(&rt, alloc, &cert, &[], Ok(()), bytes, 1024);
+    let half = front_of(bytes, 1024 + 512);
     is_printed(&rt, alloc, &cert, &[1], Err(SinkFault::Failed), half, 0);
     forget(cert);
 }

@@ -4,7 +4,7 @@ use Rattle.cw_solve.proofs.Calling.{the_call, called}
 use Rattle.std.specs.Prelude.{slice_get}
 use Rattle.cw_core.specs.declared.ids.StateId.{StateId}
 use Rattle.cw_least_strategy.specs.declared.key.Key.{Key}
-use Rattle.cw_least_strategy.specs.Acts.{IsThere}
+use Rattle.cw_least_strategy.specs.Acts.{IsThere, key_of}
 use Rattle.cw_least_strategy.specs.Strategies.{below}
 use Rattle.cw_least_strategy.proofs.Acting.{callee_in, into_act}
 use Rattle.cw_least_strategy.proofs.acts.into.Goals as goal
@@ -12,7 +12,7 @@ use Rattle.cw_least_strategy.proofs.acts.into.Goals as goal
 pub entry-pos-requires : goal.entry-pos-requires
 entry-pos-requires c =
     let g = game_of c.args.solved.now.game in
-    let k = c.args.key.now in
+    let k = key_of c.args.key.now in
     let j = c.requires.call.0 in
     rw c.game.ensures (c.requires.routed.called k.pos (the_call j c.args.function c.args.back.0 c.args.split)
     (called (slice_get g.spots k.pos) c.args.split j c.args.function c.args.back.0 c.requires.call.1)).below
@@ -20,7 +20,7 @@ entry-pos-requires c =
 pub context_of-requires-clause-there : goal.context_of-requires-clause-there
 context_of-requires-clause-there c =
     let g = game_of c.args.solved.now.game in
-    let k = c.args.key.now in
+    let k = key_of c.args.key.now in
     let j = c.requires.call.0 in
     let call = the_call j c.args.function c.args.back.0 c.args.split in
     let es = called (slice_get g.spots k.pos) c.args.split j c.args.function c.args.back.0 c.requires.call.1 in
@@ -31,7 +31,7 @@ context_of-requires-clause-there c =
 pub returns : goal.returns
 returns c =
     let g = game_of c.args.solved.now.game in
-    let k = c.args.key.now in
+    let k = key_of c.args.key.now in
     let j = c.requires.call.0 in
     let call = the_call j c.args.function c.args.back.0 c.args.split in
     let es = called (slice_get g.spots k.pos) c.args.split j c.args.function c.args.back.0 c.requires.call.1 in

@@ -6,8 +6,9 @@ use Rattle.cw_least_strategy.specs.Parts.{how_in}
 use Rattle.cw_least_strategy.specs.Small.{backs_for}
 use Rattle.cw_least_strategy.proofs.rows.hows_within.Given as goal
 
-abbrev pub invariant-loop-named : goal.invariant-loop-named
-invariant-loop-named l = record {
-  hows : map how_of l.hows.items ≡ map (how_in (game_of l.solved.game) l.aims l.keys) (take l.named-index l.keys);
-  left : l.left + (length l.keys + sum_by (backs_for (game_of l.solved.game) l.aims l.keys) (take l.named-index l.keys)) ≡ 65536;
+abbrev pub invariant-loop-key : goal.invariant-loop-key
+invariant-loop-key l = record {
+  place : l.index ≡ l.key-index;
+  hows : map how_of l.hows.items ≡ map (how_in (game_of l.solved.game) l.aims l.keys) (take l.key-index l.keys);
+  left : l.left + (length l.keys + sum_by (backs_for (game_of l.solved.game) l.aims l.keys) (take l.key-index l.keys)) ≡ 65536;
 }

@@ -2,31 +2,28 @@ use Rattle.std.proofs.Common.{rules, ◌≡◌, ◌+◌, ◌<◌, ◌≤◌, Lis
 use Rattle.std.specs.Prelude.{sum_by, Contains}
 use Rattle.cw_certs.specs.Strategies.{how_of}
 use Rattle.cw_fixpoint.specs.Closures.{Reached, Exactly, HasMore}
+use Rattle.cw_lemmas.proofs.Lists.{head_in}
 use Rattle.cw_product.specs.Product.{game_of}
 use Rattle.cw_least_strategy.specs.declared.key.SmallKey.{SmallKey}
-use Rattle.cw_least_strategy.specs.Kept.{IsKey}
-use Rattle.cw_least_strategy.specs.Small.{whole, small_cmp, small_named, wholes, backs_for, AreRanked}
-use Rattle.cw_least_strategy.specs.Parts.{how_in}
-use Rattle.cw_least_strategy.proofs.Small.{start_taken, small_descends, whole_is, ranked, exactly_whole, more_whole, counted}
+use Rattle.cw_least_strategy.specs.Small.{small, small_cmp, small_named, wholes, backs_for, AreRanked}
+use Rattle.cw_least_strategy.specs.Parts.{how_in, AreDone}
+use Rattle.cw_least_strategy.proofs.Small.{start_taken, ranked, exactly_whole, more_whole, counted}
 use Rattle.cw_least_strategy.proofs.Tabled.{routed, start_followed, keys_many, rows_many}
 use Rattle.cw_least_strategy.proofs.table.parts_within.Goals as goal
 
 pub make-requires : goal.make-requires
-make-requires c = record { routed = routed c.args.solved.now c.requires.made }
+make-requires c = record { routed = routed c.args.solved.now c.requires.made; ascend = c.requires.aims.ascend }
 
 pub small-first-requires : goal.small-first-requires
 small-first-requires c = record { ascend = c.requires.aims.ascend }
 
-pub descended_up_to-requires-clause-can : goal.descended_up_to-requires-clause-can
-descended_up_to-requires-clause-can c =
+pub done_up_to-requires-clause-can : goal.done_up_to-requires-clause-can
+done_up_to-requires-clause-can c =
     let h = c.args.solved.now in
     let s = c.args.start.now in
     let aims = c.args.aims.now in
-    let are = c.requires.aims in
-    λ k i. start_taken h aims are s (start_followed h c.requires.made s c.requires.start) k (subst (λ (x : SmallKey). Contains (x ∷ []) k) c.small-first.ensures i)
-
-pub descended_up_to-requires-clause-descend : goal.descended_up_to-requires-clause-descend
-descended_up_to-requires-clause-descend c = λ k q can i. small_descends c.args.solved.now c.args.aims.now k can q i
+    start_taken h aims c.requires.aims s (start_followed h c.requires.made s c.requires.start) c.small-first.result
+    (subst (λ (x : SmallKey). Contains (small aims s ∷ []) x) (sym c.small-first.ensures) (head_in (small aims s) []))
 
 pub returns-in-None-clause-many : goal.returns-in-None-clause-many
 returns-in-None-clause-many c =
@@ -38,23 +35,6 @@ returns-in-None-clause-many c =
     keys_many h c.requires.made s c.requires.start 65536
     (more_whole h aims are s (start_followed h c.requires.made s c.requires.start) 65536
     (subst (λ (x : SmallKey). HasMore small_cmp (Reached (small_named (game_of h.game) aims) (x ∷ [])) 65536) c.small-first.ensures more))
-
-pub hows_within-requires-clause-routed : goal.hows_within-requires-clause-routed
-hows_within-requires-clause-routed c = routed c.args.solved.now c.requires.made
-
-pub hows_within-requires-clause-keys : goal.hows_within-requires-clause-keys
-hows_within-requires-clause-keys c =
-    let h = c.args.solved.now in
-    let g = game_of h.game in
-    let s = c.args.start.now in
-    let aims = c.args.aims.now in
-    let are = c.requires.aims in
-    let keys = c.in-Some.keys.items in
-    let given : Exactly small_cmp (Reached (small_named g aims) (c.small-first.result ∷ [])) keys = search rules in
-    let exactly = subst (λ (x : SmallKey). Exactly small_cmp (Reached (small_named g aims) (x ∷ [])) keys) c.small-first.ensures given in
-    let followed = start_followed h c.requires.made s c.requires.start in
-    subst (λ (l : List SmallKey). (k : SmallKey) → Contains l k → IsKey g (length h.game.graph.parts.items) (whole aims k)) (sym c.deref.ensures.value)
-    (λ k i. whole_is h aims are s followed k ((exactly.1 k).0 i))
 
 pub hows_within-requires-clause-ranked : goal.hows_within-requires-clause-ranked
 hows_within-requires-clause-ranked c =
@@ -68,6 +48,15 @@ hows_within-requires-clause-ranked c =
     let exactly = subst (λ (x : SmallKey). Exactly small_cmp (Reached (small_named g aims) (x ∷ [])) keys) c.small-first.ensures given in
     let followed = start_followed h c.requires.made s c.requires.start in
     subst (λ (l : List SmallKey). AreRanked aims l) (sym c.deref.ensures.value) (ranked h aims are s followed keys exactly (search rules))
+
+pub hows_within-requires-clause-done : goal.hows_within-requires-clause-done
+hows_within-requires-clause-done c =
+    let g = game_of c.args.solved.now.game in
+    let aims = c.args.aims.now in
+    let keys = c.in-Some.keys.items in
+    let acts = c.in-Some.acts.items in
+    let done : AreDone g aims keys acts = search rules in
+    subst (λ l. AreDone g aims l c.deref-in-Some.result.now) (sym c.deref.ensures.value) (subst (λ l. AreDone g aims keys l) (sym c.deref-in-Some.ensures.value) done)
 
 pub returns-in-None-2-clause-many : goal.returns-in-None-2-clause-many
 returns-in-None-2-clause-many c =
