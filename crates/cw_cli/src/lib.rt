@@ -5,7 +5,6 @@ mod command;
 mod due;
 pub mod laws;
 mod listing;
-mod rechecking;
 mod sampling;
 mod telling;
 mod weaving;

@@ -113,7 +113,7 @@ const WEAVE: [&str; 3] = ["weave", "p.toml", "s.c"];
 /// How a woven text begins.
 const FRONT: &str = "/*cw{*/\n#include \"capweave.h\"\n";
 
-/// The text has 19,793 bytes, which are four pieces of 4,096 and one of 3,409: of a piece that fails the first half is put.
+/// The text has 19,793 bytes, which are nineteen pieces of 1,024 and one of 337: of a piece that fails the first half is put.
 #[test]
 fn a_long_text_goes_out_in_pieces_each_of_which_may_fail(rt: HostRuntime) {
     all_fail(
@@ -122,12 +122,12 @@ fn a_long_text_goes_out_in_pieces_each_of_which_may_fail(rt: HostRuntime) {
         &[SUMS_POLICY, SUMS],
         &NO_EDIT,
         &[
-            (&WEAVE, [9, 0, 9], 7, FRONT, 2_048, "write\n"),
-            (&WEAVE, [9, 1, 9], 7, FRONT, 6_144, "write\n"),
-            (&WEAVE, [9, 2, 9], 7, FRONT, 10_240, "write\n"),
-            (&WEAVE, [9, 3, 9], 7, FRONT, 14_336, "write\n"),
-            (&WEAVE, [9, 4, 9], 7, FRONT, 18_088, "write\n"),
-            (&WEAVE, [9, 5, 9], 0, FRONT, 19_793, ""),
+            (&WEAVE, [9, 0, 9], 7, FRONT, 512, "write\n"),
+            (&WEAVE, [9, 1, 9], 7, FRONT, 1_536, "write\n"),
+            (&WEAVE, [9, 10, 9], 7, FRONT, 10_752, "write\n"),
+            (&WEAVE, [9, 18, 9], 7, FRONT, 18_944, "write\n"),
+            (&WEAVE, [9, 19, 9], 7, FRONT, 19_624, "write\n"),
+            (&WEAVE, [9, 20, 9], 0, FRONT, 19_793, ""),
         ],
     );
 }

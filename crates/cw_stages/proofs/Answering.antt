@@ -6,15 +6,16 @@ use Rattle.cw_rights.specs.Policies.{PlainPolicy}
 use Rattle.cw_syntax.specs.Trees.{File}
 use Rattle.cw_policy.specs.Answer.{Spells}
 use Rattle.cw_commands.specs.declared.outcome.Outcome.{Outcome}
-use Rattle.cw_commands.specs.Outcomes.{due_of, Due}
+use Rattle.cw_commands.specs.Outcomes.{due_of, Due, Told}
 use Rattle.cw_commands.specs.Starts.{Begins, Starts}
 use Rattle.cw_commands.proofs.Starting.{unput}
 use Rattle.cw_stages.specs.Reading.{AfterReading, WithSource}
 use Rattle.cw_stages.specs.declared.numbers.Numbers.{Numbers}
 use Rattle.cw_stages.specs.declared.stop.Stop.{Stop}
+use Rattle.cw_stages.specs.declared.told.Count.{Count}
 use Rattle.cw_stages.specs.declared.told.Text.{Text}
 use Rattle.cw_stages.specs.declared.told.Verdict.{Verdict}
-use Rattle.cw_stages.specs.Stops.{told_of, Answers, Decides, IsEnded, StartsText}
+use Rattle.cw_stages.specs.Stops.{told_of, Answers, Counts, Decides, IsEnded, StartsText}
 
 module _ (whole : PlainPolicy) (source : List ℕ) where
   pub weaker : {O : Type 0} (Is Wide : Due → Type 0) (r : Result (Text O) Stop) → ((due : Due) → Is due → Wide due) → Answers whole source Is r → Answers whole source Wide r
@@ -25,6 +26,11 @@ module _ (whole : PlainPolicy) (source : List ℕ) where
       → ((due : Due) → IsRefusal due → IsWide due) → Decides whole source Is IsRefusal r → Decides whole source Wide IsWide r
   wider Is Wide IsRefusal IsWide (Ok verdict) h k a = h verdict.numbers (told_of verdict.text) a
   wider Is Wide IsRefusal IsWide (Err stop) h k a = λ due d. k due (a due d)
+
+  pub wider_count : (Is Wide : Numbers → Due → Type 0) (IsRefusal IsWide : Due → Type 0) (r : Result Count Stop) → ((numbers : Numbers) (due : Due) → Is numbers due → Wide numbers due)
+      → ((due : Due) → IsRefusal due → IsWide due) → Counts whole source Is IsRefusal r → Counts whole source Wide IsWide r
+  wider_count Is Wide IsRefusal IsWide (Ok count) h k a = (a.0, h count.numbers (Told count.reply a.0) a.1)
+  wider_count Is Wide IsRefusal IsWide (Err stop) h k a = λ due d. k due (a due d)
 
   pub ended_due : {O N E : Type 0} (Is : Due → Type 0) (r : Result (Text O) Stop) (result : Result (Outcome O N) E) → IsEnded whole source r result
       → Answers whole source Is r → IfOk result (λ o. Is (due_of o))

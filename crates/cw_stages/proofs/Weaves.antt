@@ -1,7 +1,8 @@
 -- What is woven and what is refuted, from what the crates below give.
-use Rattle.std.proofs.Common.{◌≡◌, ℕ, ◌≤◌, List, [], length, map, refl, sym, subst}
+use Rattle.std.proofs.Common.{◌≡◌, ℕ, ◌≤◌, List, [], arith, length, map, refl, sym, subst}
 use Rattle.std.specs.Prelude.{codes}
 use Rattle.cw_rights.specs.Policies.{PlainPolicy}
+use Rattle.cw_rights.specs.Valid.{IsValid}
 use Rattle.cw_syntax.specs.declared.marks.SeamMark.{SeamMark as MarkData}
 use Rattle.cw_syntax.specs.Marks.{mark_of, marks_of}
 use Rattle.cw_syntax.specs.Plans.{plan_of}
@@ -21,17 +22,21 @@ use Rattle.cw_game.proofs.Goods.{good_closed}
 use Rattle.cw_echeck.proofs.Laws.{all_beat}
 use Rattle.cw_emit.specs.Cut.{cut}
 use Rattle.cw_syntax.specs.PlainMarks.{HasNone}
-use Rattle.cw_emit.specs.Woven.{Stands}
+use Rattle.cw_emit.specs.Woven.{woven_text, Stands}
+use Rattle.cw_emit.proofs.Cutting.{cut_of_woven}
+use Rattle.cw_emit.proofs.Names.{valid_names}
 use Rattle.cw_syntax.specs.PlainMarks.{ArePlainMarks}
 use Rattle.cw_lazy_table.specs.Lazy.{IsLazyTable, table_rows}
 use Rattle.cw_least_strategy.specs.Backs.{BacksAscend}
 use Rattle.cw_least_strategy.specs.Strategies.{IsLeastStrategy, rows_of}
 use Rattle.cw_source_laws.proofs.Marked.{plain_marks}
+use Rattle.cw_source.proofs.Marking.{marks_in_order}
 use Rattle.cw_source.proofs.Unmarked.{no_marker}
 use Rattle.cw_source.specs.Read.{ReadsAs}
 use Rattle.cw_strategy_text.specs.StrategyText.{strategy_text}
 use Rattle.cw_model.proofs.Beaten.{beaten_is_forced}
 use Rattle.cw_wcheck.proofs.Lazies.{lazy}
+use Rattle.cw_wcheck.specs.Checking.{HasFewRows}
 use Rattle.cw_model.proofs.Running.{never_forced}
 use Rattle.cw_wcheck.proofs.Sounds.{sound}
 use Rattle.cw_stages.specs.Verdicts.{IsRefuted, IsWoven}
@@ -72,6 +77,43 @@ is_woven whole source file g marks table bytes reads of same written made holds 
       },
       refl,
     )
+
+-- the text of a table that isn't put
+pub woven_unput : (whole : PlainPolicy) (source : List ℕ) (file : File) (g : Game) (table : Table) → IsValid whole → ReadsAs source file → IsGameOf (problem_of whole source file) g
+    → IsMadeTable g table → Sound (problem_of whole source file) table
+    → (text : List ℕ) × (woven : IsWoven whole source file g text) × (woven.table ≡ table)
+woven_unput whole source file g table valid reads of made holds =
+    let p = problem_of whole source file in
+    let names = names_of whole in
+    let marks = marks_of (plan_of names source file) in (
+      woven_text source marks table whole,
+      record {
+        table = table;
+        stands = refl;
+        inserted = cut_of_woven whole table source marks (no_marker source file reads) (valid_names whole valid) (plain_marks names source file reads) (marks_in_order names source file reads);
+        is_lazy = made.is_lazy;
+        ascends = made.ascends;
+        few = made.few;
+        good = made.good;
+        sound = holds;
+        lazy = lazy (Reached g.policy g.spots g.states) p g table of.policy of.states of.laid of.routines (good_closed g table made.good) made.lost;
+        never = never_forced p table holds;
+      },
+      refl,
+    )
+
+-- the rows of a table that has few fit 32 bits
+pub few_rows : (t : Table) → table_rows t ≤ 65536 → HasFewRows t
+few_rows t few = record {
+  mems = omega (arith, few);
+  live = omega (arith, few);
+  tries = omega (arith, few);
+  ats = omega (arith, few);
+  opened = omega (arith, few);
+  closed = omega (arith, few);
+  into = omega (arith, few);
+  back = omega (arith, few);
+}
 
 -- what is made of a game whose start is lost
 pub record IsMadeStrategy (g : Game) (s : Strategy) : Type 0 where

@@ -20,6 +20,7 @@ use Rattle.cw_stages.specs.declared.numbers.Numbers.{Numbers}
 use Rattle.cw_stages.specs.declared.reading.Reading.{Reading}
 use Rattle.cw_stages.specs.declared.stop.Stop.{Stop}
 use Rattle.cw_stages.specs.declared.stop.Stop.TheVariants.{Source, Descriptors, Fit, Detached, Strategy, Woven, Tape, Audit, Steps, Answers as OfAnswers, Form, Over, NoMemory}
+use Rattle.cw_stages.specs.declared.told.Count.{Count}
 use Rattle.cw_stages.specs.declared.told.Text.{Text}
 use Rattle.cw_stages.specs.declared.told.Verdict.{Verdict}
 use Rattle.cw_stages.specs.Audits.{audit_refusal}
@@ -79,6 +80,11 @@ Answers whole text Is (Err stop) = IsStop whole text Is stop
 abbrev pub Decides : {O : Type 0} → PlainPolicy → List ℕ → (Numbers → Due → Type 0) → (Due → Type 0) → Result (Verdict O) Stop → Type 0
 Decides whole text Is IsRefusal (Ok verdict) = Is verdict.numbers (told_of verdict.text)
 Decides whole text Is IsRefusal (Err stop) = IsStop whole text IsRefusal stop
+
+-- And of a verdict whose text isn't put: some text is the one with these numbers.
+abbrev pub Counts : PlainPolicy → List ℕ → (Numbers → Due → Type 0) → (Due → Type 0) → Result Count Stop → Type 0
+Counts whole text Is IsRefusal (Ok count) = (written : List ℕ) × Is count.numbers (Told count.reply written)
+Counts whole text Is IsRefusal (Err stop) = IsStop whole text IsRefusal stop
 
 -- no verdict at all
 abbrev pub Nothing : Game → Due → Type 0

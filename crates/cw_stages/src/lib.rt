@@ -4,6 +4,7 @@
 #![tactic(auto)]
 
 mod audits;
+mod counting;
 mod ending;
 mod fitting;
 mod games;
@@ -20,6 +21,7 @@ mod told;
 mod verdict;
 
 pub use audits::{audit_in, tell_group};
+pub use counting::reckon;
 pub use ending::{ended, refused};
 pub use games::{attaches, draw, fits, make_game};
 pub use numbers::Numbers;
@@ -29,5 +31,5 @@ pub use stop::Stop;
 pub use strategies::{read_strategy, tell_row as tell_strategy_row};
 pub use tables::{accept, open, tell_row as tell_table_row};
 pub use tapes::moves_of;
-pub use told::{Text, Verdict, tell};
+pub use told::{Count, Text, Verdict, tell};
 pub use verdict::judge;

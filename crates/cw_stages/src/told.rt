@@ -22,6 +22,13 @@ pub struct Verdict<O: Sink> {
     pub numbers: Numbers,
 }
 
+/// Which of the two a verdict is whose text isn't put, and the numbers of its game and of that text.
+#[derive(Clone, Copy, Drop)]
+pub struct Count {
+    pub reply: Reply,
+    pub numbers: Numbers,
+}
+
 /// A text that is due, as it stands.
 pub fn tell<O: Sink>(reply: Reply, text: &[u8], out: &mut O) -> Text<O>
     ensures due { told_of result ≡ Told reply text.now }

@@ -34,7 +34,7 @@ use cw_syntax::checked::Checked;
 use std::alloc::Global;
 
 /// The height of the pair at which the program begins, all exit states of `main` promised.
-fn start_height(game: &Game, solved: &Solved) -> Option<u32>
+pub(crate) fn start_height(game: &Game, solved: &Solved) -> Option<u32>
     requires made { IsMade game.now }
     requires solved { solved.now.game ≡ game.now }
     ensures { HeightIs (game_of game.now) ((game_of game.now).entry (game_of game.now).main) (game_of game.now).states.start (all_states (game_of game.now)) result }

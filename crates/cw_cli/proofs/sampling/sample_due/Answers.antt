@@ -9,25 +9,22 @@ use Rattle.cw_cli.proofs.Sampled.{sampled_due}
 use Rattle.cw_cli.proofs.sampling.sample_due.Goals as goal
 
 pub sampled-requires-clause-short : goal.sampled-requires-clause-short
-sampled-requires-clause-short g c = rw c.deref-in-Ok-2.ensures.value c.in_ok-policy.ensures.short
-
-pub sampled-requires-clause-spells : goal.sampled-requires-clause-spells
-sampled-requires-clause-spells g c = rw c.deref-in-Ok.ensures.value (rw c.deref.ensures.value at c.in-Ok.ensures.policy)
+sampled-requires-clause-short g c = rw c.deref-in-Ok.ensures.value c.in_ok-policy.ensures.short
 
 pub returns-in-Ok-clause-due : goal.returns-in-Ok-clause-due
 returns-in-Ok-clause-due g c =
     let whole = policy_of c.in-Ok.whole in
     let policy = c.in_ok-policy.policy.items in
     let source = c.in_ok-policy.source.items in
-    let ended = rw c.deref-in-Ok-3.ensures.value at c.ended.ensures.ended in
-    let answer = rw c.deref-in-Ok-2.ensures.value at c.sampled.ensures.due in
+    let ended = rw c.deref-in-Ok-2.ensures.value at c.ended.ensures.ended in
+    let answer = rw c.deref-in-Ok.ensures.value at c.sampled.ensures.due in
     let spells = rw c.deref.ensures.value at c.in-Ok.ensures.policy in
     let due = ended_due whole source (AfterPolicy c.args.number source whole) c.sampled.result c.ended.result ended answer in
     if_ok _ _ c.ended.result due (λ o d. sampled_due c.args.number policy source whole (due_of o) c.in_ok-policy.ensures.policy c.in_ok-policy.ensures.source spells d)
 
 pub returns-in-Ok-clause-puts : goal.returns-in-Ok-clause-puts
 returns-in-Ok-clause-puts g c =
-    ended_puts (policy_of c.in-Ok.whole) c.deref-in-Ok-3.result.now g.O.Sink.taken g.O.Sink.faults g.O.Sink.refused c.args.out.now c.sampled.new.out c.sampled.result c.ended.result c.ended.ensures.ended c.sampled.ensures.puts
+    ended_puts (policy_of c.in-Ok.whole) c.deref-in-Ok-2.result.now g.O.Sink.taken g.O.Sink.faults g.O.Sink.refused c.args.out.now c.sampled.new.out c.sampled.result c.ended.result c.ended.ensures.ended c.sampled.ensures.puts
 
 pub returns-clause-due : goal.returns-clause-due
 returns-clause-due g c =

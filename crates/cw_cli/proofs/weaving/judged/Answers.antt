@@ -1,6 +1,6 @@
 use Rattle.std.proofs.Common.{inl, inr, sym, subst}
 use Rattle.std.proofs.lemmas.Result.{err_from_is_err_and}
-use Rattle.cw_rights.specs.Policies.{PlainPolicy, policy_of}
+use Rattle.cw_rights.specs.Policies.{PlainPolicy}
 use Rattle.cw_model.specs.Boards.{problem_of}
 use Rattle.cw_game.specs.Standing.{IsGameOf}
 use Rattle.cw_product.specs.Product.{game_of}
@@ -13,22 +13,17 @@ use Rattle.cw_cli.specs.Weaving.{AfterPair}
 use Rattle.cw_cli.proofs.Counted.{behind_game}
 use Rattle.cw_cli.proofs.weaving.judged.Goals as goal
 
-pub returns-in_err-attaches-clause-due : goal.returns-in_err-attaches-clause-due
-returns-in_err-attaches-clause-due g c =
-    let p = err_from_is_err_and c.from_residual-in_err-attaches.result c.from_residual-in_err-attaches.ensures.1 in
-    rw (p.1, p.2) (λ due r. inr (c.in_ok-fits.ensures.fits, inl (c.in_err-attaches.ensures.stop (source_of c.args.reading.now) due r)))
-
 pub returns-in_err-graph-clause-due : goal.returns-in_err-graph-clause-due
 returns-in_err-graph-clause-due g c =
-    let p = err_from_is_err_and c.from_residual-in_err-graph.result c.from_residual-in_err-graph.ensures.1 in
-    rw (p.1, p.2) (λ due r. inr (c.in_ok-fits.ensures.fits, inr (c.in_ok-attaches.ensures.none, inl (c.in_err-graph.ensures.stop due r))))
+    let p = err_from_is_err_and c.from_residual.result c.from_residual.ensures.1 in
+    rw (p.1, p.2) c.in_err-graph.ensures.stop
 
 pub returns-in_err-game-clause-due : goal.returns-in_err-game-clause-due
 returns-in_err-game-clause-due g c =
     let p = err_from_is_err_and c.from_residual-in_err-game.result c.from_residual-in_err-game.ensures.1 in
     let drawn = c.in_ok-graph.ensures in
     rw (p.1, p.2) (λ due r.
-    inr (c.in_ok-fits.ensures.fits, inr (c.in_ok-attaches.ensures.none, inr (drawn.few, c.in_ok-graph.graph, drawn.graph, inl (c.in_err-game.ensures.stop due r)))))
+    inr (drawn.fits, inr (drawn.none, inr (drawn.few, c.in_ok-graph.graph, drawn.graph, inl (c.in_err-game.ensures.stop due r)))))
 
 pub judge-requires-clause-graph : goal.judge-requires-clause-graph
 judge-requires-clause-graph g c = graph_over c.in_ok-game.ensures.game c.in_ok-graph.ensures.graph
@@ -50,5 +45,5 @@ returns-clause-due g c =
     made.game.policy_is c.judge.ensures.due in
     wider whole source (λ numbers. AfterGame (IsCounted numbers whole source file) (game_of held)) (λ numbers. AfterPair (IsCounted numbers whole source file) source whole file)
     (AfterGame Nothing (game_of held)) (AfterPair Nothing source whole file) c.judge.result
-    (λ numbers due h. behind_game (IsCounted numbers whole source file) source whole file due c.in_ok-fits.ensures.fits c.in_ok-attaches.ensures.none drawn.few c.in_ok-graph.graph drawn.graph held made.game made.made made.is_game h)
-    (λ due h. behind_game Nothing source whole file due c.in_ok-fits.ensures.fits c.in_ok-attaches.ensures.none drawn.few c.in_ok-graph.graph drawn.graph held made.game made.made made.is_game h) due
+    (λ numbers due h. behind_game (IsCounted numbers whole source file) source whole file due drawn.fits drawn.none drawn.few c.in_ok-graph.graph drawn.graph held made.game made.made made.is_game h)
+    (λ due h. behind_game Nothing source whole file due drawn.fits drawn.none drawn.few c.in_ok-graph.graph drawn.graph held made.game made.made made.is_game h) due

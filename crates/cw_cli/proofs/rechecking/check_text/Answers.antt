@@ -1,9 +1,0 @@
-use Rattle.cw_commands.specs.Outcomes.{due_of}
-use Rattle.cw_stages.specs.Refusals.{yes}
-use Rattle.cw_cli.proofs.Sampled.{checked_yes}
-use Rattle.cw_cli.proofs.rechecking.check_text.Goals as goal
-
-pub unreachable-requires : goal.unreachable-requires
-unreachable-requires c =
-    c.is_yes.ensures c.if-is_yes.false yes (checked_yes c.args.policy.now c.args.source.now c.args.text.now (due_of c.in_ok-outcome.outcome)
-    c.requires.short c.requires.due c.in_ok-outcome.ensures.due)
