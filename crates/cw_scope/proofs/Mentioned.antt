@@ -1,5 +1,5 @@
 -- The plain names and the calls of expressions are those among all that are in them, and a rule for calls needs these alone.
-use Rattle.std.proofs.Common.{◌≡◌, ℕ, List, [], ◌∷◌, ◌++◌, map, Bool, true, false, not, cond, Option, None, refl, sym, ap, ap₂, ◌∙◌}
+use Rattle.std.proofs.Common.{◌≡◌, ◌≤◌, ℕ, arith, List, [], ◌∷◌, ◌++◌, map, length, slice_get, Bool, true, false, not, cond, Option, Some, None, refl, sym, ap, ap₂, ◌∙◌}
 use Rattle.std.specs.List.{filter, filter_map, cons_option, flat_map}
 use Rattle.std.proofs.lemmas.List.Elements.{filter-append, filter_map-append}
 use Rattle.cw_syntax.specs.declared.program.Op.{Op}
@@ -10,7 +10,7 @@ use Rattle.cw_syntax.specs.Trees.{Tree, Node, Trees, none, more, File, tree_of, 
 use Rattle.cw_syntax.proofs.Shapes.{node_is}
 use Rattle.cw_scope.specs.Walks.{nodes, nodes_in, Whole, every_whole, every_node}
 use Rattle.cw_scope.specs.Names.{plain_name, called_name}
-use Rattle.cw_scope.specs.Rules.{is_call, is_main, wrong_arity, main_call, defined_call, external_call, is_defined}
+use Rattle.cw_scope.specs.Rules.{is_call, is_main, wrong_arity, main_call, defined_call, external_call, is_defined, second_external}
 use Rattle.cw_resolve.specs.Soonest.{sooner, soonest}
 use Rattle.cw_scope.specs.Mentions.{own_name, own_call, names_at, names_all, calls_at, calls_all, every_plain, every_call}
 use Rattle.cw_scope.proofs.Calling.{no_place}
@@ -113,3 +113,17 @@ pub external_in : (source : List ℕ) (file : File) (t : Tree) → filter_map (e
 external_in source file t =
     ap (filter_map (external_call source file)) (calls_found t)
     ∙ given_by_calls (external_call source file) (no_place (λ f. not (is_defined source file (text source f)))) (nodes t)
+
+-- one call has no second
+at_one : {Y : Type 0} (o : Option Y) → slice_get (cons_option o []) 1 ≡ None
+at_one None = refl
+at_one (Some y) = refl
+
+no_second_of : {X Y : Type 0} (f : X → Option Y) (xs : List X) → length xs ≤ 1 → slice_get (filter_map f xs) 1 ≡ None
+no_second_of f [] few = refl
+no_second_of f (x ∷ []) few = at_one (f x)
+no_second_of f (x ∷ y ∷ xs) few = absurd (omega (arith, few))
+
+pub few_calls : (source : List ℕ) (file : File) (t : Tree) → length (calls_at t) ≤ 1 → second_external source file t ≡ None
+few_calls source file t few =
+    ap (λ l. slice_get l 1) (sym (external_in source file t)) ∙ no_second_of (external_call source file) (calls_at t) few

@@ -1,5 +1,6 @@
 -- The texts that a set holds: their order tells nothing.
-use Rattle.std.proofs.Common.{◌≡◌, ◌+◌, ℕ, arith, List, [], ◌∷◌, ◌++◌, map, length, Bool, true, false, cond, not, ◌||◌, Some, refl, sym, ap, ap₂, ◌∙◌}
+use Rattle.std.proofs.Common.{◌≡◌, ◌≤◌, ◌+◌, ℕ, suc, arith, nat_lt, List, [], ◌∷◌, ◌++◌, map, length, Bool, true, false, cond, not, ◌||◌, Some, None, refl, sym, ap, ap₂, ◌∙◌}
+use Rattle.std.proofs.lemmas.Bool.{le-ltb}
 use Rattle.std.specs.List.{list_any}
 use Rattle.std.specs.Borrow.{Bor}
 use Rattle.std.specs.Str.{bytes_eq}
@@ -123,3 +124,24 @@ counted_on source name names key old new at updates more =
     (more ∙ ap (λ b. length old + cond (not b) 1 0) (sym seen))
     (ap length alike)
     (λ there. ap length (different_alike source names (texts old ++ t ∷ []) (texts old) (there_already (texts old) t there)))
+
+-- a name that stands alone has none before it
+pub one_alone : (source : List ℕ) (names : List Name) → length names ≤ 1 → repeated source [] names ≡ None
+one_alone source [] few = refl
+one_alone source (name ∷ []) few = refl
+one_alone source (name ∷ next ∷ names) few = absurd (omega (arith, few))
+
+by_new : (n : ℕ) (b : Bool) (known new : List (List ℕ)) (t : List ℕ) → length known ≤ n → length new ≤ n → length (cond b known (t ∷ new)) ≤ suc n
+by_new n true known new t old one = omega (arith, old)
+by_new n false known new t old one = omega (arith, one)
+
+-- there are no more different names than names
+few_different : (source : List ℕ) (names : List Name) (before : List (List ℕ)) → length (different source before names) ≤ length names
+few_different source [] before = omega arith
+few_different source (name ∷ names) before =
+    let t = text source name in
+    by_new (length names) (list_any (bytes_eq t) before) (different source before names) (different source (before ++ t ∷ []) names) t
+    (few_different source names before) (few_different source names (before ++ t ∷ []))
+
+pub no_more : (source : List ℕ) (names : List Name) (most : ℕ) → length names ≤ most → nat_lt most (length (different source [] names)) ≡ false
+no_more source names most few = let fewer = few_different source names [] in le-ltb most (length (different source [] names)) (omega (arith, fewer, few))

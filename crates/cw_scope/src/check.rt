@@ -7,18 +7,18 @@ ghost use Rattle.cw_resolve.specs.Soonest.{soonest};
 ghost use Rattle.cw_scope.specs.Faults.{no_main, two_functions, two_labels, arity, call_form, main_called, reserved_name, jump, limit, ◌or_else◌, scope_fault, IsDue};
 ghost use Rattle.cw_scope.specs.Held.{nested_of, whole_of, tree_at};
 ghost use Rattle.cw_scope.specs.Mentions.{every_call};
-ghost use Rattle.cw_scope.specs.Names.{uses, every_label, every_name};
-ghost use Rattle.cw_scope.specs.Walks.{every_node, every_statement, every_whole};
+ghost use Rattle.cw_scope.specs.Names.{uses, labels_of, every_label, every_name};
+ghost use Rattle.cw_scope.specs.Walks.{body_of, every_node, every_statement, every_whole};
 ghost use Rattle.cw_scope.specs.Known.{IsKnown};
 
 use crate::faults::ScopeFault;
 use crate::forms::every_mention;
 use crate::functions::{Functions, by_names};
-use crate::lists::{body_of, every_statement, every_whole};
-use crate::names::{every_name, function_names, labels, uses};
+use crate::lists::{every_statement, every_whole};
+use crate::names::{every_name, function_names, labels, put_labels, uses};
 use crate::places;
 use crate::rules::{are_more, has_main, repeated};
-use crate::walks::{Nested, Whole};
+use crate::walks::{Nested, Whole, put_statements};
 use cw_core::{Quantity, limits};
 use cw_resolve::sooner;
 use cw_syntax::checked::Checked;
@@ -53,6 +53,21 @@ fn two_functions(
     }
 }
 
+/// The labels of a function, in place of those that stood there. Its statements stand in the other list on the way: both lists keep their memory
+/// from function to function.
+fn put_body_labels<'p>(
+    function: &'p Function,
+    statements: &mut Vec<Nested<'p>>,
+    names: &mut Vec<Name>,
+) -> Result<(), AllocError>
+    ensures { IfOk result (λ _. names.new.items ≡ labels_of (body_of (definition_of function.now))) }
+{
+    statements.clear();
+    put_statements(&function.body, false, statements)?;
+    names.clear();
+    put_labels(statements, names)
+}
+
 /// Function by function, the first label that stands there again.
 fn second_label(
     alloc: Global,
@@ -61,9 +76,10 @@ fn second_label(
 ) -> Result<Option<Name>, AllocError>
     ensures { IfOk result (λ name. name ≡ second_label source.now (map definition_of functions.now)) }
 {
+    let mut statements = Vec::new(alloc);
+    let mut names = Vec::new(alloc);
     for function in functions {
-        let body = body_of(alloc, function)?;
-        let names = labels(alloc, &body)?;
+        put_body_labels(function, &mut statements, &mut names)?;
         if let Some(name) = repeated(alloc, source, &names)? {
             return Ok(Some(name));
         }

@@ -145,7 +145,11 @@ fn second_external(known: &Functions, _tree: &Expr, calls: &[&Expr]) -> Option<u
     requires calls { map tree_at calls.now ≡ calls_at (tree_of _tree.now) }
     ensures { result ≡ second_external known.now.source.now (file_of known.now.program.now) (tree_of _tree.now) }
 {
-    second_call(known, calls)
+    match calls {
+        [] => None,
+        [_] => None,
+        [_, _, ..] => second_call(known, calls),
+    }
 }
 
 /// The soonest place at which a whole expression, whose calls these are, breaks the rule on the forms of calls.

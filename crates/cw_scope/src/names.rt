@@ -125,7 +125,7 @@ fn put_label(statement: &Stmt, out: &mut Vec<Name>) -> Result<(), AllocError>
 }
 
 /// Appends the labels of these statements.
-fn put_labels(statements: &[Nested], out: &mut Vec<Name>) -> Result<(), AllocError>
+pub(crate) fn put_labels(statements: &[Nested], out: &mut Vec<Name>) -> Result<(), AllocError>
     ensures { IfOk result (λ _. out.new.items ≡ out.old.items ++ labels_of (map nested_of statements.now)) }
 {
     for nested in statements {

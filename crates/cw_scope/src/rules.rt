@@ -24,8 +24,23 @@ pub(crate) fn at_if(fails: bool, place: u32) -> Option<u32>
     if fails { Some(place) } else { None }
 }
 
-/// The first name with the text of one before it.
+/// The first name with the text of one before it. A name that stands alone has none before it.
 pub(crate) fn repeated(
+    alloc: Global,
+    source: &[u8],
+    names: &[Name],
+) -> Result<Option<Name>, AllocError>
+    ensures { IfOk result (λ found. found ≡ repeated source.now [] names.now) }
+{
+    match names {
+        [] => Ok(None),
+        [_] => Ok(None),
+        [_, _, ..] => repeated_of_many(alloc, source, names),
+    }
+}
+
+/// The same, by the texts that were seen.
+fn repeated_of_many(
     alloc: Global,
     source: &[u8],
     names: &[Name],
@@ -50,6 +65,9 @@ pub(crate) fn are_more(
 ) -> Result<bool, AllocError>
     ensures { IfOk result (λ more. more ≡ nat_lt most (length (different source.now [] names.now))) }
 {
+    if names.len() <= most {
+        return Ok(false);
+    }
     let mut seen = HashSet::new(alloc);
     for name in names {
         seen.insert(text(source, *name))?;

@@ -1,10 +1,15 @@
-use Rattle.std.proofs.Common.{◌≡◌, ◌+◌, [], cond, length, drop, get_or, sym, ap, ◌∙◌, arith}
+use Rattle.std.proofs.Common.{◌≡◌, ◌≤◌, ◌+◌, [], cond, length, drop, get_or, sym, ap, ◌∙◌, arith}
 use Rattle.std.proofs.lemmas.Bool.Decides.{Decides-ltb}
 use Rattle.std.proofs.lemmas.List.{drop_more}
 use Rattle.cw_syntax.specs.declared.program.Name.{Name}
 use Rattle.cw_scope.specs.Rules.{different}
-use Rattle.cw_scope.proofs.Seen.{texts, counted_on}
+use Rattle.cw_scope.proofs.Seen.{texts, counted_on, no_more}
 use Rattle.cw_scope.proofs.rules.are_more.Goals as goal
+
+pub returns-then-names-most : goal.returns-then-names-most
+returns-then-names-most c =
+    let few : length c.args.names.now ≤ c.args.most = omega arith in
+    sym (no_more c.args.source.now c.args.names.now c.args.most few)
 
 pub loop-name-preserved : goal.loop-name-preserved
 loop-name-preserved c =
