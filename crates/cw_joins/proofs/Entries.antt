@@ -1,0 +1,36 @@
+-- What stands at an index of a list, and what a filter finds.
+use Rattle.std.proofs.Common.{◌≡◌, ℕ, zero, suc, ◌+◌, ◌<◌, List, [], ◌∷◌, ◌++◌, Option, Some, filter_map, take, get_or, length, sym, ap, ◌∙◌, arith}
+use Rattle.std.specs.Prelude.{slice_get}
+use Rattle.std.specs.List.{Contains, cons_option}
+use Rattle.std.proofs.lemmas.List.{take_more}
+use Rattle.std.proofs.lemmas.List.Elements.{filter_map-append}
+use Rattle.std.proofs.lemmas.Option.{none-some}
+use Rattle.cw_lemmas.proofs.Lists.{get_contains, get_front, get_last, from_kept, to_kept}
+use Rattle.cw_joins.specs.Seeing.{named}
+
+-- the key that a hint names
+pub named_in : {K : Type 0} (keys : List K) (hint : ℕ) (k : K) → named keys hint ≡ Some k → Contains keys k
+named_in keys zero k e = absurd (none-some k e)
+named_in keys (suc zero) k e = absurd (none-some k e)
+named_in keys (suc (suc index)) k e = get_contains keys index k e
+
+pub named_more : {K : Type 0} (keys more : List K) (hint : ℕ) (k : K) → named keys hint ≡ Some k → named (keys ++ more) hint ≡ Some k
+named_more keys more zero k e = absurd (none-some k e)
+named_more keys more (suc zero) k e = absurd (none-some k e)
+named_more keys more (suc (suc index)) k e = get_front keys more index k e
+
+pub named_last : {K : Type 0} (keys : List K) (k : K) → named (keys ++ k ∷ []) (length keys + 2) ≡ Some k
+named_last keys k = let n : length keys + 2 ≡ suc (suc (length keys)) = omega arith in ap (named (keys ++ k ∷ [])) n ∙ get_last keys k
+
+-- one item more of a filtered list
+pub filtered_more : {A B : Type 0} (f : A → Option B) (xs : List A) (i : ℕ) (d : A) (old new : List B) → i < length xs → old ≡ filter_map f (take i xs)
+    → new ≡ old ++ cons_option (f (get_or xs i d)) [] → new ≡ filter_map f (take (i + 1) xs)
+filtered_more f xs i d old new lt h e =
+    e ∙ ap (λ l. l ++ cons_option (f (get_or xs i d)) []) h ∙ sym (ap (filter_map f) (take_more xs i d lt) ∙ filter_map-append f (take i xs) (get_or xs i d ∷ []))
+
+-- what a filter finds
+pub filtered_from : {A B : Type 0} (f : A → Option B) (xs : List A) (y : B) → Contains (filter_map f xs) y → (x : A) × (f x ≡ Some y)
+filtered_from f xs y c = let r = from_kept f xs y c in (r.0, r.2)
+
+pub filtered_to : {A B : Type 0} (f : A → Option B) (xs : List A) (i : ℕ) (x : A) (y : B) → slice_get xs i ≡ Some x → f x ≡ Some y → Contains (filter_map f xs) y
+filtered_to f xs i x y at e = to_kept f xs x y (get_contains xs i x at) e

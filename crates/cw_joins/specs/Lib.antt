@@ -1,0 +1,4 @@
+pub mod Working
+pub mod Chains
+pub mod Seeing
+pub mod Searching
