@@ -1,8 +1,12 @@
 -- What is live by numbers, as the code has it, and the lists of the lazy table.
-use Rattle.std.proofs.Common.{◌≡◌, ℕ, ◌<◌, List, map, filter_map, length, refl, sym, ap, ap₂, ◌∙◌, subst, arith}
+use Rattle.std.proofs.Common.{◌≡◌, ℕ, ◌<◌, List, Some, map, filter_map, length, refl, sym, ap, ap₂, ◌∙◌, subst, arith}
 use Rattle.std.specs.Prelude.{slice_get, slice_index}
 use Rattle.std.specs.List.{Contains}
 use Rattle.std.specs.Ordering.{nat_cmp}
+use Rattle.std.specs.FinMap.{nat_cmp-IsAntisymmetric}
+use Rattle.std.specs.Cmp.{nat_cmp_total}
+use Rattle.std.proofs.lemmas.Option.{slice_get-get_or, slice_get_within, get_or_from_slice_get}
+use Rattle.std.proofs.lemmas.List.Elements.{Contains-get_or}
 use Rattle.std.proofs.lemmas.List.{length-map}
 use Rattle.cw_core.specs.declared.ids.MemId.{MemId}
 use Rattle.cw_core.specs.declared.ids.PosId.{PosId}
@@ -28,7 +32,7 @@ use Rattle.cw_lazy_table.specs.Kinds as kind
 use Rattle.cw_lazy_table.specs.declared.seam_key.SeamKey.{SeamKey}
 use Rattle.cw_lazy_table.specs.Choices.{set_in, IsReady}
 use Rattle.cw_lazy_table.specs.Lazy.{Means, IsLiveRow, IsTryRow, IsLabelRow, IsOpenRow, IsCloseRow, IsIntoRow, IsBackRow}
-use Rattle.cw_lazy_table.specs.Numbered.{whole, whole_seam_key, whole_memory, whole_pair, whole_return, lost_by, set_at, CanAsk, AreNumbered, ArePaired, AreKept}
+use Rattle.cw_lazy_table.specs.Numbered.{whole, whole_seam_key, whole_memory, whole_pair, whole_return, lost_by, set_at, CanAsk, AreNumbered, ArePaired, AreKept, ArePromised}
 use Rattle.cw_lazy_table.specs.SeamKeys.{seam_key_cmp, seam_key_of, key_of, memory_of, AreOf, return_cmp, return_of}
 use Rattle.cw_lazy_table.specs.Rowing.{Memories, number, mem, live_row, try_row, at_row, open_row, into_row, back_row}
 use Rattle.cw_lazy_table.proofs.Numbering.{set_of_call}
@@ -37,7 +41,7 @@ use Rattle.cw_lazy_table.proofs.Putting.{listed_of}
 use Rattle.cw_lazy_table.proofs.Tabled as by_promise
 use Rattle.cw_lazy_table.proofs.Wholes.{seam_key_within, seam_key_whole, memory_within, memories_whole, return_within, returns_whole}
 use Rattle.cw_lazy_table.proofs.Wholes.{number_whole, live_rows_whole, at_rows_whole, open_rows_whole, try_rows_whole, into_rows_whole, back_rows_whole}
-use Rattle.cw_fixpoint.proofs.Numbers.{stands, below}
+use Rattle.cw_fixpoint.proofs.Numbers.{stands, below, number_at}
 
 module _ (h : HeldGame) (es : List ℕ) (keys : List Key) (live : AreNumbered h es keys) where
   abbrev g : Game
@@ -155,8 +159,21 @@ module _ (h : HeldGame) (es : List ℕ) (pairs : List (Key × Key)) (returns : A
     pub return_states : (x : SeamKey × Key) → Contains ys x → IsState (game_of h) x.0.state × IsState (game_of h) x.1.state
     return_states x c = by_promise.return_states h whole_pairs returns.returns (map (whole_return es) ys) all_returns (whole_return es x) (contains_map (whole_return es) ys x c)
 
+    pub return_promises : ArePromised (game_of h) es ys
+    return_promises x c =
+        let p = by_promise.return_promise h whole_pairs returns.returns (map (whole_return es) ys) all_returns (whole_return es x) (contains_map (whole_return es) ys x c) in
+        let l = (return_within (game_of h) es returns.promises.order pairs returns.within x ((are.1 x).0 c)).1 in
+        sym (number_at nat_cmp nat_cmp_total nat_cmp-IsAntisymmetric es x.1.promise (slice_index es x.1.promise) returns.promises.order (slice_get-get_or es x.1.promise 0 l))
+        ∙ ap (number_in nat_cmp es) p
+
     pub backs_are : (ms : Memories) → AreKept (game_of h) es ms → (rows : List BackRow) → rows ≡ map (back_row (game_of h) ms) ys
         → Exactly back_cmp (IsBackRow (game_of h) (map (whole_memory es) ms)) rows
     backs_are ms kept rows e =
         by_promise.backs_are h whole_pairs returns.returns (map (whole_return es) ys) all_returns (map (whole_memory es) ms) kept.all rows
         (e ∙ back_rows_whole (game_of h) es returns.promises.order ms kept.within ys (λ x c. (return_within (game_of h) es returns.promises.order pairs returns.within x ((are.1 x).0 c)).0))
+
+-- what a return that stands in the list tells of its call
+pub told_by : (g : Game) (es : List ℕ) (xs : List (SeamKey × Key)) (i : ℕ) (x : SeamKey × Key) (y : SeamKey) → ArePromised g es xs → slice_get xs i ≡ Some x → x.0 ≡ y
+    → x.1.promise ≡ set_at g es y.pos y.state y.promise
+told_by g es xs i x y are at e =
+    are x (subst (Contains xs) (get_or_from_slice_get xs i x x at) (Contains-get_or xs i x (slice_get_within xs i x at))) ∙ ap (λ (z : SeamKey). set_at g es z.pos z.state z.promise) e

@@ -6,7 +6,7 @@ use Rattle.std.specs.List.{Contains, cons_option}
 use Rattle.std.specs.List.Sorted.{IsStrictlySortedBy}
 use Rattle.std.specs.Ordering.{nat_cmp, ordering_then}
 use Rattle.std.specs.declared.cmp.Ordering.TheVariants.{Less}
-use Rattle.std.proofs.lemmas.List.{map-append, length-map, get_or_default, take_more}
+use Rattle.std.proofs.lemmas.List.{map-append, length-map, get_or_default}
 use Rattle.std.proofs.lemmas.Option.{slice_get_within, get_or_from_slice_get}
 use Rattle.cw_fixpoint.specs.Closures.{Exactly}
 use Rattle.cw_fixpoint.specs.Members.{IsMember, first, IsPair, HaveMore, pair_cmp}
@@ -28,10 +28,11 @@ use Rattle.cw_lazy_table.specs.Closing.{key, moves_on, visited, begun, answered,
 use Rattle.cw_lazy_table.specs.Laws.{CanBegin}
 use Rattle.cw_lazy_table.specs.Live.{IsLive, calls}
 use Rattle.cw_lazy_table.specs.Numbered.{whole, whole_pair, small, lost_by, set_at, numbered, ArePromises, CanAsk, CanTake, AreNumbered, ArePaired}
-use Rattle.cw_lazy_table.specs.SeamKeys.{key_cmp}
+use Rattle.cw_lazy_table.specs.SeamKeys.{key_cmp, AreOf, IsPut}
 use Rattle.cw_lazy_table.proofs.Choosing.{safe_at, set_full}
 use Rattle.cw_lazy_table.proofs.Finding.{of_in}
 use Rattle.cw_lazy_table.proofs.Listing.{rows_exactly, sorted_map}
+use Rattle.cw_lazy_table.proofs.Putting.{put_next}
 use Rattle.cw_lazy_table.proofs.Renaming.{AreNamed, named_member, member_named, named_pair, pair_named}
 use Rattle.cw_lazy_table.proofs.Returning.{alive, ended_at}
 
@@ -274,13 +275,11 @@ are_paired h s ready es are ps e =
     }
 
 -- the promises of the first contexts, and of one more
-pub promise_more : (cs : List Context) (n : ℕ) (c : Context) (old new : List ℕ) → Some c ≡ slice_get cs n → old ≡ map (λ (x : Context). x.promise) (take n cs) → new ≡ old ++ c.promise ∷ []
-    → new ≡ map (λ (x : Context). x.promise) (take (n + 1) cs)
-promise_more cs n c old new at o e =
+pub promise_more : (cs : List Context) (n : ℕ) (c : Context) (old new : List ℕ) → Some c ≡ slice_get cs n → AreOf (map (λ (x : Context). x.promise) (take n cs)) old → IsPut old c.promise new
+    → AreOf (map (λ (x : Context). x.promise) (take (n + 1) cs)) new
+promise_more cs n c old new at are put =
     let f = λ (x : Context). x.promise in
-    let l = slice_get_within cs n c (sym at) in
-    let all : take (n + 1) cs ≡ take n cs ++ c ∷ [] = take_more cs n c l ∙ ap (λ (x : Context). take n cs ++ (x ∷ [])) (get_or_from_slice_get cs n c c (sym at)) in
-    e ∙ ap (λ (l : List ℕ). l ++ c.promise ∷ []) o ∙ sym (map-append f (take n cs) (c ∷ [])) ∙ ap (map f) (sym all)
+    put_next f cs n c old new (slice_get_within cs n c (sym at)) are (subst (λ (e : ℕ). IsPut old e new) (ap f (sym (get_or_from_slice_get cs n c c (sym at)))) put)
 
 -- the promises of all contexts
 pub are_promises : (h : HeldGame) (s : Held) → IsReady h s → (es : List ℕ) → Exactly nat_cmp (Contains (map (λ (c : Context). c.promise) s.contexts)) es → ArePromises (game_of h) es

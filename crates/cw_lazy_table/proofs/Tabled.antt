@@ -154,6 +154,9 @@ module _ (h : HeldGame) (pairs : List (Key × Key)) (returns : AreReturns h pair
     returns_are : Exactly return_cmp (IsReturn (game_of h)) ys
     returns_are = returns_exactly (game_of h) (length h.graph.parts.items) returns.begins returns.low pairs ys returns.are are
 
+    pub return_promise : (x : SeamKey × Key) → Contains ys x → x.1.promise ≡ set_in (game_of h) x.0.pos x.0.state x.0.promise
+    return_promise x c = ((returns_are.1 x).0 c).promise
+
     pub return_states : (x : SeamKey × Key) → Contains ys x → IsState (game_of h) x.0.state × IsState (game_of h) x.1.state
     return_states x c =
         let r = (returns_are.1 x).0 c in (

@@ -89,3 +89,7 @@ pub record AreKept (g : Game) (es : List ℕ) (ms : Memories) : Type 0 where
   pub within : (m : StateId × ℕ) → Contains ms m → m.1 < length es
   pub order : AreMemories ms
   pub all : AreAllMemories g (map (whole_memory es) ms)
+
+-- the key where a call's function ends has the promise that is made at the call
+abbrev pub ArePromised : Game → (promises : List ℕ) → List (SeamKey × Key) → Type 0
+ArePromised g promises xs = (x : SeamKey × Key) → Contains xs x → x.1.promise ≡ set_at g promises x.0.pos x.0.state x.0.promise

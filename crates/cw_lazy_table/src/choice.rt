@@ -6,14 +6,14 @@ ghost use Rattle.cw_solve.specs.Numbering.{IsUnder, IsNumberOf};
 ghost use Rattle.cw_solve.specs.Contexts.{returning};
 ghost use Rattle.cw_lazy_table.specs.Choices.{lost_in, promised, IsReady};
 
+use crate::looked::Looked;
 use cw_core::{PosId, StateId, StateSet};
 use cw_product::Game;
-use cw_solve::Solved;
 
 /// Whether a pair is lost under a context's promise.
 fn is_lost_in(
     game: &Game,
-    solved: &Solved,
+    solved: &Looked,
     number: u32,
     pos: PosId,
     state: StateId,
@@ -32,12 +32,13 @@ fn is_lost_in(
     }
 }
 
-/// Whether a pair is lost under a promise that the game needs.
+/// Whether a pair is lost under a promise that the game needs, which has this index.
 pub(crate) fn is_lost(
     game: &Game,
-    solved: &Solved,
+    solved: &Looked,
     pos: PosId,
     state: StateId,
+    index: usize,
     promise: &StateSet,
 ) -> bool
     requires ready { IsReady game.now solved.now }
@@ -45,15 +46,16 @@ pub(crate) fn is_lost(
     requires state { state.0 < (game_of game.now).states.count }
     ensures { result ≡ lost_in (game_of game.now) pos.0 state.0 promise.now }
 {
-    let number = solved.number_of(pos, promise);
+    let number = solved.number_of(pos, index, promise);
     is_lost_in(game, solved, number, pos, state, promise)
 }
 
-/// What a call promises that returns to this position: the exit states from which the return isn't lost.
+/// What a call under a promise with this index promises that returns to this position: the exit states from which the return isn't lost.
 pub(crate) fn promised(
     game: &Game,
-    solved: &Solved,
+    solved: &Looked,
     call: StateId,
+    index: usize,
     promise: &StateSet,
     back: PosId,
     split: bool,
@@ -63,7 +65,7 @@ pub(crate) fn promised(
     requires state { call.0 < (game_of game.now).states.count }
     ensures { result ≡ promised (game_of game.now) call.0 promise.now (returning back.0 split) }
 {
-    let number = solved.number_of(back, promise);
+    let number = solved.number_of(back, index, promise);
     let mut set = StateSet::empty();
     for x in 0..game.states() {
         let exit = StateId(x);

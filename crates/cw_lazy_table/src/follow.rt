@@ -1,6 +1,6 @@
 //! What is live after a key.
 
-ghost use Rattle.std.specs.Prelude.{◌≡◌, ◌<◌, ◌≤◌, ◌++◌, [], ℕ, false, Some, ◌+◌, filter_map, length, slice_get, slice_index, OnOk};
+ghost use Rattle.std.specs.Prelude.{◌≡◌, ◌<◌, ◌≤◌, ◌++◌, [], ℕ, false, None, Some, ◌+◌, filter_map, length, slice_get, slice_index, IfOk, OnOk};
 ghost use Rattle.std.specs.List.{cons_option};
 ghost use Rattle.cw_game.specs.Games.{resumed, weavers_in};
 ghost use Rattle.cw_product.specs.Moves.{IsPosition, IsState};
@@ -13,13 +13,13 @@ ghost use Rattle.cw_lazy_table.specs.Numbered.{lost_by, set_at, numbered, CanAsk
 
 use crate::choice::{is_lost, promised};
 use crate::key::Key;
+use crate::looked::Looked;
 use crate::promises::promise_number;
 use cw_certs::Move;
 use cw_core::limits::POSITIONS_TIMES_STATES;
 use cw_core::{PosId, StateId, StateSet};
-use cw_fixpoint::Joins;
+use cw_joins::{Groups, Joins};
 use cw_product::{Game, Turn};
-use cw_solve::Solved;
 use std::alloc::AllocError;
 
 /// Appends the key of a pair under a promise, if there is a pair.
@@ -71,7 +71,7 @@ fn put_moves(game: &Game, key: &Key, keys: &mut Vec<Key>) -> Result<(), AllocErr
 /// Appends the key with which the program goes on after a refusal that a stop can answer, where that isn't lost.
 fn put_going_on(
     game: &Game,
-    solved: &Solved,
+    solved: &Looked,
     promises: &[StateSet],
     key: &Key,
     keys: &mut Vec<Key>,
@@ -88,7 +88,14 @@ fn put_going_on(
     match game.resumed(PosId(key.pos), StateId(key.state)) {
         None => Ok(()),
         Some((pos, state)) => {
-            if is_lost(game, solved, pos, state, &promises[key.promise]) {
+            if is_lost(
+                game,
+                solved,
+                pos,
+                state,
+                key.promise,
+                &promises[key.promise],
+            ) {
                 return Ok(());
             }
             keys.push(Key {
@@ -102,7 +109,7 @@ fn put_going_on(
 }
 
 /// The key after a visit: that of the skip, or that of the try where the skip is lost.
-fn chosen(game: &Game, solved: &Solved, promises: &[StateSet], key: &Key) -> Key
+fn chosen(game: &Game, solved: &Looked, promises: &[StateSet], key: &Key) -> Key
     requires ready { IsReady game.now solved.now }
     requires short { key.now.pos + 2 ≤ POSITIONS_TIMES_STATES }
     requires within { key.now.promise < length promises.now }
@@ -111,8 +118,9 @@ fn chosen(game: &Game, solved: &Solved, promises: &[StateSet], key: &Key) -> Key
     ensures { result ≡ skip_or_try (lost_by (game_of game.now) promises.now) key.now }
 {
     let skip = PosId(key.pos + 2);
+    let state = StateId(key.state);
     let promise = &promises[key.promise];
-    let pos = if is_lost(game, solved, skip, StateId(key.state), promise) {
+    let pos = if is_lost(game, solved, skip, state, key.promise, promise) {
         key.pos + 1
     } else {
         key.pos + 2
@@ -125,7 +133,7 @@ fn chosen(game: &Game, solved: &Solved, promises: &[StateSet], key: &Key) -> Key
 }
 
 /// What is promised at a key: at a call to its callee, elsewhere nothing.
-fn set_of(game: &Game, solved: &Solved, promises: &[StateSet], key: &Key) -> StateSet
+fn set_of(game: &Game, solved: &Looked, promises: &[StateSet], key: &Key) -> StateSet
     requires can { CanAsk game.now solved.now promises.now key.now }
     ensures { result ≡ set_in (game_of game.now) key.now.pos key.now.state (slice_index promises.now key.now.promise) }
 {
@@ -135,73 +143,79 @@ fn set_of(game: &Game, solved: &Solved, promises: &[StateSet], key: &Key) -> Sta
             callee: _,
             split,
             back,
-        } => promised(game, solved, StateId(key.state), promise, back, split),
+        } => promised(
+            game,
+            solved,
+            StateId(key.state),
+            key.promise,
+            promise,
+            back,
+            split,
+        ),
         Turn::Weaver | Turn::Environment | Turn::Exit { .. } => StateSet::empty(),
     }
 }
 
 /// The number of what is promised at a key.
-pub(crate) fn set_at(game: &Game, solved: &Solved, promises: &[StateSet], key: &Key) -> usize
+pub(crate) fn set_at(game: &Game, solved: &Looked, promises: &[StateSet], key: &Key) -> usize
     requires can { CanAsk game.now solved.now promises.now key.now }
     ensures { result ≡ set_at (game_of game.now) promises.now key.now.pos key.now.state key.now.promise }
 {
     promise_number(promises, &set_of(game, solved, promises, key))
 }
 
-/// Appends the keys that follow one.
+/// No groups.
+fn no_groups() -> Groups<(u32, usize)>
+    ensures waits { result.waits ≡ None }
+    ensures ends { result.ends ≡ None }
+{
+    Groups {
+        waits: None,
+        ends: None,
+    }
+}
+
+/// Appends the keys that follow one. At a call: where the callee ends, and what is promised to it; at an exit: for which calls the key ends, by its
+/// position and its promise.
+#[inline(always)]
 fn put_after(
     game: &Game,
-    solved: &Solved,
+    solved: &Looked,
     promises: &[StateSet],
     key: &Key,
     keys: &mut Vec<Key>,
-) -> Result<(), AllocError>
+) -> Result<Groups<(u32, usize)>, AllocError>
     requires can { CanAsk game.now solved.now promises.now key.now }
-    ensures { OnOk result (keys.new.items ≡ keys.old.items ++ (numbered (game_of game.now) promises.now).after key.now) }
+    ensures after { OnOk result (keys.new.items ≡ keys.old.items ++ (numbered (game_of game.now) promises.now).after key.now) }
+    ensures waits { IfOk result (λ groups. groups.waits ≡ (numbered (game_of game.now) promises.now).waits key.now) }
+    ensures ends { IfOk result (λ groups. groups.ends ≡ (numbered (game_of game.now) promises.now).ends key.now) }
 {
     match game.turn(PosId(key.pos)) {
-        Turn::Exit { .. } => Ok(()),
+        Turn::Exit { .. } => Ok(Groups {
+            waits: None,
+            ends: Some((key.pos, key.promise)),
+        }),
         Turn::Weaver => {
             keys.push(chosen(game, solved, promises, key))?;
-            Ok(())
+            Ok(no_groups())
         }
         Turn::Call { callee, .. } => {
+            let promise = set_at(game, solved, promises, key);
             keys.push(Key {
                 pos: game.entry(callee).0,
                 state: key.state,
-                promise: set_at(game, solved, promises, key),
+                promise,
             })?;
-            Ok(())
+            Ok(Groups {
+                waits: Some((game.exit(callee).0, promise)),
+                ends: None,
+            })
         }
         Turn::Environment => {
             put_moves(game, key, keys)?;
-            put_going_on(game, solved, promises, key, keys)
+            put_going_on(game, solved, promises, key, keys)?;
+            Ok(no_groups())
         }
-    }
-}
-
-/// Where the callee of a call ends, and what is promised to it.
-fn waits(game: &Game, solved: &Solved, promises: &[StateSet], key: &Key) -> Option<(u32, usize)>
-    requires can { CanAsk game.now solved.now promises.now key.now }
-    ensures { result ≡ (numbered (game_of game.now) promises.now).waits key.now }
-{
-    match game.turn(PosId(key.pos)) {
-        Turn::Call { callee, .. } => Some((
-            game.exit(callee).0,
-            set_at(game, solved, promises, key),
-        )),
-        Turn::Weaver | Turn::Environment | Turn::Exit { .. } => None,
-    }
-}
-
-/// For which calls a key ends, by its exit and its promise; None where it stands at no exit.
-fn ends(game: &Game, promises: &[StateSet], key: &Key) -> Option<(u32, usize)>
-    requires position { IsPosition (game_of game.now) key.now.pos }
-    ensures { result ≡ (numbered (game_of game.now) promises.now).ends key.now }
-{
-    match game.turn(PosId(key.pos)) {
-        Turn::Exit { .. } => Some((key.pos, key.promise)),
-        Turn::Weaver | Turn::Environment | Turn::Call { .. } => None,
     }
 }
 
@@ -232,7 +246,7 @@ fn returned(game: &Game, promises: &[StateSet], call: &Key, exit: &Key) -> Key
 #[derive(Drop)]
 pub(crate) struct Choices<'g> {
     pub game: &'g Game<'g>,
-    pub solved: &'g Solved<'g>,
+    pub solved: &'g Looked<'g>,
     pub promises: &'g [StateSet],
 }
 
@@ -244,16 +258,9 @@ impl<'g> Joins<Key, (u32, usize)> for Choices<'g> {
 
     ghost can_follow = { λ s k. CanTake s.game.now s.solved.now s.promises.now k };
 
-    fn put_after(&self, key: Key, keys: &mut Vec<Key>) -> Result<(), AllocError> {
+    #[inline(always)]
+    fn put_after(&self, key: Key, keys: &mut Vec<Key>) -> Result<Groups<(u32, usize)>, AllocError> {
         put_after(self.game, self.solved, self.promises, &key, keys)
-    }
-
-    fn waits(&self, key: Key) -> Option<(u32, usize)> {
-        waits(self.game, self.solved, self.promises, &key)
-    }
-
-    fn ends(&self, key: Key) -> Option<(u32, usize)> {
-        ends(self.game, self.promises, &key)
     }
 
     fn join(&self, waiting: Key, ending: Key) -> Key {

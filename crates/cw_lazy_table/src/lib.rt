@@ -7,6 +7,8 @@ mod indices;
 pub mod key;
 pub mod laws;
 mod lists;
+mod looked;
+mod mems;
 mod near;
 mod promises;
 mod seam_key;

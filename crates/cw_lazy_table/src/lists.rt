@@ -1,10 +1,10 @@
 //! The rows of keys.
 
-ghost use Rattle.std.specs.Prelude.{◌≡◌, ◌<◌, ℕ, length, map, Contains, IfOk};
+ghost use Rattle.std.specs.Prelude.{◌≡◌, ◌<◌, ℕ, length, map, slice_get, Contains, IfOk};
 ghost use Rattle.cw_game.specs.Games.{resumed};
 ghost use Rattle.cw_product.specs.Moves.{IsPosition, IsState, next_at};
 ghost use Rattle.cw_product.specs.Product.{game_of};
-ghost use Rattle.cw_lazy_table.specs.Numbered.{lost_by, set_at, whole_memory, CanAsk};
+ghost use Rattle.cw_lazy_table.specs.Numbered.{lost_by, set_at, whole_memory, CanAsk, ArePromised};
 ghost use Rattle.cw_lazy_table.specs.SeamKeys.{key_of};
 ghost use Rattle.cw_lazy_table.specs.Rowing.{AreMemories, mem, moved, mem_after, going_on, refused_by, live_row, try_row, at_row, open_row, into_row, back_row};
 ghost use Rattle.cw_certs.specs.declared.moves.Move.TheVariants.{Refuse};
@@ -12,22 +12,45 @@ ghost use Rattle.cw_certs.specs.declared.moves.Move.TheVariants.{Refuse};
 use crate::choice::is_lost;
 use crate::follow::set_at;
 use crate::key::Key;
-use crate::near::Near;
+use crate::looked::Looked;
+use crate::mems::Mems;
 use crate::seam_key::{SeamKey, stands};
 use cw_certs::{AtRow, BackRow, IntoRow, Move, OpenRow, TryRow};
 use cw_core::{MemId, PosId, SeamId, StateId, StateSet};
 use cw_fixpoint::number_of;
 use cw_product::Game;
-use cw_solve::Solved;
 use std::alloc::{AllocError, Global};
 
-/// The number of a memory, and how many they are where it is none of them.
+/// The number of a memory among others in order, and how many they are where it is none of them.
 #[tactic(auto, using(crate::proofs::Numbers::mem_exact))]
-pub(crate) fn mem(mems: &[(StateId, usize)], state: StateId, promise: usize) -> MemId
+#[inline(never)]
+fn mem_among(mems: &[(StateId, usize)], state: StateId, promise: usize) -> MemId
     requires mems { AreMemories mems.now }
     ensures { result ≡ mem mems.now state.0 promise }
 {
     MemId(number_of(mems, &(state, promise)) as u32)
+}
+
+/// The number of a memory: where it stands at an index, that index.
+#[inline(always)]
+fn mem_near(mems: &[(StateId, usize)], near: usize, state: StateId, promise: usize) -> MemId
+    requires mems { AreMemories mems.now }
+    ensures { result ≡ mem mems.now state.0 promise }
+{
+    if stands(mems, near, (state, promise)) {
+        MemId(near as u32)
+    } else {
+        mem_among(mems, state, promise)
+    }
+}
+
+/// The number of a memory, and how many they are where it is none of them.
+#[inline(always)]
+pub(crate) fn mem(mems: &Mems, state: StateId, promise: usize) -> MemId
+    requires mems { AreMemories mems.now }
+    ensures { result ≡ mem mems.now state.0 promise }
+{
+    mem_near(mems.list(), mems.guess(state, promise), state, promise)
 }
 
 /// A memory with its promise.
@@ -54,42 +77,25 @@ pub(crate) fn whole_memories(
     Ok(memories)
 }
 
-/// The number of a memory: where it stands at an index, that index.
-fn mem_near(mems: &[(StateId, usize)], near: usize, state: StateId, promise: usize) -> MemId
-    requires mems { AreMemories mems.now }
-    ensures { result ≡ mem mems.now state.0 promise }
-{
-    if stands(mems, near, (state, promise)) {
-        MemId(near as u32)
-    } else {
-        mem(mems, state, promise)
-    }
-}
-
-/// The rows of live pairs: each key's position and the number of its memory, which mostly is the one behind the last, or that with which the
-/// position before begins.
+/// The rows of live pairs: each key's position and the number of its memory.
 #[inline(never)]
 pub(crate) fn live_rows(
     alloc: Global,
-    mems: &[(StateId, usize)],
+    mems: &Mems,
     keys: &[Key],
 ) -> Result<Vec<(PosId, MemId)>, AllocError>
     requires mems { AreMemories mems.now }
     ensures { IfOk result (λ v. v.items ≡ map (live_row mems.now) keys.now) }
 {
     let mut rows = Vec::with_capacity(alloc, keys.len())?;
-    let mut near = Near::begin();
     for key in keys {
-        let at = near.guess(key.pos);
-        let mem = mem_near(mems, at, StateId(key.state), key.promise);
-        rows.push((PosId(key.pos), mem))?;
-        near.tell(key.pos, mem.0 as usize + 1);
+        rows.push((PosId(key.pos), mem(mems, StateId(key.state), key.promise)))?;
     }
     Ok(rows)
 }
 
 /// The memory after a move, if there is one.
-fn after(game: &Game, mems: &[(StateId, usize)], seam_key: &SeamKey, by: Move) -> Option<MemId>
+fn after(game: &Game, mems: &Mems, seam_key: &SeamKey, by: Move) -> Option<MemId>
     requires mems { AreMemories mems.now }
     requires position { IsPosition (game_of game.now) seam_key.now.pos }
     requires state { IsState (game_of game.now) seam_key.now.state }
@@ -102,7 +108,7 @@ fn after(game: &Game, mems: &[(StateId, usize)], seam_key: &SeamKey, by: Move) -
 }
 
 /// The memory after a move, the same where there is none.
-fn moved(game: &Game, mems: &[(StateId, usize)], seam_key: &SeamKey, by: Move) -> MemId
+fn moved(game: &Game, mems: &Mems, seam_key: &SeamKey, by: Move) -> MemId
     requires mems { AreMemories mems.now }
     requires position { IsPosition (game_of game.now) seam_key.now.pos }
     requires state { IsState (game_of game.now) seam_key.now.state }
@@ -117,9 +123,9 @@ fn moved(game: &Game, mems: &[(StateId, usize)], seam_key: &SeamKey, by: Move) -
 /// The memory with which the program goes on after a refusal that a stop can answer; none where that is lost.
 fn going_on(
     game: &Game,
-    solved: &Solved,
+    solved: &Looked,
     promises: &[StateSet],
-    mems: &[(StateId, usize)],
+    mems: &Mems,
     seam_key: &SeamKey,
 ) -> Option<MemId>
     requires mems { AreMemories mems.now }
@@ -129,7 +135,14 @@ fn going_on(
     match game.resumed(PosId(seam_key.pos), StateId(seam_key.state)) {
         None => None,
         Some((pos, state)) => {
-            if is_lost(game, solved, pos, state, &promises[seam_key.promise]) {
+            if is_lost(
+                game,
+                solved,
+                pos,
+                state,
+                seam_key.promise,
+                &promises[seam_key.promise],
+            ) {
                 None
             } else {
                 Some(mem(mems, state, seam_key.promise))
@@ -141,9 +154,9 @@ fn going_on(
 /// The memory after a refusal; where a stop can answer, the one with which the program goes on, None where that is lost.
 fn refused(
     game: &Game,
-    solved: &Solved,
+    solved: &Looked,
     promises: &[StateSet],
-    mems: &[(StateId, usize)],
+    mems: &Mems,
     seam_key: &SeamKey,
 ) -> Option<MemId>
     requires mems { AreMemories mems.now }
@@ -160,9 +173,9 @@ fn refused(
 /// The row of a primitive that is tried: the memories after a grant and after a refusal.
 fn try_row(
     game: &Game,
-    solved: &Solved,
+    solved: &Looked,
     promises: &[StateSet],
-    mems: &[(StateId, usize)],
+    mems: &Mems,
     seam_key: &SeamKey,
 ) -> TryRow
     requires mems { AreMemories mems.now }
@@ -182,9 +195,9 @@ fn try_row(
 pub(crate) fn try_rows(
     alloc: Global,
     game: &Game,
-    solved: &Solved,
+    solved: &Looked,
     promises: &[StateSet],
-    mems: &[(StateId, usize)],
+    mems: &Mems,
     seam_keys: &[SeamKey],
 ) -> Result<Vec<TryRow>, AllocError>
     requires mems { AreMemories mems.now }
@@ -202,7 +215,7 @@ pub(crate) fn try_rows(
 pub(crate) fn at_rows(
     alloc: Global,
     game: &Game,
-    mems: &[(StateId, usize)],
+    mems: &Mems,
     seam_keys: &[SeamKey],
 ) -> Result<Vec<AtRow>, AllocError>
     requires mems { AreMemories mems.now }
@@ -224,7 +237,7 @@ pub(crate) fn at_rows(
 pub(crate) fn open_rows(
     alloc: Global,
     game: &Game,
-    mems: &[(StateId, usize)],
+    mems: &Mems,
     seam_keys: &[SeamKey],
 ) -> Result<Vec<OpenRow>, AllocError>
     requires mems { AreMemories mems.now }
@@ -243,24 +256,57 @@ pub(crate) fn open_rows(
     Ok(rows)
 }
 
-/// The row of a call: the memory with which its function begins.
-fn into_row(
-    game: &Game,
-    solved: &Solved,
-    promises: &[StateSet],
-    mems: &[(StateId, usize)],
-    seam_key: &SeamKey,
-) -> IntoRow
-    requires mems { AreMemories mems.now }
-    requires can { CanAsk game.now solved.now promises.now (key_of seam_key.now) }
-    ensures { result ≡ into_row (set_at (game_of game.now) promises.now) mems.now seam_key.now }
+/// The return that stands at an index.
+#[inline(always)]
+fn return_at(returns: &[(SeamKey, Key)], at: usize) -> Option<(SeamKey, Key)>
+    ensures { result ≡ slice_get returns.now at }
 {
-    let key = Key {
-        pos: seam_key.pos,
-        state: seam_key.state,
-        promise: seam_key.promise,
-    };
-    let promise = set_at(game, solved, promises, &key);
+    returns.get(at).copied()
+}
+
+/// The number of what is promised at a call: where its return stands at an index, the promise of the key where its function ends.
+fn promise_near(
+    game: &Game,
+    solved: &Looked,
+    promises: &[StateSet],
+    returns: &[(SeamKey, Key)],
+    near: usize,
+    seam_key: &SeamKey,
+) -> usize
+    requires can { CanAsk game.now solved.now promises.now (key_of seam_key.now) }
+    requires returns { ArePromised (game_of game.now) promises.now returns.now }
+    ensures { result ≡ set_at (game_of game.now) promises.now seam_key.now.pos seam_key.now.state seam_key.now.promise }
+{
+    match return_at(returns, near) {
+        Some(back) if back.0 == *seam_key => back.1.promise,
+        _ => set_at(
+            game,
+            solved,
+            promises,
+            &Key {
+                pos: seam_key.pos,
+                state: seam_key.state,
+                promise: seam_key.promise,
+            },
+        ),
+    }
+}
+
+/// The index behind the returns of a call that stand from an index on.
+fn behind(returns: &[(SeamKey, Key)], from: usize, seam_key: &SeamKey) -> usize {
+    for at in from..returns.len() {
+        if returns[at].0 != *seam_key {
+            return at;
+        }
+    }
+    from
+}
+
+/// The row of a call to which this is promised: the memory with which its function begins.
+fn into_row(mems: &Mems, seam_key: &SeamKey, promise: usize) -> IntoRow
+    requires mems { AreMemories mems.now }
+    ensures { result ≡ into_row (λ _ _ _. promise) mems.now seam_key.now }
+{
     IntoRow {
         seam: SeamId(seam_key.seam),
         split: seam_key.part == 1,
@@ -269,28 +315,33 @@ fn into_row(
     }
 }
 
-/// The rows of all calls.
+/// The rows of all calls. What is promised at a call is mostly told by its returns, which come in the order of the calls.
 pub(crate) fn into_rows(
     alloc: Global,
     game: &Game,
-    solved: &Solved,
+    solved: &Looked,
     promises: &[StateSet],
-    mems: &[(StateId, usize)],
+    mems: &Mems,
+    returns: &[(SeamKey, Key)],
     seam_keys: &[SeamKey],
 ) -> Result<Vec<IntoRow>, AllocError>
     requires mems { AreMemories mems.now }
     requires can { (x : SeamKey) → Contains seam_keys.now x → CanAsk game.now solved.now promises.now (key_of x) }
+    requires returns { ArePromised (game_of game.now) promises.now returns.now }
     ensures { IfOk result (λ v. v.items ≡ map (into_row (set_at (game_of game.now) promises.now) mems.now) seam_keys.now) }
 {
     let mut rows = Vec::with_capacity(alloc, seam_keys.len())?;
+    let mut at: usize = 0;
     for seam_key in seam_keys {
-        rows.push(into_row(game, solved, promises, mems, seam_key))?;
+        let promise = promise_near(game, solved, promises, returns, at, seam_key);
+        rows.push(into_row(mems, seam_key, promise))?;
+        at = behind(returns, at, seam_key);
     }
     Ok(rows)
 }
 
 /// The row of a return: the memory behind the call, by the exit state with which the function ends.
-fn back_row(game: &Game, mems: &[(StateId, usize)], seam_key: &SeamKey, exit: &Key) -> BackRow
+fn back_row(game: &Game, mems: &Mems, seam_key: &SeamKey, exit: &Key) -> BackRow
     requires mems { AreMemories mems.now }
     requires state { IsState (game_of game.now) seam_key.now.state }
     requires exit { IsState (game_of game.now) exit.now.state }
@@ -312,7 +363,7 @@ fn back_row(game: &Game, mems: &[(StateId, usize)], seam_key: &SeamKey, exit: &K
 pub(crate) fn back_rows(
     alloc: Global,
     game: &Game,
-    mems: &[(StateId, usize)],
+    mems: &Mems,
     returns: &[(SeamKey, Key)],
 ) -> Result<Vec<BackRow>, AllocError>
     requires mems { AreMemories mems.now }

@@ -1,44 +1,55 @@
-//! Where the memory of the next key may stand.
+//! Where the memory of a key may stand.
 
-/// Where the memory of the next key may stand. Nothing rests on it but how long a look-up takes: keys come by position, and a position
-/// has mostly the memories of the one before it.
-#[derive(Clone, Copy, Drop)]
-pub(crate) struct Near {
-    /// The position of the last key.
-    pos: u32,
-    /// The index of the memory of the first key at that position.
-    first: usize,
-    /// The index behind the memory of the last key.
-    behind: usize,
+use std::alloc::{AllocError, Global};
+
+/// More places than these are not kept: 8 MB.
+const MOST: usize = 1_048_576;
+
+/// Where the memory of each state and promise may stand. Nothing rests on it but how long a look-up takes.
+#[derive(Drop)]
+pub(crate) struct Places {
+    places: Vec<usize>,
+    promises: usize,
 }
 
-impl Near {
-    /// Nothing is told.
-    pub(crate) fn begin() -> Near {
-        Near {
-            pos: 0,
-            first: 0,
-            behind: 0,
+impl Places {
+    /// Nothing is told, of so many states and promises.
+    pub(crate) fn make(
+        alloc: Global,
+        states: usize,
+        promises: usize,
+    ) -> Result<Places, AllocError> {
+        let count = states.saturating_mul(promises);
+        let count = if count <= MOST { count } else { 0 };
+        Ok(Places {
+            places: vec![in alloc; 0_usize; count]?,
+            promises,
+        })
+    }
+
+    /// Where a memory would have its place.
+    #[inline(always)]
+    fn at(&self, state: u16, promise: usize) -> usize {
+        (state as usize)
+            .wrapping_mul(self.promises)
+            .wrapping_add(promise)
+    }
+
+    /// Where a memory may stand.
+    #[inline(always)]
+    pub(crate) fn guess(&self, state: u16, promise: usize) -> usize {
+        match self.places.get(self.at(state, promise)) {
+            None => 0,
+            Some(place) => *place,
         }
     }
 
-    /// Where the memory of a key at a position may stand.
+    /// Tells where a memory stands.
     #[inline(always)]
-    pub(crate) fn guess(&self, pos: u32) -> usize {
-        if pos == self.pos {
-            self.behind
-        } else {
-            self.first
+    pub(crate) fn tell(&mut self, state: u16, promise: usize, place: usize) {
+        let at = self.at(state, promise);
+        if let Some(there) = self.places.get_mut(at) {
+            *there = place;
         }
-    }
-
-    /// Tells the index behind the memory of a key at a position.
-    #[inline(always)]
-    pub(crate) fn tell(&mut self, pos: u32, behind: usize) {
-        if pos != self.pos {
-            self.pos = pos;
-            self.first = behind.saturating_sub(1);
-        }
-        self.behind = behind;
     }
 }

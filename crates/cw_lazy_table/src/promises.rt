@@ -1,18 +1,41 @@
 //! The promises that a solved game needs, and their numbers.
 
-ghost use Rattle.std.specs.Prelude.{◌≡◌, IfOk};
+ghost use Rattle.std.specs.Prelude.{◌≡◌, true, Some, slice_get, IfOk, OnOk};
 ghost use Rattle.std.specs.List.Sorted.{IsStrictlySortedBy};
 ghost use Rattle.std.specs.Ordering.{nat_cmp};
 ghost use Rattle.cw_fixpoint.specs.Numbers.{number_in};
 ghost use Rattle.cw_product.specs.Product.{game_of};
 ghost use Rattle.cw_lazy_table.specs.Choices.{IsReady};
 ghost use Rattle.cw_lazy_table.specs.Numbered.{ArePromises};
+ghost use Rattle.cw_lazy_table.specs.SeamKeys.{IsPut};
 
 use cw_core::StateSet;
 use cw_fixpoint::{number_of, ordered};
 use cw_product::Game;
 use cw_solve::Solved;
 use std::alloc::{AllocError, Global};
+
+/// Whether a promise stands at an index.
+fn stands(promises: &[StateSet], at: usize, promise: &StateSet) -> bool
+    ensures { result ≡ true → slice_get promises.now at ≡ Some promise.now }
+{
+    match promises.get(at) {
+        None => false,
+        Some(there) => there == promise,
+    }
+}
+
+/// Appends a promise, but where it is the first one or the last already: most contexts have one of these.
+fn put_promise(promises: &mut Vec<StateSet>, promise: &StateSet) -> Result<(), AllocError>
+    ensures { OnOk result (IsPut promises.old.items promise.now promises.new.items) }
+{
+    let last = promises.len().saturating_sub(1);
+    if stands(promises, 0, promise) || stands(promises, last, promise) {
+        return Ok(());
+    }
+    promises.push(*promise)?;
+    Ok(())
+}
 
 /// The promises of all contexts, ascending, each once.
 pub(crate) fn promises_of(
@@ -26,7 +49,7 @@ pub(crate) fn promises_of(
     let _ = game;
     let mut all = Vec::new(alloc);
     for number in 0..solved.contexts() {
-        all.push(solved.context(number).promise)?;
+        put_promise(&mut all, &solved.context(number).promise)?;
     }
     ordered(alloc, &all)
 }

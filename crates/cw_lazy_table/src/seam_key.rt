@@ -8,7 +8,7 @@ ghost use Rattle.cw_lazy_table.specs.Kinds.{Asked, Label, Open, Close, Call};
 ghost use Rattle.cw_lazy_table.specs.SeamKeys.{part_in, seam_key, seam_key_of, memory_of, IsPut, AreOf, ComeByKind, AreByKind, put_seam_key, return_cmp, return_of, put_return};
 
 use crate::key::Key;
-use crate::near::Near;
+use crate::near::Places;
 use cw_core::{PosId, StateId};
 use cw_fixpoint::ascending;
 use cw_game::Spot;
@@ -37,6 +37,7 @@ pub(crate) struct ByKind {
 }
 
 /// Whether a memory stands at an index.
+#[inline(always)]
 pub(crate) fn stands(mems: &[(StateId, usize)], at: usize, memory: (StateId, usize)) -> bool
     ensures { result ≡ true → slice_get mems.now at ≡ Some memory }
 {
@@ -46,7 +47,8 @@ pub(crate) fn stands(mems: &[(StateId, usize)], at: usize, memory: (StateId, usi
     }
 }
 
-/// Puts a memory, but where it stands at an index already, or first. The index behind it.
+/// Puts a memory, but where it stands at an index already. The index behind it.
+#[inline(always)]
 fn put_memory(
     memories: &mut Vec<(StateId, usize)>,
     near: usize,
@@ -57,25 +59,26 @@ fn put_memory(
     if stands(memories, near, memory) {
         return Ok(near.saturating_add(1));
     }
-    if stands(memories, 0, memory) {
-        return Ok(1);
-    }
     memories.push(memory)?;
     Ok(memories.len())
 }
 
-/// The states and the promises of keys. The keys of a position ascend by state, and have mostly the memories of the position before, so few
-/// stand here more than once.
+/// The states and the promises of keys, by where each of so many states and promises was put.
 #[inline(never)]
-pub(crate) fn memories_of(alloc: Global, keys: &[Key]) -> Result<Vec<(StateId, usize)>, AllocError>
+pub(crate) fn memories_of(
+    alloc: Global,
+    states: usize,
+    promises: usize,
+    keys: &[Key],
+) -> Result<Vec<(StateId, usize)>, AllocError>
     ensures { IfOk result (λ v. AreOf (map memory_of keys.now) v.items) }
 {
     let mut memories = Vec::new(alloc);
-    let mut near = Near::begin();
+    let mut places = Places::make(alloc, states, promises)?;
     for key in keys {
-        let at = near.guess(key.pos);
+        let at = places.guess(key.state, key.promise);
         let behind = put_memory(&mut memories, at, (StateId(key.state), key.promise))?;
-        near.tell(key.pos, behind);
+        places.tell(key.state, key.promise, behind.saturating_sub(1));
     }
     Ok(memories)
 }

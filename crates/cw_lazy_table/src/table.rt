@@ -1,6 +1,6 @@
 //! The lazy table of a solved game.
 
-ghost use Rattle.std.specs.Prelude.{◌≡◌, ◌<◌, ◌≤◌, None, length, map, nat_lt, IfOk, IfErr, IfSome, IfNone};
+ghost use Rattle.std.specs.Prelude.{◌≡◌, ◌<◌, ◌≤◌, None, Contains, filter_map, length, map, nat_lt, IfOk, IfErr, IfSome, IfNone};
 ghost use Rattle.cw_certs.specs.Ascending.{try_cmp, at_cmp, open_cmp, into_cmp, back_cmp, Ascends};
 ghost use Rattle.cw_certs.specs.Tables.{Table};
 ghost use Rattle.cw_fixpoint.specs.Closures.{Exactly};
@@ -14,26 +14,30 @@ ghost use Rattle.cw_lazy_table.specs.Choices.{start_of, IsReady};
 ghost use Rattle.cw_lazy_table.specs.Kinds.{Asked, Label, Open, Close, Call};
 ghost use Rattle.cw_lazy_table.specs.Lazy.{IsTryRow, IsLabelRow, IsOpenRow, IsCloseRow, IsIntoRow, IsBackRow, IsLazyTable, table_rows};
 ghost use Rattle.cw_lazy_table.specs.Numbered.{small, whole_memory, ArePromises, AreNumbered, ArePaired, AreKept};
-ghost use Rattle.cw_lazy_table.specs.SeamKeys.{AreOfKind};
+ghost use Rattle.cw_lazy_table.specs.SeamKeys.{AreOfKind, return_cmp, return_of};
+ghost use Rattle.cw_lazy_table.specs.Numbered.{ArePromised};
 
 use crate::follow::Choices;
-use crate::indices::key_indices;
+use crate::indices::{group_indices, key_indices, pair_indices};
 use crate::key::Key;
 use crate::lists::{
     at_rows, back_rows, into_rows, live_rows, mem, open_rows, try_rows, whole_memories,
 };
+use crate::looked::{Looked, look_up};
+use crate::mems::{Mems, mems_of};
 use crate::promises::{promise_number, promises_of};
 use crate::seam_key::{SeamKey, memories_of, returns, seam_keys};
 use cw_certs::{AtRow, BackRow, IntoRow, OpenRow, TryRow, WeaverCert};
 use cw_core::limits::ROWS;
 use cw_core::{StateId, StateSet};
-use cw_fixpoint::{joined_up_to, ordered};
+use cw_fixpoint::ordered;
+use cw_joins::joined_up_to;
 use cw_product::Game;
 use cw_solve::{Solved, TableFault};
 use std::alloc::{AllocError, Global};
 
 /// The key at which the program begins.
-fn start_key(game: &Game, solved: &Solved, promises: &[StateSet]) -> Key
+fn start_key(game: &Game, solved: &Looked, promises: &[StateSet]) -> Key
     requires ready { IsReady game.now solved.now }
     requires promises { ArePromises (game_of game.now) promises.now }
     ensures { result ≡ small promises.now (start_of (game_of game.now)) }
@@ -50,9 +54,9 @@ fn start_key(game: &Game, solved: &Solved, promises: &[StateSet]) -> Key
 fn tries(
     alloc: Global,
     game: &Game,
-    solved: &Solved,
+    solved: &Looked,
     promises: &[StateSet],
-    mems: &[(StateId, usize)],
+    mems: &Mems,
     keys: &[Key],
     asked: &[SeamKey],
 ) -> Result<Vec<TryRow>, AllocError>
@@ -71,7 +75,7 @@ fn labels(
     alloc: Global,
     game: &Game,
     promises: &[StateSet],
-    mems: &[(StateId, usize)],
+    mems: &Mems,
     keys: &[Key],
     labels: &[SeamKey],
 ) -> Result<Vec<AtRow>, AllocError>
@@ -90,7 +94,7 @@ fn opens(
     alloc: Global,
     game: &Game,
     promises: &[StateSet],
-    mems: &[(StateId, usize)],
+    mems: &Mems,
     keys: &[Key],
     opens: &[SeamKey],
 ) -> Result<Vec<OpenRow>, AllocError>
@@ -109,7 +113,7 @@ fn closes(
     alloc: Global,
     game: &Game,
     promises: &[StateSet],
-    mems: &[(StateId, usize)],
+    mems: &Mems,
     keys: &[Key],
     closes: &[SeamKey],
 ) -> Result<Vec<AtRow>, AllocError>
@@ -127,20 +131,22 @@ fn closes(
 fn calls(
     alloc: Global,
     game: &Game,
-    solved: &Solved,
+    solved: &Looked,
     promises: &[StateSet],
-    mems: &[(StateId, usize)],
+    mems: &Mems,
     keys: &[Key],
     calls: &[SeamKey],
+    returns: &[(SeamKey, Key)],
 ) -> Result<Vec<IntoRow>, AllocError>
     requires ready { IsReady game.now solved.now }
+    requires promised { ArePromised (game_of game.now) promises.now returns.now }
     requires live { AreNumbered game.now promises.now keys.now }
     requires calls { AreOfKind (game_of game.now) Call keys.now calls.now }
     requires mems { AreKept (game_of game.now) promises.now mems.now }
     ensures { IfOk result (λ v. Exactly into_cmp (IsIntoRow (game_of game.now) (map (whole_memory promises.now) mems.now)) v.items) }
 {
     let _ = keys;
-    into_rows(alloc, game, solved, promises, mems, calls)
+    into_rows(alloc, game, solved, promises, mems, returns, calls)
 }
 
 /// The rows of returns.
@@ -148,24 +154,72 @@ fn backs(
     alloc: Global,
     game: &Game,
     promises: &[StateSet],
-    mems: &[(StateId, usize)],
+    mems: &Mems,
     pairs: &[(Key, Key)],
+    returns: &[(SeamKey, Key)],
 ) -> Result<Vec<BackRow>, AllocError>
-    requires returns { ArePaired game.now promises.now pairs.now }
+    requires paired { ArePaired game.now promises.now pairs.now }
+    requires returns { Exactly return_cmp (Contains (filter_map (return_of (game_of game.now)) pairs.now)) returns.now }
     requires mems { AreKept (game_of game.now) promises.now mems.now }
     ensures { IfOk result (λ v. Exactly back_cmp (IsBackRow (game_of game.now) (map (whole_memory promises.now) mems.now)) v.items) }
 {
     let _ = promises;
-    let returns = returns(alloc, game, pairs)?;
-    back_rows(alloc, game, mems, &returns)
+    let _ = pairs;
+    back_rows(alloc, game, mems, returns)
 }
 
-/// The table of what is live.
+/// The table of what is live, whose memories these are.
 #[inline(never)]
 fn table_of(
     alloc: Global,
     game: &Game,
-    solved: &Solved,
+    solved: &Looked,
+    promises: &[StateSet],
+    mems: &Mems,
+    keys: &[Key],
+    pairs: &[(Key, Key)],
+) -> Result<WeaverCert, AllocError>
+    requires ready { IsReady game.now solved.now }
+    requires live { AreNumbered game.now promises.now keys.now }
+    requires returns { ArePaired game.now promises.now pairs.now }
+    requires mems { AreKept (game_of game.now) promises.now mems.now }
+    ensures { IfOk result (λ t. IsLazyTable (game_of game.now) t) }
+{
+    let named = whole_memories(alloc, promises, mems.list())?;
+    let start = start_key(game, solved, promises);
+    let start = mem(mems, StateId(start.state), start.promise);
+    let live = live_rows(alloc, mems, keys)?;
+    let seam_keys = seam_keys(alloc, game, keys)?;
+    let tries = tries(alloc, game, solved, promises, mems, keys, &seam_keys.asked)?;
+    let labels = labels(alloc, game, promises, mems, keys, &seam_keys.labels)?;
+    let opens = opens(alloc, game, promises, mems, keys, &seam_keys.opens)?;
+    let closes = closes(alloc, game, promises, mems, keys, &seam_keys.closes)?;
+    let returns = returns(alloc, game, pairs)?;
+    let calls = calls(
+        alloc,
+        game,
+        solved,
+        promises,
+        mems,
+        keys,
+        &seam_keys.calls,
+        &returns,
+    )?;
+    let backs = backs(alloc, game, promises, mems, pairs, &returns)?;
+    let states = game.states();
+    match WeaverCert::make(
+        states, start, named, live, tries, labels, opens, closes, calls, backs,
+    ) {
+        Some(table) => Ok(table),
+        None => unreachable!(),
+    }
+}
+
+/// Numbers the memories of what is live, and makes the table.
+fn numbered_table(
+    alloc: Global,
+    game: &Game,
+    solved: &Looked,
     promises: &[StateSet],
     keys: &[Key],
     pairs: &[(Key, Key)],
@@ -175,27 +229,11 @@ fn table_of(
     requires returns { ArePaired game.now promises.now pairs.now }
     ensures { IfOk result (λ t. IsLazyTable (game_of game.now) t) }
 {
-    let all = memories_of(alloc, keys)?;
+    let states = game.states() as usize;
+    let all = memories_of(alloc, states, promises.len(), keys)?;
     let found = ordered(alloc, &all)?;
-    let mems = found.as_slice();
-    let named = whole_memories(alloc, promises, mems)?;
-    let start = start_key(game, solved, promises);
-    let start = mem(mems, StateId(start.state), start.promise);
-    let live = live_rows(alloc, mems, keys)?;
-    let seam_keys = seam_keys(alloc, game, keys)?;
-    let tries = tries(alloc, game, solved, promises, mems, keys, &seam_keys.asked)?;
-    let labels = labels(alloc, game, promises, mems, keys, &seam_keys.labels)?;
-    let opens = opens(alloc, game, promises, mems, keys, &seam_keys.opens)?;
-    let closes = closes(alloc, game, promises, mems, keys, &seam_keys.closes)?;
-    let calls = calls(alloc, game, solved, promises, mems, keys, &seam_keys.calls)?;
-    let backs = backs(alloc, game, promises, mems, pairs)?;
-    let states = game.states();
-    match WeaverCert::make(
-        states, start, named, live, tries, labels, opens, closes, calls, backs,
-    ) {
-        Some(table) => Ok(table),
-        None => unreachable!(),
-    }
+    let mems = mems_of(alloc, &found, states, promises.len())?;
+    table_of(alloc, game, solved, promises, &mems, keys, pairs)
 }
 
 /// Whether a table has more than 65,536 rows in all its lists.
@@ -213,30 +251,32 @@ fn is_long(table: &WeaverCert) -> bool
     ROWS < rows
 }
 
-/// The lazy table; none where it has more than 65,536 rows.
-fn table_within(
+/// The lazy table by these promises; none where it has more than 65,536 rows.
+fn table_by(
     alloc: Global,
     game: &Game,
-    solved: &Solved,
+    solved: &Looked,
+    promises: &[StateSet],
 ) -> Result<Option<WeaverCert>, AllocError>
     requires ready { IsReady game.now solved.now }
+    requires promises { ArePromises (game_of game.now) promises.now }
     ensures lazy { IfOk result (λ o. IfSome o (λ t. IsLazyTable (game_of game.now) t)) }
     ensures few { IfOk result (λ o. IfSome o (λ t. table_rows t ≤ ROWS)) }
     ensures many { IfOk result (λ o. IfNone o ((t : Table) → IsLazyTable (game_of game.now) t → ROWS < table_rows t)) }
 {
-    let found = promises_of(alloc, game, solved)?;
-    let promises = found.as_slice();
     let start = start_key(game, solved, promises);
     let choices = Choices {
         game,
         solved,
         promises,
     };
-    let indices = key_indices(game, promises);
-    match joined_up_to(alloc, &choices, &indices, start, ROWS)? {
+    let keys = key_indices(game, promises);
+    let pairs = pair_indices(&keys);
+    let groups = group_indices(solved, promises);
+    match joined_up_to(alloc, &choices, &keys, &pairs, &groups, start, ROWS)? {
         None => Ok(None),
         Some(joined) => {
-            let table = table_of(
+            let table = numbered_table(
                 alloc,
                 game,
                 solved,
@@ -251,6 +291,22 @@ fn table_within(
             }
         }
     }
+}
+
+/// The lazy table; none where it has more than 65,536 rows.
+fn table_within(
+    alloc: Global,
+    game: &Game,
+    solved: &Solved,
+) -> Result<Option<WeaverCert>, AllocError>
+    requires ready { IsReady game.now solved.now }
+    ensures lazy { IfOk result (λ o. IfSome o (λ t. IsLazyTable (game_of game.now) t)) }
+    ensures few { IfOk result (λ o. IfSome o (λ t. table_rows t ≤ ROWS)) }
+    ensures many { IfOk result (λ o. IfNone o ((t : Table) → IsLazyTable (game_of game.now) t → ROWS < table_rows t)) }
+{
+    let promises = promises_of(alloc, game, solved)?;
+    let looked = look_up(alloc, game, solved, &promises)?;
+    table_by(alloc, game, &looked, &promises)
 }
 
 /// The lazy table of a solved game whose start isn't lost: it tries a primitive, and stops after a refusal, only where

@@ -1,58 +1,13 @@
-use Rattle.std.proofs.Common.{rules, ◌+◌, ◌<◌, ◌≤◌, List, length, sym, subst, ap, arith}
-use Rattle.cw_fixpoint.specs.Closures.{Exactly}
-use Rattle.cw_fixpoint.specs.Members.{HaveMore, IsMember, IsPair, pair_cmp}
-use Rattle.cw_certs.specs.Tables.{Table}
+use Rattle.std.proofs.Common.{ℕ, List, sym, subst}
 use Rattle.cw_product.specs.Product.{game_of}
-use Rattle.cw_lazy_table.specs.declared.key.Key.{Key}
-use Rattle.cw_lazy_table.specs.Lazy.{table_rows}
-use Rattle.cw_lazy_table.specs.Numbered.{numbered, ArePromises}
-use Rattle.cw_lazy_table.specs.SeamKeys.{key_cmp}
-use Rattle.cw_lazy_table.proofs.Counting.{many_members}
-use Rattle.cw_lazy_table.proofs.Numbering.{start_take, are_numbered, are_paired, more_whole}
-use Rattle.cw_lazy_table.proofs.Sameness.{lazy_is_one}
+use Rattle.cw_solve.specs.Solved.{Held}
+use Rattle.cw_lazy_table.specs.Choices.{IsReady}
+use Rattle.cw_lazy_table.specs.Numbered.{ArePromises}
 use Rattle.cw_lazy_table.proofs.table.table_within.Goals as goal
 
-pub start_key-start-requires-clause-promises : goal.start_key-start-requires-clause-promises
-start_key-start-requires-clause-promises c = subst (ArePromises (game_of c.args.game.now)) (sym c.as_slice-promises.ensures.value) c.in_ok-found.ensures
+pub table_by-requires-clause-ready : goal.table_by-requires-clause-ready
+table_by-requires-clause-ready c = subst (λ (s : Held). IsReady c.args.game.now s) (sym c.in_ok-looked.ensures) c.requires.ready
 
-pub joined_up_to-requires-clause-can : goal.joined_up_to-requires-clause-can
-joined_up_to-requires-clause-can c =
-    start_take c.args.game.now c.args.solved.now c.requires.ready c.as_slice-promises.result.now
-    (subst (ArePromises (game_of c.args.game.now)) (sym c.as_slice-promises.ensures.value) c.in_ok-found.ensures) c.start_key-start.result c.start_key-start.ensures
-
-pub returns-in-None-clause-many : goal.returns-in-None-clause-many
-returns-in-None-clause-many c =
-    let g = game_of c.args.game.now in
-    let es = c.as_slice-promises.result.now in
-    let functions = length c.args.game.now.graph.parts.items in
-    let more : HaveMore key_cmp (numbered (game_of c.args.game.now) c.as_slice-promises.result.now) c.start_key-start.result 65536 = search rules in
-    many_members g functions c.requires.ready.begins c.requires.ready.low 65536
-    (more_whole g functions c.requires.ready.begins c.requires.ready.low es
-    (subst (ArePromises (game_of c.args.game.now)) (sym c.as_slice-promises.ensures.value) c.in_ok-found.ensures) 65536
-    (subst (λ (k : Key). HaveMore key_cmp (numbered (game_of c.args.game.now) c.as_slice-promises.result.now) k 65536) c.start_key-start.ensures more))
-
-pub table_of-requires-clause-live : goal.table_of-requires-clause-live
-table_of-requires-clause-live c =
-    let are : Exactly key_cmp (IsMember (numbered (game_of c.args.game.now) c.as_slice-promises.result.now) c.start_key-start.result) c.in-Some.joined.members.items = search rules in
-    let few : length c.in-Some.joined.members.items + length c.in-Some.joined.pairs.items ≤ 65536 = search rules in
-    let long = ap (λ (l : List Key). length l) c.deref.ensures.value in
-    are_numbered c.args.game.now c.args.solved.now c.requires.ready c.as_slice-promises.result.now
-    (subst (ArePromises (game_of c.args.game.now)) (sym c.as_slice-promises.ensures.value) c.in_ok-found.ensures) c.deref.result.now
-    (subst (λ (k : Key). Exactly key_cmp (IsMember (numbered (game_of c.args.game.now) c.as_slice-promises.result.now) k) c.deref.result.now) c.start_key-start.ensures
-    (subst (λ (l : List Key). Exactly key_cmp (IsMember (numbered (game_of c.args.game.now) c.as_slice-promises.result.now) c.start_key-start.result) l) (sym c.deref.ensures.value) are))
-    (omega (arith, few, long))
-
-pub table_of-requires-clause-returns : goal.table_of-requires-clause-returns
-table_of-requires-clause-returns c =
-    let are : Exactly (pair_cmp key_cmp) (IsPair (numbered (game_of c.args.game.now) c.as_slice-promises.result.now) c.start_key-start.result) c.in-Some.joined.pairs.items = search rules in
-    are_paired c.args.game.now c.args.solved.now c.requires.ready c.as_slice-promises.result.now
-    (subst (ArePromises (game_of c.args.game.now)) (sym c.as_slice-promises.ensures.value) c.in_ok-found.ensures) c.deref-in-Some.result.now
-    (subst (λ (k : Key). Exactly (pair_cmp key_cmp) (IsPair (numbered (game_of c.args.game.now) c.as_slice-promises.result.now) k) c.deref-in-Some.result.now) c.start_key-start.ensures
-    (subst (λ (l : List (Key × Key)). Exactly (pair_cmp key_cmp) (IsPair (numbered (game_of c.args.game.now) c.as_slice-promises.result.now) c.start_key-start.result) l)
-    (sym c.deref-in-Some.ensures.value) are))
-
-pub returns-then-is_long-clause-many : goal.returns-then-is_long-clause-many
-returns-then-is_long-clause-many c = λ t lazy.
-    let same = lazy_is_one (game_of c.args.game.now) c.in_ok-table-in-Some.table t c.in_ok-table-in-Some.ensures lazy in
-    let long : 65536 < table_rows c.in_ok-table-in-Some.table = search rules in
-    subst (λ (t : Table). 65536 < table_rows t) same long
+pub table_by-requires-clause-promises : goal.table_by-requires-clause-promises
+table_by-requires-clause-promises c =
+    subst (λ (l : List ℕ). ArePromises (game_of c.args.game.now) l) (sym c.deref-2.ensures.value) c.in_ok-promises.ensures
