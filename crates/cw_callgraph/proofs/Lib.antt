@@ -9,3 +9,5 @@ mod Nodes
 mod Barred
 mod Parted
 mod Forbidden
+mod Spelled
+mod Seams

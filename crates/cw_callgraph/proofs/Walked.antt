@@ -15,7 +15,7 @@ use Rattle.cw_callgraph.specs.Finding.{has, with_all, AreBelow, IsFound, AreReac
 use Rattle.cw_callgraph.proofs.Kept.{contained, had, has_all, all_more, found_below}
 
 -- what is found with more numbers
-of_either : (found gs : List ℕ) (g : ℕ) → Contains (with_all found gs) g → Contains found g ⊎ Contains gs g
+pub of_either : (found gs : List ℕ) (g : ℕ) → Contains (with_all found gs) g → Contains found g ⊎ Contains gs g
 of_either found gs g c = by (or_cases (has found g) (has gs g) (sym (has_all found gs g) ∙ had (with_all found gs) g c))
   where
     by : (has found g ≡ true) ⊎ (has gs g ≡ true) → Contains found g ⊎ Contains gs g
@@ -25,10 +25,10 @@ of_either found gs g c = by (or_cases (has found g) (has gs g) (sym (has_all fou
 in_old : (found gs : List ℕ) (g : ℕ) → Contains found g → Contains (with_all found gs) g
 in_old found gs g c = contained (with_all found gs) g (has_all found gs g ∙ or_left (has found g) (has gs g) (had found g c))
 
-in_more : (found gs : List ℕ) (g : ℕ) → Contains gs g → Contains (with_all found gs) g
+pub in_more : (found gs : List ℕ) (g : ℕ) → Contains gs g → Contains (with_all found gs) g
 in_more found gs g c = contained (with_all found gs) g (has_all found gs g ∙ or_right (has found g) (has gs g) (had gs g c))
 
-none_or : (gs : List ℕ) (g : ℕ) → Contains [] g ⊎ Contains gs g → Contains gs g
+pub none_or : (gs : List ℕ) (g : ℕ) → Contains [] g ⊎ Contains gs g → Contains gs g
 none_or gs g (inl (k, l, e)) = absurd (omega (arith, l))
 none_or gs g (inr c) = c
 

@@ -63,6 +63,13 @@ IsReach next f reach = IsStrictlyIncreasing reach × AreReached next f reach
 abbrev pub direct : Scene → Function → List ℕ
 direct s f = firsts (callees_all (stms_in s f.body.items))
 
+-- the same, each call by itself; and that of the function with this number
+abbrev pub spelled : Scene → Function → List ℕ
+spelled s f = callees_all (stms_in s f.body.items)
+
+abbrev pub spelled_in : Scene → List Function → ℕ → List ℕ
+spelled_in s fs f = slice_index_or (map (spelled s) fs) f []
+
 -- the effects of the first functions of a table of calls, under the least places in heads and in bodies
 pub record AreEffects (rows : List (Vec ℕ Global)) (heads bodies : List (Option ℕ)) (n : ℕ) (effects : List Effect) : Type 0 where
   pub count : length effects ≡ n

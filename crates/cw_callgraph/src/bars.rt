@@ -8,8 +8,8 @@ ghost use Rattle.cw_callgraph.specs.Walking.{scene_at, file_at, head_bar, body_b
 
 use crate::heads::head_place;
 use crate::lowest::lowest;
-use crate::scopes::file_scope;
-use crate::statements::{Setting, body_places};
+use crate::scopes::{Known, file_scope};
+use crate::statements::{Setting, put_body};
 use cw_core::NoMemory;
 use cw_resolve::Scene;
 use cw_syntax::program::{Function, Program};
@@ -33,12 +33,18 @@ fn head_bars(alloc: Global, functions: &[Function]) -> Result<Vec<Option<u32>>, 
     Ok(heads)
 }
 
-/// The least place in the body of a function that forbids splitting it, and what reaches it.
-fn body_bar(alloc: Global, setting: &Setting, function: &Function) -> Result<Option<u32>, NoMemory>
+/// The least place in the body of a function that forbids splitting it, and what reaches it. The names and the places that were found
+/// before are let go.
+pub(crate) fn body_bar(
+    setting: &Setting,
+    function: &Function,
+    inner: &mut Vec<Known>,
+    out: &mut Vec<u32>,
+) -> Result<Option<u32>, NoMemory>
     ensures { IfOk result (λ place. place ≡ body_bar (scene_at setting.now) (file_at setting.now) function.now) }
 {
-    let places = body_places(alloc, setting, function)?;
-    Ok(lowest(&places))
+    put_body(setting, function, inner, out)?;
+    Ok(lowest(out))
 }
 
 /// The same for each function.
@@ -49,9 +55,11 @@ fn body_bars(
 ) -> Result<Vec<Option<u32>>, NoMemory>
     ensures { IfOk result (λ bodies. bodies.items ≡ map (body_bar (scene_at setting.now) (file_at setting.now)) functions.now) }
 {
+    let mut inner = Vec::new(alloc);
+    let mut out = Vec::new(alloc);
     let mut bodies = Vec::new(alloc);
     for function in functions {
-        bodies.push(body_bar(alloc, setting, function)?)?;
+        bodies.push(body_bar(setting, function, &mut inner, &mut out)?)?;
     }
     Ok(bodies)
 }

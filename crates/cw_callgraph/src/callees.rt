@@ -55,7 +55,7 @@ fn find_callees(scene: &Scene, statement: &Stmt, found: &mut Found) -> Result<()
 
 /// The functions that these statements call are found, in the order of the text.
 #[cycle(callees)]
-fn find_callees_of_all(
+pub(crate) fn find_callees_of_all(
     scene: &Scene,
     statements: &[Stmt],
     found: &mut Found,

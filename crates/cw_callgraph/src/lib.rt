@@ -1,6 +1,7 @@
 //! What each function of a program calls directly, and all that it reaches; what forbids splitting it; and which policies fit a program.
 #![tactic(auto)]
 
+mod alone;
 mod bars;
 mod callees;
 mod expressions;

@@ -152,11 +152,10 @@ pub(crate) fn file_scope(alloc: Global, program: &Program) -> Result<Vec<Known>,
     Ok(known)
 }
 
-/// The names of a function's parameters.
-pub(crate) fn parameters(alloc: Global, params: &[Param]) -> Result<Vec<Known>, NoMemory>
-    ensures { IfOk result (λ known. known.items ≡ parameters params.now) }
+/// Appends the names of a function's parameters.
+pub(crate) fn put_parameters(params: &[Param], known: &mut Vec<Known>) -> Result<(), NoMemory>
+    ensures { IfOk result (λ _. known.new.items ≡ known.old.items ++ parameters params.now) }
 {
-    let mut known = Vec::new(alloc);
     for param in params {
         if let Some(name) = param.name {
             known.push(Known {
@@ -165,7 +164,7 @@ pub(crate) fn parameters(alloc: Global, params: &[Param]) -> Result<Vec<Known>, 
             })?;
         }
     }
-    Ok(known)
+    Ok(())
 }
 
 /// What a name means that is declared in a function: with `extern` the file's own variable, where there is one.

@@ -1,6 +1,7 @@
 //! The places in the body of a function that forbid splitting.
 
 ghost use Rattle.std.specs.Prelude.{◌≡◌, ◌∷◌, [], ◌++◌, map, option_map, IfOk};
+ghost use Rattle.cw_syntax.specs.declared.program.Expr.{out-Expr};
 ghost use Rattle.cw_syntax.specs.declared.program.Head.{out-Head};
 ghost use Rattle.cw_syntax.specs.Plans.{action_of};
 ghost use Rattle.cw_syntax.specs.Trees.{tree_of, trees_of, array_of, declared_of, declaration_of, definition_of, statement_of, statements_of, perhaps_of};
@@ -10,11 +11,10 @@ ghost use Rattle.cw_callgraph.specs.Forbidding.{places, places_in, given, size, 
 ghost use Rattle.cw_callgraph.specs.Walking.{scene_at, source_at, file_at, item_places, head_list, evaluated, body_under};
 
 use crate::expressions::{Role, put_if, put_places, put_places_in};
-use crate::scopes::{Known, Scope, local_meaning, parameters};
+use crate::scopes::{Known, Scope, local_meaning, put_parameters};
 use cw_core::NoMemory;
 use cw_resolve::{Act, Scene, action_of};
-use cw_syntax::program::{Decl, Expr, Function, Head, Item, Stmt, What};
-use std::alloc::Global;
+use cw_syntax::program::{Decl, Expr, Function, Head, Item, Name, Op, Stmt, What};
 
 /// A source with the names by which opens and closes are known in it, and the names at its file scope.
 #[derive(Clone, Copy, Drop)]
@@ -189,13 +189,31 @@ fn put_head(
 }
 
 /// Whether a whole statement of this expression is an open or a close.
-fn is_seam(setting: &Setting, e: &Expr) -> bool
+fn is_seam_in(setting: &Setting, e: &Expr) -> bool
     ensures { result ≡ is_seam (action_of (scene_at setting.now) (tree_of e.now)) }
 {
     match action_of(setting.scene, e) {
         Act::Opens(_) => true,
         Act::Closes(_) => true,
         _ => false,
+    }
+}
+
+/// Whether the statement of a call of this name is a close: no name is looked up but `close`.
+fn is_close_in(setting: &Setting, name: Name, e: &Expr) -> bool
+    requires call { (out-Expr e.now).op ≡ Op.Call name }
+    ensures { result ≡ is_seam (action_of (scene_at setting.now) (tree_of e.now)) }
+{
+    setting.scene.text(name) == b"close".as_slice() && is_seam_in(setting, e)
+}
+
+/// Whether a whole statement of this expression is an open or a close.
+fn is_seam(setting: &Setting, e: &Expr) -> bool
+    ensures { result ≡ is_seam (action_of (scene_at setting.now) (tree_of e.now)) }
+{
+    match e.op {
+        Op::Call(name) => is_close_in(setting, name, e),
+        _ => is_seam_in(setting, e),
     }
 }
 
@@ -286,16 +304,17 @@ fn put_statements(
     Ok(())
 }
 
-/// The places in the body of a function.
-pub(crate) fn body_places(
-    alloc: Global,
+/// The places in the body of a function, in the place of those that were found before; so are the names that are known.
+pub(crate) fn put_body(
     setting: &Setting,
     function: &Function,
-) -> Result<Vec<u32>, NoMemory>
-    ensures { IfOk result (λ found. found.items ≡ body_under (scene_at setting.now) (file_at setting.now) (definition_of function.now)) }
+    inner: &mut Vec<Known>,
+    out: &mut Vec<u32>,
+) -> Result<(), NoMemory>
+    ensures { IfOk result (λ _. out.new.items ≡ body_under (scene_at setting.now) (file_at setting.now) (definition_of function.now)) }
 {
-    let mut inner = parameters(alloc, &function.params)?;
-    let mut out = Vec::new(alloc);
-    put_statements(setting, &function.body, &mut inner, &mut out)?;
-    Ok(out)
+    inner.clear();
+    out.clear();
+    put_parameters(&function.params, inner)?;
+    put_statements(setting, &function.body, inner, out)
 }

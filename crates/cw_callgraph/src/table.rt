@@ -5,7 +5,7 @@ ghost use Rattle.std.specs.List.{All, Contains};
 ghost use Rattle.std.specs.List.Sorted.{IsStrictlyIncreasing};
 ghost use Rattle.cw_rights.specs.Policies.{policy_of};
 ghost use Rattle.cw_resolve.specs.Own.{IsSceneOf};
-ghost use Rattle.cw_resolve.specs.Scenes.{names_of, plan_in};
+ghost use Rattle.cw_resolve.specs.Scenes.{names_of, plan_in, scene_in};
 ghost use Rattle.cw_callgraph.specs.Effects.{calls, Reaches, Each};
 ghost use Rattle.cw_callgraph.specs.Tabled.{AreEffectsOf};
 ghost use Rattle.cw_callgraph.specs.Forbidding.{Forbids, IsLeast};
@@ -48,18 +48,33 @@ pub(crate) struct Parts {
     pub bars: Bars,
 }
 
-/// What each function calls, and what forbids splitting each by itself.
-pub(crate) fn parts_of(alloc: Global, checked: &Checked, policy: &Policy) -> Result<Parts, NoMemory>
+/// What each function calls, and what forbids splitting each by itself, in the scene of a source under a policy.
+pub(crate) fn parts_in(
+    alloc: Global,
+    scene: &Scene,
+    checked: &Checked,
+    policy: &Policy,
+) -> Result<Parts, NoMemory>
+    requires scene { scene.now ≡ scene_in checked.now (policy_of policy.now) }
     requires few { length checked.now.program.functions.items ≤ 65535 }
     ensures { IfOk result (λ parts. ArePartsOf checked.now (policy_of policy.now) parts) }
 {
-    let scene = Scene::under(alloc, checked, policy)?;
-    let rows = all_calls(alloc, &scene, &checked.program)?;
-    let bars = all_bars(alloc, &scene, &checked.program)?;
+    let _ = policy;
+    let rows = all_calls(alloc, scene, &checked.program)?;
+    let bars = all_bars(alloc, scene, &checked.program)?;
     Ok(Parts {
         calls: Calls { rows },
         bars,
     })
+}
+
+/// The same, in a scene that is made for it.
+fn parts_of(alloc: Global, checked: &Checked, policy: &Policy) -> Result<Parts, NoMemory>
+    requires few { length checked.now.program.functions.items ≤ 65535 }
+    ensures { IfOk result (λ parts. ArePartsOf checked.now (policy_of policy.now) parts) }
+{
+    let scene = Scene::under(alloc, checked, policy)?;
+    parts_in(alloc, &scene, checked, policy)
 }
 
 /// A copy of a list of numbers.

@@ -1,4 +1,4 @@
-use Rattle.std.proofs.Common.{◌≤◌, length, map, sym, ap, ◌∙◌, subst}
+use Rattle.std.proofs.Common.{◌≤◌, map, sym, ap, ◌∙◌, subst}
 use Rattle.cw_syntax.specs.Trees.{file_of}
 use Rattle.cw_syntax.specs.Plans.{Scene, scene_of, plan_of}
 use Rattle.cw_resolve.proofs.Scening.{scene_is, many_functions}

@@ -1,6 +1,0 @@
-use Rattle.std.proofs.Common.{◌≡◌, ◌++◌, drop}
-use Rattle.cw_callgraph.specs.Scoping.{parameters}
-use Rattle.cw_callgraph.proofs.scopes.parameters.Given as goal
-
-abbrev pub invariant-loop-param : goal.invariant-loop-param
-invariant-loop-param l = l.known.items ++ parameters (drop l.param-index l.params) ≡ parameters l.params
