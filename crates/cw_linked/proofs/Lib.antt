@@ -29,6 +29,7 @@ pub mod Tieing
 pub mod Tightening
 pub mod Edging
 pub mod Reaching
+pub mod Refusing
 pub mod Sourcing
 pub mod Pushing
 pub mod Promising

@@ -1,6 +1,6 @@
 -- The lists of positions that keep the state, while they are made.
 use Rattle.std.proofs.Common.{◌≡◌, ℕ, ◌+◌, ◌<◌, ◌≤◌, List, [], ◌∷◌, ◌++◌, true, false, Option, Some, None, length, refl, sym, ap, ◌∙◌, subst, arith, inl, inr}
-use Rattle.std.specs.Prelude.{slice_get, Contains, replicate}
+use Rattle.std.specs.Prelude.{◌⊎◌, slice_get, IfSome, Contains, replicate}
 use Rattle.std.proofs.lemmas.Bool.{cases_lt, false≢true}
 use Rattle.std.proofs.lemmas.Option.{same_Some, none-some}
 use Rattle.std.proofs.lemmas.List.{length-replicate}
@@ -8,43 +8,72 @@ use Rattle.cw_lemmas.proofs.Lists.{get_last, get_front}
 use Rattle.cw_certs.specs.declared.moves.Move.{Move}
 use Rattle.cw_certs.specs.declared.moves.Move.TheVariants.{Skip, Try, On, Left, Right}
 use Rattle.cw_game.specs.declared.spots.Spot.{Spot}
-use Rattle.cw_game.specs.declared.spots.Spot.TheVariants.{Visit, Step, Branch}
+use Rattle.cw_game.specs.declared.spots.Spot.TheVariants.{Visit, Asked, Step, Branch, Label, Open, Close, Call, SplitCall, Exit}
 use Rattle.cw_game.specs.Games.{Game}
 use Rattle.cw_links.specs.Flat.{AreRowsOf}
 use Rattle.cw_links.specs.Lists.{Chained, list_at, with_front}
 use Rattle.cw_links.proofs.CallerLemmas.{Contains-with_front}
 use Rattle.cw_links.proofs.FlatRows.{as_many_rows, value_in, value_from}
 use Rattle.cw_links.proofs.Linking.{lists_kept, one_more}
-use Rattle.cw_product.specs.Moves.{next_in, next_at}
-use Rattle.cw_product.specs.MovesAt.{first_move, second_move}
+use Rattle.cw_positions.specs.Closed.{LeadsWithin}
+use Rattle.cw_product.specs.Moves.{next_in}
 use Rattle.cw_linked.specs.declared.edges.Source.{Source}
-use Rattle.cw_linked.specs.Edges.{AreSteps, AddsSource, AreSourcesTo}
+use Rattle.cw_linked.specs.Edges.{AreSteps, first_kept, second_kept, AddsSource, AreSourcesTo}
 use Rattle.cw_linked.specs.Steps.{Leads}
 use Rattle.cw_linked.specs.Waiting.{HasIn, keeps_state, is_step, source_at, IsStepTo, IsVisit, AreSources}
-use Rattle.cw_linked.proofs.Edging.{kept_in, new_in, each_move}
+use Rattle.cw_linked.proofs.Edging.{kept_in, new_in}
 use Rattle.cw_linked.proofs.Soles.{none_there}
 
 -- the same position, and the state is kept
-kept : (m q r x : ℕ) → ◌≡◌ {A = Option (ℕ × ℕ)} (Some (m, q)) (Some (r, x)) → (q ≡ x) × ◌≡◌ {A = Option (ℕ × ℕ)} (Some (m, 0)) (Some (r, 0))
-kept m q r x e = let same : (m, q) ≡ (r, x) = same_Some (m, q) (r, x) e in (ap (λ (z : ℕ × ℕ). z.1) same, ap {B = Option (ℕ × ℕ)} (λ (z : ℕ × ℕ). Some (z.0, 0)) same)
+kept : (m q r x : ℕ) → ◌≡◌ {A = Option (ℕ × ℕ)} (Some (m, q)) (Some (r, x)) → (q ≡ x) × (◌≡◌ {A = Option ℕ} (Some m) (Some r))
+kept m q r x e = let same : (m, q) ≡ (r, x) = same_Some (m, q) (r, x) e in (ap (λ (z : ℕ × ℕ). z.1) same, ap {B = Option ℕ} (λ (z : ℕ × ℕ). Some z.0) same)
 
--- Where the moves at a position keep the state, each leads to one position from all states.
-pub leads_alike : (g : Game) (p q r x : ℕ) (o : Option Spot) (by : Move) → keeps_state o ≡ true → next_in g p q o by ≡ Some (r, x) → (q ≡ x) × (next_in g p 0 o by ≡ Some (r, 0))
-leads_alike g p q r x (Some (Visit j i a)) Skip k e = kept (p + 2) q r x e
-leads_alike g p q r x (Some (Visit j i a)) Try k e = kept (p + 1) q r x e
+-- Where the moves at a position keep the state, each leads to one of both, from all states.
+pub leads_alike : (g : Game) (p q r x : ℕ) (o : Option Spot) (by : Move) → keeps_state o ≡ true → next_in g p q o by ≡ Some (r, x)
+    → (q ≡ x) × ((first_kept p o ≡ Some r) ⊎ (second_kept p o ≡ Some r))
+leads_alike g p q r x (Some (Visit j i a)) Skip k e = let h = kept (p + 2) q r x e in (h.0, inl h.1)
+leads_alike g p q r x (Some (Visit j i a)) Try k e = let h = kept (p + 1) q r x e in (h.0, inr h.1)
 leads_alike g p q r x (Some (Visit j i a)) by k e = absurd (none-some (r, x) e)
-leads_alike g p q r x (Some (Step n)) On k e = kept n q r x e
+leads_alike g p q r x (Some (Step n)) On k e = let h = kept n q r x e in (h.0, inl h.1)
 leads_alike g p q r x (Some (Step n)) by k e = absurd (none-some (r, x) e)
-leads_alike g p q r x (Some (Branch m n)) Left k e = kept m q r x e
-leads_alike g p q r x (Some (Branch m n)) Right k e = kept n q r x e
+leads_alike g p q r x (Some (Branch m n)) Left k e = let h = kept m q r x e in (h.0, inl h.1)
+leads_alike g p q r x (Some (Branch m n)) Right k e = let h = kept n q r x e in (h.0, inr h.1)
 leads_alike g p q r x (Some (Branch m n)) by k e = absurd (none-some (r, x) e)
 leads_alike g p q r x o by k e = absurd (false≢true k)
 
 -- a step leads to one position
-step_leads : (g : Game) (p r x : ℕ) (o : Option Spot) (by : Move) → is_step o ≡ true → next_in g p 0 o by ≡ Some (r, x) → o ≡ Some (Step r)
-step_leads g p r x (Some (Step n)) On k e = let same : (n, 0) ≡ (r, x) = same_Some (n, 0) (r, x) e in ap (λ (z : ℕ × ℕ). Some (Step z.0)) same
-step_leads g p r x (Some (Step n)) by k e = absurd (none-some (r, x) e)
-step_leads g p r x o by k e = absurd (false≢true k)
+pub first_steps : (p r : ℕ) (o : Option Spot) → first_kept p o ≡ Some r → is_step o ≡ true → o ≡ Some (Step r)
+first_steps p r (Some (Step n)) e k = ap {B = Option Spot} (λ (y : ℕ). Some (Step y)) (same_Some n r e)
+first_steps p r o e k = absurd (false≢true k)
+
+pub second_steps : (p r : ℕ) (o : Option Spot) → second_kept p o ≡ Some r → is_step o ≡ true → o ≡ Some (Step r)
+second_steps p r (Some (Step n)) e k = absurd (none-some r e)
+second_steps p r o e k = absurd (false≢true k)
+
+-- both are within the game
+pub first_inside : (size functions p : ℕ) (s : Spot) → LeadsWithin size functions p s → IfSome (first_kept p (Some s)) (λ r. r < size)
+first_inside size functions p (Visit j i a) leads = leads
+first_inside size functions p (Step n) leads = leads
+first_inside size functions p (Branch m n) leads = leads.0
+first_inside size functions p (Asked j i a) leads = tt
+first_inside size functions p (Label j l n) leads = tt
+first_inside size functions p (Open j d n) leads = tt
+first_inside size functions p (Close j d n) leads = tt
+first_inside size functions p (Call j f n) leads = tt
+first_inside size functions p (SplitCall j f n) leads = tt
+first_inside size functions p (Exit f) leads = tt
+
+pub second_inside : (size functions p : ℕ) (s : Spot) → LeadsWithin size functions p s → IfSome (second_kept p (Some s)) (λ r. r < size)
+second_inside size functions p (Visit j i a) leads = omega (arith, leads)
+second_inside size functions p (Step n) leads = tt
+second_inside size functions p (Branch m n) leads = leads.1
+second_inside size functions p (Asked j i a) leads = tt
+second_inside size functions p (Label j l n) leads = tt
+second_inside size functions p (Open j d n) leads = tt
+second_inside size functions p (Close j d n) leads = tt
+second_inside size functions p (Call j f n) leads = tt
+second_inside size functions p (SplitCall j f n) leads = tt
+second_inside size functions p (Exit f) leads = tt
 
 module _ (g : Game) where
   -- a source that leads to a position is put in front of its list
@@ -78,56 +107,44 @@ module _ (g : Game) where
         leads = λ p q r x lt keeping leads. absurd (omega (arith, lt));
       }
 
-  pub a_source_more : (old new : Chained Source) (p r x : ℕ) (by : Move) → next_at g p 0 by ≡ Some (r, x) → r < length old.lists → new.lists ≡ with_front old.lists r (length old.values)
-      → new.values ≡ old.values ++ source_at g p ∷ [] → AddsSource g old new p by
-  a_source_more old new p r x by leads within lists values = record {
-    lists = lists_kept old new r (source_at g p) lists values within;
-    grows = (let more = one_more old new r (source_at g p) lists values within in omega (arith, more));
-    keeps = kept_in old new r (source_at g p) lists values within;
-    steps = steps_more old new r (source_at g p) within lists values (λ k. step_leads g p r x (slice_get g.spots p) by k leads) (λ k. k);
-    leads = λ s y e.
-        let same : r ≡ s = ap (λ (z : ℕ × ℕ). z.0) (same_Some (r, x) (s, y) (sym leads ∙ e)) in
-        subst (λ (z : ℕ). HasIn new z (source_at g p)) same (new_in old new r (source_at g p) lists values within);
+  pub a_source_more : (old new : Chained Source) (source : Source) (to : Option ℕ) (r : ℕ) → to ≡ Some r → r < length old.lists → new.lists ≡ with_front old.lists r (length old.values)
+      → new.values ≡ old.values ++ source ∷ [] → IsStepTo g source r → IsVisit g source → AddsSource g old new source to
+  a_source_more old new source to r is within lists values step visit = record {
+    lists = lists_kept old new r source lists values within;
+    grows = (let more = one_more old new r source lists values within in omega (arith, more));
+    keeps = kept_in old new r source lists values within;
+    steps = steps_more old new r source within lists values step visit;
+    leads = λ s e. subst (λ (z : ℕ). HasIn new z source) (same_Some r s (sym is ∙ e)) (new_in old new r source lists values within);
   }
 
-  -- one position more, in all lists to which its moves lead
-  position_in : (old new : Chained Source) (p : ℕ) → AreSourcesTo g old p → length new.lists ≡ length old.lists → length new.values ≤ length old.values + 2
-      → ((l : ℕ) (source : Source) → HasIn old l source → HasIn new l source) → AreSteps g new
-      → ((q r x : ℕ) → keeps_state (slice_get g.spots p) ≡ true → Leads g p q r x → HasIn new r (source_at g p)) → AreSourcesTo g new (p + 1)
-  position_in old new p are lists grows keeps steps here = record {
-    lists = lists ∙ are.lists;
-    few = (let f = are.few in omega (arith, f, grows));
-    steps = steps;
+  pub no_source_more : (old : Chained Source) (source : Source) (to : Option ℕ) → to ≡ None → AddsSource g old old source to
+  no_source_more old source to none = record {
+    lists = refl;
+    grows = omega arith;
+    keeps = λ l source is. is;
+    steps = λ are. are;
+    leads = λ r e. absurd (none-some r (sym none ∙ e));
+  }
+
+  -- one position more, in the lists of both to which its moves lead, if they keep the state
+  pub both_in : (a b c : Chained Source) (p : ℕ) (source : Source) (first second : Option ℕ) → source ≡ source_at g p → first ≡ first_kept p (slice_get g.spots p)
+      → second ≡ second_kept p (slice_get g.spots p) → AreSourcesTo g a p → AddsSource g a b source first → AddsSource g b c source second → AreSourcesTo g c (p + 1)
+  both_in a b c p source first second is is_first is_second are one two = record {
+    lists = two.lists ∙ one.lists ∙ are.lists;
+    few = (let f = are.few in omega (arith, f, one.grows, two.grows));
+    steps = two.steps (one.steps are.steps);
     leads = λ m q r x lt keeping leads. elim (cases_lt m p) [
-      | inl less ↦ keeps r (source_at g m) (are.leads m q r x less keeping leads)
+      | inl less ↦ two.keeps r (source_at g m) (one.keeps r (source_at g m) (are.leads m q r x less keeping leads))
       | inr ge ↦
-          let same : p ≡ m = omega (arith, lt, ge) in
-          subst (λ (y : ℕ). keeps_state (slice_get g.spots y) ≡ true → Leads g y q r x → HasIn new r (source_at g y)) same (here q r x) keeping leads
+          let same : m ≡ p = omega (arith, lt, ge) in
+          let there = subst (λ (y : ℕ). Leads g y q r x) same leads in
+          subst (λ (y : ℕ). HasIn c r (source_at g y)) (sym same)
+          (subst (λ (y : Source). HasIn c r y) is (elim (leads_alike g p q r x (slice_get g.spots p) there.0 (subst (λ (y : ℕ). keeps_state (slice_get g.spots y) ≡ true) same keeping) there.2).1 [
+            | inl e ↦ two.keeps r source (one.leads r (is_first ∙ e))
+            | inr e ↦ two.leads r (is_second ∙ e)
+          ]))
     ];
   }
-
-  -- what leads from a state leads from the first
-  from_first : (p q r x : ℕ) (by : Move) (new : Chained Source) → keeps_state (slice_get g.spots p) ≡ true → ((s y : ℕ) → next_at g p 0 by ≡ Some (s, y) → HasIn new s (source_at g p))
-      → next_at g p q by ≡ Some (r, x) → HasIn new r (source_at g p)
-  from_first p q r x by new keeping leads e = leads r 0 (leads_alike g p q r x (slice_get g.spots p) by keeping e).1
-
-  pub none_in : (sources : Chained Source) (p : ℕ) → keeps_state (slice_get g.spots p) ≡ false → AreSourcesTo g sources p → AreSourcesTo g sources (p + 1)
-  none_in sources p changing are = position_in sources sources p are refl (omega arith) (λ l source is. is) are.steps (λ q r x keeping leads. absurd (false≢true (sym changing ∙ keeping)))
-
-  pub one_in : (a b : Chained Source) (p : ℕ) → second_move (slice_get g.spots p) ≡ None → AreSourcesTo g a p → AddsSource g a b p (first_move (slice_get g.spots p)) → AreSourcesTo g b (p + 1)
-  one_in a b p alone are first = position_in a b p are first.lists (let h = first.grows in omega (arith, h)) first.keeps (first.steps are.steps) (λ q r x keeping is.
-      each_move (slice_get g.spots p) (λ by. next_at g p q by ≡ Some (r, x) → HasIn b r (source_at g p)) (from_first p q r x (first_move (slice_get g.spots p)) b keeping first.leads)
-      (λ by e. absurd (none-some by (sym alone ∙ e))) is.0 is.1 is.2)
-
-  pub two_in : (a b c : Chained Source) (p : ℕ) (other : Move) → second_move (slice_get g.spots p) ≡ Some other → AreSourcesTo g a p → AddsSource g a b p (first_move (slice_get g.spots p))
-      → AddsSource g b c p other → AreSourcesTo g c (p + 1)
-  two_in a b c p other also are first second = position_in a c p are (second.lists ∙ first.lists) (omega (arith, first.grows, second.grows))
-      (λ l source is. second.keeps l source (first.keeps l source is)) (second.steps (first.steps are.steps))
-      (λ q r x keeping is.
-      each_move (slice_get g.spots p) (λ by. next_at g p q by ≡ Some (r, x) → HasIn c r (source_at g p))
-      (λ e. second.keeps r (source_at g p) (from_first p q r x (first_move (slice_get g.spots p)) b keeping first.leads e))
-      (λ by e. from_first p q r x by c keeping (subst (λ (m : Move). (s y : ℕ) → next_at g p 0 m ≡ Some (s, y) → HasIn c s (source_at g p)) (same_Some other by (sym also ∙ e)) second.leads))
-      is.0 is.1 is.2)
 
   -- all positions are in, and the lists are rows
   pub all_sources_in : (sources : Chained Source) (rows : List (List Source)) (m : ℕ) → length g.spots ≤ m → AreSourcesTo g sources m → AreRowsOf sources rows → AreSources g rows

@@ -1,11 +1,12 @@
 -- Working definitions: the lists of what waits for pairs, and of what returns to positions, while they are made.
-use Rattle.std.specs.Prelude.{◌≡◌, ◌⊎◌, ℕ, ◌+◌, ◌*◌, ◌<◌, ◌≤◌, Bool, true, false, List, Option, Some, None, length, slice_get, Contains}
+use Rattle.std.specs.Prelude.{◌≡◌, ◌⊎◌, ℕ, ◌+◌, ◌*◌, ◌<◌, ◌≤◌, Bool, true, false, ◌&&◌, not, List, Option, Some, None, length, slice_get, Contains}
 use Rattle.cw_core.specs.declared.ids.PosId.{PosId}
 use Rattle.cw_certs.specs.declared.moves.Move.{Move}
 use Rattle.cw_rights.specs.declared.capabilities.Primitive.{Primitive}
 use Rattle.cw_rights.specs.declared.capabilities.Primitive.TheVariants.{Split}
+use Rattle.cw_rights.specs.Policies.{is_refusable}
 use Rattle.cw_game.specs.declared.spots.Spot.{Spot}
-use Rattle.cw_game.specs.declared.spots.Spot.TheVariants.{Asked, Label, Open, Close}
+use Rattle.cw_game.specs.declared.spots.Spot.TheVariants.{Visit, Asked, Step, Branch, Label, Open, Close}
 use Rattle.cw_game.specs.Games.{Game}
 use Rattle.cw_game.specs.Pairs.{Called, call_in}
 use Rattle.cw_links.specs.Lists.{Chained, list_at}
@@ -24,13 +25,25 @@ AreFine g pairs = (edge : ℕ) (pair : Pair) → slice_get pairs.values edge ≡
 abbrev pub AreSteps : Game → Chained Source → Type 0
 AreSteps g sources = (l edge : ℕ) → Contains (list_at sources.lists l) edge → (source : Source) × (slice_get sources.values edge ≡ Some source) × IsStepTo g source l × IsVisit g source
 
--- what was in stays in, and a position is in the list of the one to which this move leads
-pub record AddsSource (g : Game) (old new : Chained Source) (p : ℕ) (by : Move) : Type 0 where
+-- where the moves lead from where this stands, if they keep the state, one or two
+abbrev pub first_kept : ℕ → Option Spot → Option ℕ
+first_kept p (Some (Visit j i a)) = Some (p + 2)
+first_kept p (Some (Step n)) = Some n
+first_kept p (Some (Branch m n)) = Some m
+first_kept p _ = None
+
+abbrev pub second_kept : ℕ → Option Spot → Option ℕ
+second_kept p (Some (Visit j i a)) = Some (p + 1)
+second_kept p (Some (Branch m n)) = Some n
+second_kept p _ = None
+
+-- what was in stays in, and a source is in the list of this position, if there is one
+pub record AddsSource (g : Game) (old new : Chained Source) (source : Source) (to : Option ℕ) : Type 0 where
   pub lists : length new.lists ≡ length old.lists
   pub grows : length new.values ≤ length old.values + 1
   pub keeps : (l : ℕ) (source : Source) → HasIn old l source → HasIn new l source
   pub steps : AreSteps g old → AreSteps g new
-  pub leads : (r x : ℕ) → next_at g p 0 by ≡ Some (r, x) → HasIn new r (source_at g p)
+  pub leads : (r : ℕ) → to ≡ Some r → HasIn new r source
 
 -- the positions before this one are in
 pub record AreSourcesTo (g : Game) (sources : Chained Source) (m : ℕ) : Type 0 where
@@ -70,6 +83,11 @@ second_asked p _ = None
 abbrev pub second_target : ℕ → Option Spot → Option ℕ
 second_target p (Some (Asked j i a)) = second_asked p a
 second_target p _ = None
+
+-- where something is asked, whether it may be refused in states that may grant it
+abbrev pub refusal : Game → Option Spot → Option Bool
+refusal g (Some (Asked j i a)) = Some (is_refusable g.policy a && not g.policy.stop)
+refusal g _ = None
 
 -- what was flagged stays flagged, and so is this position, if there is one
 pub record FlagsTarget (old new : List Bool) (to : Option ℕ) : Type 0 where

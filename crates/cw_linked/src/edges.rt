@@ -8,12 +8,12 @@ ghost use Rattle.cw_product.specs.Moves.{IsPosition, IsState, next_at, numbers};
 ghost use Rattle.cw_product.specs.MovesAt.{first_move, second_move};
 ghost use Rattle.cw_product.specs.Routed.{AreRouted};
 ghost use Rattle.cw_solve.specs.Rounds.{positions};
-ghost use Rattle.cw_linked.specs.Edges.{AddsSource, first_target, second_asked, second_target, FlagsTarget, AddsMove, AddsMoves, changes_state, AreSourcesTo, AreReached, AreReachedTo, AreChangesTo, AreReturnsTo};
+ghost use Rattle.cw_linked.specs.Edges.{first_kept, second_kept, AddsSource, refusal, first_target, second_asked, second_target, FlagsTarget, AddsMove, AddsMoves, changes_state, AreSourcesTo, AreReached, AreReachedTo, AreChangesTo, AreReturnsTo};
 ghost use Rattle.cw_linked.specs.Plain.{IsPlain, ArePlain};
 ghost use Rattle.cw_linked.specs.Returns.{AreReturns};
 ghost use Rattle.cw_linked.specs.Runs.{AreRuns};
 ghost use Rattle.cw_linked.specs.Steps.{IsMoveIn, Leads};
-ghost use Rattle.cw_linked.specs.Waiting.{keeps_state, is_step, source_at, lone, next_by, pair_of, AreSources, AreChanges, AreWaits};
+ghost use Rattle.cw_linked.specs.Waiting.{keeps_state, is_step, source_at, IsStepTo, IsVisit, lone, next_by, pair_of, AreSources, AreChanges, AreWaits};
 
 use crate::divisor::Divisor;
 use crate::waiting::list_of;
@@ -24,6 +24,7 @@ use cw_game::Spot;
 use cw_links::{Chains, RankedFlags, Rows};
 use cw_product::{Game, Turn};
 use cw_rights::Primitive;
+use cw_rights::policy::is_refusable;
 use cw_solve::table::positions;
 use std::alloc::Global;
 
@@ -69,25 +70,11 @@ pub(crate) struct Edges {
     pub runs: Vec<Divisor>,
 }
 
-/// Whether the moves at a position keep the state.
-fn keeps(game: &Game, pos: PosId) -> bool
-    requires position { IsPosition (game_of game.now) pos.0 }
-    ensures { keeps_state (slice_get (game_of game.now).spots pos.0) ≡ result }
+/// Whether moves lead from where this stands that may change the state: none leads anywhere from a call or an exit.
+fn is_changing(spot: Spot) -> bool
+    ensures { changes_state (Some spot) ≡ result }
 {
-    match game.spot(pos) {
-        Spot::Visit(_, _, _) | Spot::Step(_) | Spot::Branch(_, _) => true,
-        Spot::Asked(_, _, _) | Spot::Label(_, _, _) => false,
-        Spot::Open(_, _, _) | Spot::Close(_, _, _) => false,
-        Spot::Call(_, _, _) | Spot::SplitCall(_, _, _) | Spot::Exit(_) => false,
-    }
-}
-
-/// Whether moves lead from a position that may change the state: none leads anywhere from a call or an exit.
-fn is_changing(game: &Game, pos: PosId) -> bool
-    requires position { IsPosition (game_of game.now) pos.0 }
-    ensures { changes_state (slice_get (game_of game.now).spots pos.0) ≡ result }
-{
-    match game.spot(pos) {
+    match spot {
         Spot::Asked(_, _, _) | Spot::Label(_, _, _) => true,
         Spot::Open(_, _, _) | Spot::Close(_, _, _) => true,
         Spot::Visit(_, _, _) | Spot::Step(_) | Spot::Branch(_, _) => false,
@@ -95,55 +82,85 @@ fn is_changing(game: &Game, pos: PosId) -> bool
     }
 }
 
-/// Whether a step stands at a position.
-fn is_step(game: &Game, pos: PosId) -> bool
-    requires position { IsPosition (game_of game.now) pos.0 }
-    ensures { result ≡ is_step (slice_get (game_of game.now).spots pos.0) }
+/// Whether this is a step.
+fn is_step(spot: Spot) -> bool
+    ensures { result ≡ is_step (Some spot) }
 {
-    match game.spot(pos) {
+    match spot {
         Spot::Step(_) => true,
         _ => false,
     }
 }
 
-/// Whether a visit stands at a position.
-fn is_visit(game: &Game, pos: PosId) -> bool
-    requires position { IsPosition (game_of game.now) pos.0 }
-    ensures { result ≡ weavers_in (slice_get (game_of game.now).spots pos.0) }
+/// Whether this is a visit.
+fn is_visit(spot: Spot) -> bool
+    ensures { result ≡ weavers_in (Some spot) }
 {
-    match game.spot(pos) {
+    match spot {
         Spot::Visit(_, _, _) => true,
         _ => false,
     }
 }
 
-/// A position as a source.
-fn as_source(game: &Game, pos: PosId) -> Source
-    requires position { IsPosition (game_of game.now) pos.0 }
+/// The position where this stands as a source.
+fn as_source(game: &Game, pos: PosId, spot: Spot) -> Source
+    requires { Some spot ≡ slice_get (game_of game.now).spots pos.0 }
     ensures { result ≡ source_at (game_of game.now) pos.0 }
 {
+    let _ = game;
     Source {
         pos,
-        step: is_step(game, pos),
-        visit: is_visit(game, pos),
+        step: is_step(spot),
+        visit: is_visit(spot),
     }
 }
 
-/// Puts a position into the list of the one to which a move leads, if there is one.
+/// Where the first move leads from where this stands, if it keeps the state.
+fn first_kept(pos: PosId, spot: Spot) -> Option<u32>
+    requires { pos.0 < POSITIONS_TIMES_STATES }
+    ensures { result ≡ first_kept pos.0 (Some spot) }
+{
+    match spot {
+        Spot::Visit(_, _, _) => Some(pos.0 + 2),
+        Spot::Step(next) => Some(next),
+        Spot::Branch(left, _) => Some(left),
+        Spot::Asked(_, _, _) | Spot::Label(_, _, _) => None,
+        Spot::Open(_, _, _) | Spot::Close(_, _, _) => None,
+        Spot::Call(_, _, _) | Spot::SplitCall(_, _, _) | Spot::Exit(_) => None,
+    }
+}
+
+/// And the second one.
+fn second_kept(pos: PosId, spot: Spot) -> Option<u32>
+    requires { pos.0 < POSITIONS_TIMES_STATES }
+    ensures { result ≡ second_kept pos.0 (Some spot) }
+{
+    match spot {
+        Spot::Visit(_, _, _) => Some(pos.0 + 1),
+        Spot::Branch(_, right) => Some(right),
+        Spot::Step(_) | Spot::Asked(_, _, _) | Spot::Label(_, _, _) => None,
+        Spot::Open(_, _, _) | Spot::Close(_, _, _) => None,
+        Spot::Call(_, _, _) | Spot::SplitCall(_, _, _) | Spot::Exit(_) => None,
+    }
+}
+
+/// Puts a source into the list of the position to which it leads, if there is one.
+#[inline(always)]
 fn add_source(
     game: &Game,
     sources: &mut Chains<Source>,
-    pos: PosId,
-    by: Move,
+    source: Source,
+    to: Option<u32>,
 ) -> Result<(), NoMemory>
-    requires routed { AreRouted (game_of game.now) (length game.now.graph.parts.items) }
-    requires position { IsPosition (game_of game.now) pos.0 }
-    requires lists { length sources.old.lists ≡ length (game_of game.now).spots }
+    requires within { IfSome to (λ r. r < length sources.old.lists) }
+    requires step { (r : ℕ) → to ≡ Some r → IsStepTo (game_of game.now) source r }
+    requires visit { IsVisit (game_of game.now) source }
     requires few { length sources.old.values ≤ 16777216 }
-    ensures { OnOk result (AddsSource (game_of game.now) sources.old sources.new pos.0 by) }
+    ensures { OnOk result (AddsSource (game_of game.now) sources.old sources.new source to) }
 {
-    if let Some((to, _)) = game.next(pos, StateId(0), by) {
-        sources.push_front(to.0, as_source(game, pos))?;
+    let _ = game;
+    if let Some(to) = to {
+        sources.push_front(to, source)?;
     }
     Ok(())
 }
@@ -155,21 +172,16 @@ fn add_sources(game: &Game, sources: &mut Chains<Source>, pos: PosId) -> Result<
     requires before { AreSourcesTo (game_of game.now) sources.old pos.0 }
     ensures { OnOk result (AreSourcesTo (game_of game.now) sources.new (pos.0 + 1)) }
 {
-    if !keeps(game, pos) {
-        return Ok(());
-    }
-    let moves = game.moves(pos);
-    add_source(game, sources, pos, moves.0)?;
-    match moves.1 {
-        None => Ok(()),
-        Some(by) => {
-            add_source(game, sources, pos, by)?;
-            Ok(())
-        }
-    }
+    game.fact_is_closed();
+    let spot = game.spot(pos);
+    let source = as_source(game, pos, spot);
+    add_source(game, sources, source, first_kept(pos, spot))?;
+    add_source(game, sources, source, second_kept(pos, spot))?;
+    Ok(())
 }
 
 /// For each position those that keep the state and lead there.
+#[inline(never)]
 fn make_sources(alloc: Global, game: &Game) -> Result<Rows<Source>, NoMemory>
     requires routed { AreRouted (game_of game.now) (length game.now.graph.parts.items) }
     ensures { IfOk result (AreSources (game_of game.now)) }
@@ -278,6 +290,19 @@ fn make_flags(alloc: Global, game: &Game) -> Result<RankedFlags, NoMemory>
     ranked(alloc, &reached)
 }
 
+/// Where something is asked, whether it may be refused in states that may grant it.
+fn refusal(game: &Game, spot: Spot) -> Option<bool>
+    ensures { result ≡ refusal (game_of game.now) (Some spot) }
+{
+    match spot {
+        Spot::Asked(_, _, prim) => {
+            let policy = game.policy();
+            Some(is_refusable(policy, prim) && !policy.stop)
+        }
+        _ => None,
+    }
+}
+
 /// Where the second move leads, if there is one.
 fn next_by(game: &Game, pos: PosId, state: StateId, by: Option<Move>) -> Option<(PosId, StateId)>
     requires position { IsPosition (game_of game.now) pos.0 }
@@ -288,6 +313,36 @@ fn next_by(game: &Game, pos: PosId, state: StateId, by: Option<Move>) -> Option<
     match by {
         None => None,
         Some(by) => game.next(pos, state, by),
+    }
+}
+
+/// The same, where the first move leads there. What is asked is refused where it isn't granted.
+#[inline(always)]
+fn second_next(
+    game: &Game,
+    pos: PosId,
+    state: StateId,
+    refuses: Option<bool>,
+    first: Option<(PosId, StateId)>,
+    by: Option<Move>,
+) -> Option<(PosId, StateId)>
+    requires routed { AreRouted (game_of game.now) (length game.now.graph.parts.items) }
+    requires position { IsPosition (game_of game.now) pos.0 }
+    requires state { IsState (game_of game.now) state.0 }
+    requires refuses { refuses ≡ refusal (game_of game.now) (slice_get (game_of game.now).spots pos.0) }
+    requires first { numbers first ≡ next_at (game_of game.now) pos.0 state.0 (first_move (slice_get (game_of game.now).spots pos.0)) }
+    requires by { by ≡ second_move (slice_get (game_of game.now).spots pos.0) }
+    ensures is { numbers result ≡ next_by (game_of game.now) pos.0 state.0 (slice_get (game_of game.now).spots pos.0) by }
+    ensures within { IfSome result (λ r. IsPosition (game_of game.now) r.0.0 × IsState (game_of game.now) r.1.0) }
+{
+    game.fact_is_closed();
+    match refuses {
+        None => next_by(game, pos, state, by),
+        Some(true) => Some((PosId(pos.0 + 1), state)),
+        Some(false) => match first {
+            None => Some((PosId(pos.0 + 1), state)),
+            Some(_) => None,
+        },
     }
 }
 
@@ -343,12 +398,14 @@ fn add_moves(
     pairs: &mut Chains<Pair>,
     pos: PosId,
     state: StateId,
+    refuses: Option<bool>,
     moves: &(Move, Option<Move>),
 ) -> Result<(), NoMemory>
     requires routed { AreRouted (game_of game.now) (length game.now.graph.parts.items) }
     requires position { IsPosition (game_of game.now) pos.0 }
     requires state { IsState (game_of game.now) state.0 }
     requires changing { keeps_state (slice_get (game_of game.now).spots pos.0) ≡ false }
+    requires refuses { refuses ≡ refusal (game_of game.now) (slice_get (game_of game.now).spots pos.0) }
     requires first { moves.now.0 ≡ first_move (slice_get (game_of game.now).spots pos.0) }
     requires second { moves.now.1 ≡ second_move (slice_get (game_of game.now).spots pos.0) }
     requires long { length flags.now ≡ length (game_of game.now).spots }
@@ -358,7 +415,7 @@ fn add_moves(
     ensures { OnOk result (AddsMoves (game_of game.now) flags.now pairs.old pairs.new pos.0 state.0) }
 {
     let first = game.next(pos, state, moves.0);
-    let second = next_by(game, pos, state, moves.1);
+    let second = second_next(game, pos, state, refuses, first, moves.1);
     let sole = is_lone(first, second);
     let pair = Pair { pos, state, sole };
     add_move(game, flags, pairs, pair, first, moves.0)?;
@@ -384,17 +441,20 @@ fn add_pairs(
     requires before { AreChangesTo (game_of game.now) flags.now pairs.old pos.0 0 }
     ensures { OnOk result (AreChangesTo (game_of game.now) flags.now pairs.new (pos.0 + 1) 0) }
 {
-    if !is_changing(game, pos) {
+    let spot = game.spot(pos);
+    if !is_changing(spot) {
         return Ok(());
     }
     let moves = game.moves(pos);
+    let refuses = refusal(game, spot);
     for q in 0..game.states() {
-        add_moves(game, flags, pairs, pos, StateId(q), &moves)?;
+        add_moves(game, flags, pairs, pos, StateId(q), refuses, &moves)?;
     }
     Ok(())
 }
 
 /// For each pair at a flagged position those at positions that may change the state, from which a move leads there.
+#[inline(never)]
 fn make_pairs(alloc: Global, game: &Game, flags: &RankedFlags) -> Result<Chains<Pair>, NoMemory>
     requires routed { AreRouted (game_of game.now) (length game.now.graph.parts.items) }
     requires flagged { AreReached (game_of game.now) flags.now }

@@ -18,8 +18,8 @@ add_move-requires-clause-is_pair c =
     let spot = slice_get g.spots p in
     let sole : c.is_lone-sole.result ≡ is_sole g p q
     = c.is_lone-sole.ensures
-    ∙ ap (λ (a : Option (ℕ × ℕ)). lone a (numbers c.next_by-second.result)) (c.next-first.ensures.is ∙ ap (λ (m : Move). next_at g p q m) c.requires.first)
-    ∙ ap (λ (b : Option (ℕ × ℕ)). lone (next_at g p q (first_move spot)) b) (c.next_by-second.ensures.is ∙ ap (λ (m : Option Move). next_by g p q spot m) c.requires.second) in
+    ∙ ap (λ (a : Option (ℕ × ℕ)). lone a (numbers c.second_next-second.result)) (c.next-first.ensures.is ∙ ap (λ (m : Move). next_at g p q m) c.requires.first)
+    ∙ ap (λ (b : Option (ℕ × ℕ)). lone (next_at g p q (first_move spot)) b) (c.second_next-second.ensures.is ∙ ap (λ (m : Option Move). next_by g p q spot m) c.requires.second) in
     let pair : Bool → Pair = λ sole. record { pos = c.args.pos; state = c.args.state; sole = sole } in
     ap pair sole
 
@@ -37,8 +37,8 @@ add_move-requires-in-Some-clause-is_pair c =
     let spot = slice_get g.spots p in
     let sole : c.is_lone-sole.result ≡ is_sole g p q
     = c.is_lone-sole.ensures
-    ∙ ap (λ (a : Option (ℕ × ℕ)). lone a (numbers c.next_by-second.result)) (c.next-first.ensures.is ∙ ap (λ (m : Move). next_at g p q m) c.requires.first)
-    ∙ ap (λ (b : Option (ℕ × ℕ)). lone (next_at g p q (first_move spot)) b) (c.next_by-second.ensures.is ∙ ap (λ (m : Option Move). next_by g p q spot m) c.requires.second) in
+    ∙ ap (λ (a : Option (ℕ × ℕ)). lone a (numbers c.second_next-second.result)) (c.next-first.ensures.is ∙ ap (λ (m : Move). next_at g p q m) c.requires.first)
+    ∙ ap (λ (b : Option (ℕ × ℕ)). lone (next_at g p q (first_move spot)) b) (c.second_next-second.ensures.is ∙ ap (λ (m : Option Move). next_by g p q spot m) c.requires.second) in
     let pair : Bool → Pair = λ sole. record { pos = c.args.pos; state = c.args.state; sole = sole } in
     ap pair sole
 
@@ -48,7 +48,7 @@ add_move-requires-in-Some-clause-moved c = inr (sym c.requires.second ∙ c.in-S
 pub add_move-requires-in-Some-clause-leads : goal.add_move-requires-in-Some-clause-leads
 add_move-requires-in-Some-clause-leads c =
     let g = game_of c.args.game.now in
-    c.next_by-second.ensures.is ∙ ap (λ (m : Option Move). next_by g c.args.pos.0 c.args.state.0 (slice_get g.spots c.args.pos.0) m) c.in-Some.is
+    c.second_next-second.ensures.is ∙ ap (λ (m : Option Move). next_by g c.args.pos.0 c.args.state.0 (slice_get g.spots c.args.pos.0) m) c.in-Some.is
 
 pub add_move-requires-in-Some-clause-flagged : goal.add_move-requires-in-Some-clause-flagged
 add_move-requires-in-Some-clause-flagged c r x e = c.requires.flagged r x (c.in-Some.by, inr (sym c.requires.second ∙ c.in-Some.is), e)
