@@ -1,5 +1,5 @@
 -- Where the moves at a position keep the state, they lead to positions that are read off what stands there.
-use Rattle.std.proofs.Common.{◌≡◌, ℕ, suc, ◌+◌, ◌<◌, Bool, true, false, ◌&&◌, ◌||◌, Option, Some, refl, sym, ap, ◌∙◌, subst, arith, inl, inr}
+use Rattle.std.proofs.Common.{◌≡◌, ℕ, suc, ◌+◌, ◌<◌, Bool, true, ◌&&◌, ◌||◌, Option, Some, refl, sym, ap, ◌∙◌, subst, arith, inl, inr}
 use Rattle.std.specs.Prelude.{slice_get, nat_eq, nat_lt}
 use Rattle.std.proofs.lemmas.Bool.{false≢true, cases_lt, or_right, or_from, lt-ltb, le-ltb, ne_eqb}
 use Rattle.cw_certs.specs.declared.moves.Move.TheVariants.{Skip, Try, On, Left, Right}

@@ -140,16 +140,18 @@ more_pushed g old mid new function x p plain more are next =
           }
     ]
 
-module _ (g : Game) (old mid new : Stored) (function x plain : ℕ) (are : ArePushed g old mid function x (g.exit function + 1) plain) (pushes : PushesPlain mid new plain) where
-  pub all_pushed : PushesIndices old new (positions g function)
+module _ (g : Game) (old mid new : Stored) (function x plain rest : ℕ) (are : ArePushed g old mid function x (g.exit function + 1) plain) (pushes : PushesPlain mid new (plain + rest)) where
+  pub all_pushed : PushesIndices old new (positions g function + rest)
   all_pushed =
-      let many : g.exit function + 1 - g.entry function - plain + plain ≡ positions g function = omega (arith, are.ahead) in
-      subst (λ (n : ℕ). PushesIndices old new n) many (more_indices old mid new (g.exit function + 1 - g.entry function - plain) plain are.indices (plain_indices mid new plain pushes))
+      let many : g.exit function + 1 - g.entry function - plain + (plain + rest) ≡ positions g function + rest = omega (arith, are.ahead) in
+      subst (λ (n : ℕ). PushesIndices old new n) many
+      (more_indices old mid new (g.exit function + 1 - g.entry function - plain) (plain + rest) are.indices (plain_indices mid new (plain + rest) pushes))
 
   pub all_flagged : FlagsState g old.flags new.flags function x (positions g function)
   all_flagged p call of is class less = elim (cases_lt (p + plain) (g.exit function + 1)) [
     | inl before ↦
-        (plain_indices mid new plain pushes).kept (length old.flags + (p - g.entry function)) (omega (arith, before, of.0, are.indices.long, are.ahead)) ∙ are.flagged p call of before is class
+        (plain_indices mid new (plain + rest) pushes).kept (length old.flags + (p - g.entry function)) (omega (arith, before, of.0, are.indices.long, are.ahead))
+        ∙ are.flagged p call of before is class
     | inr after ↦ absurd (are.rest p call (omega (arith, of.1)) after is class)
   ]
 
@@ -210,17 +212,16 @@ at_least g function some =
     omega (arith, less, swapped)
 
 -- Where no call is split, all links stand at the first state.
-pub first_flagged : (g : Game) (old mid new : Stored) (function rest many : ℕ)
+pub first_flagged : (g : Game) (old new : Stored) (function many : ℕ)
     → ((p : ℕ) (call : Called) → IsOf g function p → call_in (slice_get g.spots p) ≡ Some call → call.split ≡ false)
-    → PushesIndices old mid (positions g function) → FlagsState g old.flags mid.flags function 0 (positions g function) → PushesIndices mid new rest → FlagsLinks g old.flags new.flags function many
-first_flagged g old mid new function rest many whole indices state more p x call of is class less =
+    → FlagsState g old.flags new.flags function 0 (positions g function) → FlagsLinks g old.flags new.flags function many
+first_flagged g old new function many whole state p x call of is class less =
     let one = whole p call of is in
     let zero_is : 0 ≡ x = ap (λ (s : Bool). class_of g s x) (sym one) ∙ class in
     let own : class_of g call.split 0 ≡ 0 = ap (λ (s : Bool). class_of g s 0) one in
     let row = p - g.entry function in
     let inside : row < positions g function = omega (arith, of.0, of.1) in
-    let kept = more.kept (length old.flags + row) (omega (arith, indices.long, inside)) in
     let first : row ≡ 0 * positions g function + row = omega arith in
     let here : length old.flags + row ≡ length old.flags + (x * positions g function + row)
     = ap (λ (k : ℕ). length old.flags + k) first ∙ ap (λ (k : ℕ). length old.flags + (k * positions g function + row)) zero_is in
-    subst (λ (k : ℕ). is_flagged new.flags k ≡ true) here (kept ∙ state p call of is own inside)
+    subst (λ (k : ℕ). is_flagged new.flags k ≡ true) here (state p call of is own inside)

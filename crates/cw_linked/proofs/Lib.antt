@@ -49,3 +49,4 @@ pub mod Homing
 pub mod Plain
 pub mod Listing
 pub mod Soles
+pub mod Spanning

@@ -19,3 +19,4 @@ pub mod Runs
 pub mod Blocks
 pub mod Homes
 pub mod Listed
+pub mod Spans

@@ -7,11 +7,13 @@ ghost use Rattle.cw_solve.specs.Contexts.{size};
 ghost use Rattle.cw_solve.specs.Tables.{IsTabled, HasCell, AreTabled};
 ghost use Rattle.cw_linked.specs.Added.{ThePair, AllOf, Each, FreesLinks, Pushes, IsOpen, AddsContext};
 ghost use Rattle.cw_linked.specs.Queues.{AreFlagged, AreLong};
+ghost use Rattle.cw_linked.specs.Spans.{IsSpanned, AreSpanned};
 ghost use Rattle.cw_linked.specs.Works.{known_of, IsKnown};
 
 use crate::asked::ask_all;
 use crate::calls::{class_at, is_call, is_same};
 use crate::room::{push, push_indices};
+use crate::spans::{Spans, spans_at};
 use crate::work::{Work, ask_link};
 use cw_core::{NoMemory, PosId, StateId};
 use cw_product::Game;
@@ -67,25 +69,32 @@ fn free_links(game: &Game, work: &mut Work, at: &Tabled, pos: PosId) -> Result<(
     Ok(())
 }
 
-/// Has the links of a context wait to be tied.
-fn free_all(game: &Game, work: &mut Work, at: &Tabled) -> Result<(), NoMemory>
+/// Has the links of a context wait to be tied, whose function has these spans.
+fn free_all(game: &Game, spans: &Spans, work: &mut Work, at: &Tabled) -> Result<(), NoMemory>
     requires routed { AreRouted (game_of game.now) (length game.now.graph.parts.items) }
     requires known { IsKnown (game_of game.now) (known_of work.old) }
     requires tabled { IsTabled work.old.blocks at.now }
+    requires spans { IsSpanned (game_of game.now) at.now.context.function spans.now }
     requires long { AreLong work.old }
     requires flagged { AreFlagged (game_of game.now) work.old }
     ensures { OnOk result (FreesLinks (game_of game.now) work.old work.new at.now.number at.now.context Each) }
 {
-    let function = at.function();
-    for p in game.entry(function).0..game.exit(function).0 + 1 {
+    for p in spans.calls.first..spans.calls.end {
         free_links(game, work, at, PosId(p))?;
     }
     Ok(())
 }
 
-/// Adds a context and its indices, of which nothing waits.
-fn enlarge(alloc: Global, game: &Game, work: &mut Work, context: &Context) -> Result<(), NoMemory>
+/// Adds a context, whose function has these spans, and its indices, of which nothing waits.
+fn enlarge(
+    alloc: Global,
+    game: &Game,
+    spans: &Spans,
+    work: &mut Work,
+    context: &Context,
+) -> Result<(), NoMemory>
     requires routed { AreRouted (game_of game.now) (length game.now.graph.parts.items) }
+    requires spans { IsSpanned (game_of game.now) context.now.function spans.now }
     requires kept { IsOpen (game_of game.now) work.old }
     requires contexts { AreTabled (game_of game.now) (work.old.blocks.contexts.items ++ context.now ∷ []) }
     ensures { OnOk result (Pushes (game_of game.now) work.old work.new context.now (size (game_of game.now) context.now.function)) }
@@ -93,27 +102,30 @@ fn enlarge(alloc: Global, game: &Game, work: &mut Work, context: &Context) -> Re
     let lists = work.blocks.contexts.len() as u32 + 2;
     let base = work.store.indices() as u32;
     work.store.reach(alloc, lists)?;
-    push_indices(game, &mut work.store, context.function)?;
+    push_indices(game, spans, &mut work.store, context.function)?;
     push(&mut work.blocks, *context, base)?;
     Ok(())
 }
 
-/// Adds a context, and asks for its cells and its links.
+/// Adds a context, and asks for its cells and its links. The spans are those of the functions.
 pub(crate) fn add(
     alloc: Global,
     game: &Game,
+    spans: &[Spans],
     work: &mut Work,
     context: &Context,
 ) -> Result<(), NoMemory>
     requires routed { AreRouted (game_of game.now) (length game.now.graph.parts.items) }
+    requires spans { AreSpanned (game_of game.now) spans.now }
     requires kept { IsOpen (game_of game.now) work.old }
     requires contexts { AreTabled (game_of game.now) (work.old.blocks.contexts.items ++ context.now ∷ []) }
     ensures { OnOk result (AddsContext (game_of game.now) work.old work.new context.now) }
 {
+    let own = spans_at(game, spans, context.function);
     let number = work.blocks.contexts.len();
-    enlarge(alloc, game, work, context)?;
+    enlarge(alloc, game, &own, work, context)?;
     let at = numbered(game, &work.blocks, number);
-    free_all(game, work, &at)?;
-    ask_all(game, work, &at)?;
+    free_all(game, &own, work, &at)?;
+    ask_all(game, &own, work, &at)?;
     Ok(())
 }

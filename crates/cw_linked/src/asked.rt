@@ -9,10 +9,12 @@ ghost use Rattle.cw_linked.specs.Added.{AllOf, Each, loss_begins_in, HasNoHeight
 ghost use Rattle.cw_linked.specs.Blocks.{IsBlock};
 ghost use Rattle.cw_linked.specs.Founds.{AreRight};
 ghost use Rattle.cw_linked.specs.Queues.{found_of, AreLong, AreHigh};
+ghost use Rattle.cw_linked.specs.Spans.{IsSpanned};
 ghost use Rattle.cw_linked.specs.Works.{known_of, IsKnown};
 
 use crate::block::{Block, block_of};
 use crate::implied::ask_first;
+use crate::spans::Spans;
 use crate::work::Work;
 use cw_core::{NoMemory, PosId, StateId};
 use cw_game::Spot;
@@ -20,7 +22,7 @@ use cw_product::Game;
 use cw_solve::table::Tabled;
 
 /// Whether what is lost can begin at a position: at a label, which may be bad, and at an exit.
-fn loss_begins(game: &Game, pos: PosId) -> bool
+pub(crate) fn loss_begins(game: &Game, pos: PosId) -> bool
     requires { IsPosition (game_of game.now) pos.0 }
     ensures { result ≡ loss_begins_in (slice_get (game_of game.now).spots pos.0) }
 {
@@ -58,11 +60,17 @@ fn ask_position(
     Ok(())
 }
 
-/// Asks for the cells of a context of which none has a height.
-pub(crate) fn ask_all(game: &Game, work: &mut Work, at: &Tabled) -> Result<(), NoMemory>
+/// Asks for the cells of a context of which none has a height, and whose function has these spans.
+pub(crate) fn ask_all(
+    game: &Game,
+    spans: &Spans,
+    work: &mut Work,
+    at: &Tabled,
+) -> Result<(), NoMemory>
     requires routed { AreRouted (game_of game.now) (length game.now.graph.parts.items) }
     requires known { IsKnown (game_of game.now) (known_of work.old) }
     requires tabled { IsTabled work.old.blocks at.now }
+    requires spans { IsSpanned (game_of game.now) at.now.context.function spans.now }
     requires long { AreLong work.old }
     requires high { AreHigh work.old }
     requires right { AreRight (game_of game.now) work.old.blocks.contexts.items (found_of (game_of game.now) work.old) }
@@ -70,9 +78,9 @@ pub(crate) fn ask_all(game: &Game, work: &mut Work, at: &Tabled) -> Result<(), N
     ensures { OnOk result (AsksCells (game_of game.now) work.old work.new at.now.number at.now.context Each) }
 {
     let block = block_of(game, &work.blocks, at);
-    let function = at.function();
-    for p in game.entry(function).0..game.exit(function).0 + 1 {
+    for p in spans.labels.first..spans.labels.end {
         ask_position(game, work, at, &block, PosId(p))?;
     }
+    ask_position(game, work, at, &block, game.exit(at.function()))?;
     Ok(())
 }

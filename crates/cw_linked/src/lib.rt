@@ -16,6 +16,7 @@ mod popped;
 mod returns;
 mod room;
 mod solver;
+mod spans;
 mod ties;
 mod waiting;
 mod work;

@@ -8,9 +8,11 @@ ghost use Rattle.cw_solve.specs.Tables.{AreTabled};
 ghost use Rattle.cw_linked.specs.Added.{IsOpen, AddsContext};
 ghost use Rattle.cw_linked.specs.Links.{NumbersContext, TakesLink};
 ghost use Rattle.cw_linked.specs.Listed.{HasListed};
+ghost use Rattle.cw_linked.specs.Spans.{AreSpanned};
 ghost use Rattle.cw_linked.specs.Tied.{IsFirm, IsFreed};
 
 use crate::added::add;
+use crate::spans::Spans;
 use crate::ties::{promise_of, tie_link};
 use crate::work::{Cell, Work};
 use cw_core::NoMemory;
@@ -32,11 +34,13 @@ pub(crate) enum Stepped {
 fn add_indexed(
     alloc: Global,
     game: &Game,
+    spans: &[Spans],
     work: &mut Work,
     indices: &mut Indices,
     context: &Context,
 ) -> Result<(), NoMemory>
     requires routed { AreRouted (game_of game.now) (length game.now.graph.parts.items) }
+    requires spans { AreSpanned (game_of game.now) spans.now }
     requires kept { IsOpen (game_of game.now) work.old }
     requires contexts { AreTabled (game_of game.now) (work.old.blocks.contexts.items ++ context.now ∷ []) }
     requires listed { HasListed indices.old work.old.blocks.contexts.items }
@@ -44,7 +48,7 @@ fn add_indexed(
     ensures listed { OnOk result (HasListed indices.new work.new.blocks.contexts.items) }
 {
     let function = context.function;
-    add(alloc, game, work, context)?;
+    add(alloc, game, spans, work, context)?;
     indices.push(function)?;
     Ok(())
 }
@@ -54,11 +58,13 @@ fn add_indexed(
 fn number_of(
     alloc: Global,
     game: &Game,
+    spans: &[Spans],
     work: &mut Work,
     indices: &mut Indices,
     context: &Context,
 ) -> Result<Option<usize>, NoMemory>
     requires routed { AreRouted (game_of game.now) (length game.now.graph.parts.items) }
+    requires spans { AreSpanned (game_of game.now) spans.now }
     requires firm { IsFirm (game_of game.now) work.old }
     requires needed { IsNeeded (game_of game.now) context.now }
     requires listed { HasListed indices.old work.old.blocks.contexts.items }
@@ -72,18 +78,19 @@ fn number_of(
             if work.store.indices() as u32 + size(game, context.function) > CELLS as u32 {
                 return Ok(None);
             }
-            add_indexed(alloc, game, work, indices, context)?;
+            add_indexed(alloc, game, spans, work, indices, context)?;
             Ok(Some(number))
         }
     }
 }
 
-/// Takes the link at an index, for so many moves. The indices have each context that is added. The one to which the link is to go is
-/// wanted then.
+/// Takes the link at an index, for so many moves. The spans are those of the functions. The indices have each context that is added.
+/// The one to which the link is to go is wanted then.
 #[inline(never)]
 pub(crate) fn take_link(
     alloc: Global,
     game: &Game,
+    spans: &[Spans],
     work: &mut Work,
     indices: &mut Indices,
     index: usize,
@@ -92,6 +99,7 @@ pub(crate) fn take_link(
     wanted: &mut Context,
 ) -> Result<Stepped, NoMemory>
     requires routed { AreRouted (game_of game.now) (length game.now.graph.parts.items) }
+    requires spans { AreSpanned (game_of game.now) spans.now }
     requires freed { IsFreed (game_of game.now) work.old link.now index moves }
     requires some { 0 < slice_index work.old.store.to index → 0 < moves }
     requires listed { HasListed indices.old work.old.blocks.contexts.items }
@@ -108,7 +116,7 @@ pub(crate) fn take_link(
     };
     wanted.function = callee;
     promise_of(game, work, link, back, split, moves, &mut wanted.promise);
-    let Some(number) = number_of(alloc, game, work, indices, wanted)? else {
+    let Some(number) = number_of(alloc, game, spans, work, indices, wanted)? else {
         return Ok(Stepped::TooMany);
     };
     let to = numbered(game, &work.blocks, number);

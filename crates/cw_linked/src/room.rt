@@ -9,8 +9,10 @@ ghost use Rattle.cw_solve.specs.Rounds.{positions};
 ghost use Rattle.cw_product.specs.Routed.{IsThere, AreRouted, IsOf};
 ghost use Rattle.cw_linked.specs.Added.{PushesIndices, PushesNext, PushesContext, FlagsState, FlagsLinks};
 ghost use Rattle.cw_linked.specs.Founds.{class_of};
+ghost use Rattle.cw_linked.specs.Spans.{IsSpanned};
 
-use crate::calls::{class_at, is_call};
+use crate::calls::class_at;
+use crate::spans::Spans;
 use cw_core::limits::CELLS;
 use cw_core::{NoMemory, PosId, StateId};
 use cw_game::Spot;
@@ -55,35 +57,31 @@ fn push_next(
     }
 }
 
-/// Adds the indices of a function's positions in one state, of which nothing waits.
-fn push_state(game: &Game, store: &mut Store, function: u16, state: StateId) -> Result<(), NoMemory>
+/// Adds the indices of a function's positions in one state, and then so many indices that are none of links; of all of them nothing
+/// waits. Only the positions of the span of its calls are looked at.
+fn push_state(
+    game: &Game,
+    spans: &Spans,
+    store: &mut Store,
+    function: u16,
+    state: StateId,
+    rest: u32,
+) -> Result<(), NoMemory>
     requires routed { AreRouted (game_of game.now) (length game.now.graph.parts.items) }
     requires there { IsThere (game_of game.now) (length game.now.graph.parts.items) function }
+    requires spans { IsSpanned (game_of game.now) function spans.now }
     requires state { IsState (game_of game.now) state.0 }
-    requires few { length store.old.flags + positions (game_of game.now) function ≤ CELLS }
-    ensures indices { OnOk result (PushesIndices store.old store.new (positions (game_of game.now) function)) }
+    requires few { length store.old.flags + (positions (game_of game.now) function + rest) ≤ CELLS }
+    ensures indices { OnOk result (PushesIndices store.old store.new (positions (game_of game.now) function + rest)) }
     ensures flagged { OnOk result (FlagsState (game_of game.now) store.old.flags store.new.flags function state.0 (positions (game_of game.now) function)) }
 {
-    let mut plain = 0;
-    for p in game.entry(function).0..game.exit(function).0 + 1 {
+    let mut plain = spans.calls.first - game.entry(function).0;
+    for p in spans.calls.first..spans.calls.end {
         plain = push_next(game, store, PosId(p), state, plain)?;
     }
-    store.push_plain(plain)?;
+    let behind = game.exit(function).0 + 1 - spans.calls.end;
+    store.push_plain(plain + behind + rest)?;
     Ok(())
-}
-
-/// Whether a call stands at a position of a function.
-fn has_calls(game: &Game, function: u16) -> bool
-    requires routed { AreRouted (game_of game.now) (length game.now.graph.parts.items) }
-    requires there { IsThere (game_of game.now) (length game.now.graph.parts.items) function }
-    ensures { result ≡ false → (p : ℕ) → IsOf (game_of game.now) function p → is_call_in (slice_get (game_of game.now).spots p) ≡ false }
-{
-    for p in game.entry(function).0..game.exit(function).0 + 1 {
-        if is_call(game, PosId(p)) {
-            return true;
-        }
-    }
-    false
 }
 
 /// Whether a call in a process of its own stands at a position.
@@ -98,7 +96,7 @@ fn is_split(game: &Game, pos: PosId) -> bool
 }
 
 /// Whether one stands at a position of a function.
-fn has_splits(game: &Game, function: u16) -> bool
+pub(crate) fn has_splits(game: &Game, function: u16) -> bool
     requires routed { AreRouted (game_of game.now) (length game.now.graph.parts.items) }
     requires there { IsThere (game_of game.now) (length game.now.graph.parts.items) function }
     ensures { result ≡ false → (p : ℕ) (call : Called) → IsOf (game_of game.now) function p → call_in (slice_get (game_of game.now).spots p) ≡ Some call → call.split ≡ false }
@@ -126,60 +124,67 @@ fn push_plain(game: &Game, store: &mut Store, function: u16) -> Result<(), NoMem
 }
 
 /// Adds the indices of a function state by state, of which nothing waits.
-fn push_states(game: &Game, store: &mut Store, function: u16) -> Result<(), NoMemory>
+fn push_states(game: &Game, spans: &Spans, store: &mut Store, function: u16) -> Result<(), NoMemory>
     requires routed { AreRouted (game_of game.now) (length game.now.graph.parts.items) }
     requires there { IsThere (game_of game.now) (length game.now.graph.parts.items) function }
+    requires spans { IsSpanned (game_of game.now) function spans.now }
     requires few { length store.old.flags + size (game_of game.now) function ≤ CELLS }
     ensures indices { OnOk result (PushesIndices store.old store.new (size (game_of game.now) function)) }
     ensures flagged { OnOk result (FlagsLinks (game_of game.now) store.old.flags store.new.flags function (size (game_of game.now) function)) }
 {
     for x in 0..game.states() {
-        push_state(game, store, function, StateId(x))?;
+        push_state(game, spans, store, function, StateId(x), 0)?;
     }
     Ok(())
 }
 
 /// Adds the indices of a function of which no call is split, and of which nothing waits. All states are alike at its calls, so its
 /// links stand at the first one.
-fn push_first(game: &Game, store: &mut Store, function: u16) -> Result<(), NoMemory>
+fn push_first(game: &Game, spans: &Spans, store: &mut Store, function: u16) -> Result<(), NoMemory>
     requires routed { AreRouted (game_of game.now) (length game.now.graph.parts.items) }
     requires there { IsThere (game_of game.now) (length game.now.graph.parts.items) function }
+    requires spans { IsSpanned (game_of game.now) function spans.now }
     requires few { length store.old.flags + size (game_of game.now) function ≤ CELLS }
-    requires whole { (p : ℕ) (call : Called) → IsOf (game_of game.now) function p → call_in (slice_get (game_of game.now).spots p) ≡ Some call → call.split ≡ false }
+    requires whole { spans.now.split ≡ false }
     ensures indices { OnOk result (PushesIndices store.old store.new (size (game_of game.now) function)) }
     ensures flagged { OnOk result (FlagsLinks (game_of game.now) store.old.flags store.new.flags function (size (game_of game.now) function)) }
 {
-    push_state(game, store, function, StateId(0))?;
-    let all = size(game, function);
-    let run = positions(game, function);
-    store.push_plain(all - run)?;
+    let rest = size(game, function) - positions(game, function);
+    push_state(game, spans, store, function, StateId(0), rest)?;
     Ok(())
 }
 
 /// Adds the indices of a function with calls, of which nothing waits.
-fn push_called(game: &Game, store: &mut Store, function: u16) -> Result<(), NoMemory>
+fn push_called(game: &Game, spans: &Spans, store: &mut Store, function: u16) -> Result<(), NoMemory>
     requires routed { AreRouted (game_of game.now) (length game.now.graph.parts.items) }
     requires there { IsThere (game_of game.now) (length game.now.graph.parts.items) function }
+    requires spans { IsSpanned (game_of game.now) function spans.now }
     requires few { length store.old.flags + size (game_of game.now) function ≤ CELLS }
     ensures indices { OnOk result (PushesIndices store.old store.new (size (game_of game.now) function)) }
     ensures flagged { OnOk result (FlagsLinks (game_of game.now) store.old.flags store.new.flags function (size (game_of game.now) function)) }
 {
-    if has_splits(game, function) {
-        return push_states(game, store, function);
+    if spans.split {
+        return push_states(game, spans, store, function);
     }
-    push_first(game, store, function)
+    push_first(game, spans, store, function)
 }
 
-/// Adds the indices of a function, of which nothing waits.
-pub(crate) fn push_indices(game: &Game, store: &mut Store, function: u16) -> Result<(), NoMemory>
+/// Adds the indices of a function, which has these spans, of which nothing waits.
+pub(crate) fn push_indices(
+    game: &Game,
+    spans: &Spans,
+    store: &mut Store,
+    function: u16,
+) -> Result<(), NoMemory>
     requires routed { AreRouted (game_of game.now) (length game.now.graph.parts.items) }
     requires there { IsThere (game_of game.now) (length game.now.graph.parts.items) function }
+    requires spans { IsSpanned (game_of game.now) function spans.now }
     requires few { length store.old.flags + size (game_of game.now) function ≤ CELLS }
     ensures indices { OnOk result (PushesIndices store.old store.new (size (game_of game.now) function)) }
     ensures flagged { OnOk result (FlagsLinks (game_of game.now) store.old.flags store.new.flags function (size (game_of game.now) function)) }
 {
-    if has_calls(game, function) {
-        return push_called(game, store, function);
+    if spans.calls.first < spans.calls.end {
+        return push_called(game, spans, store, function);
     }
     push_plain(game, store, function)
 }

@@ -16,6 +16,7 @@ ghost use Rattle.cw_linked.specs.Popped.{IsWork, IsTakenAt, Finishes};
 ghost use Rattle.cw_linked.specs.Returns.{AreReturns};
 ghost use Rattle.cw_linked.specs.Runs.{AreRuns};
 ghost use Rattle.cw_linked.specs.Solving.{IsBlankWork, Ends};
+ghost use Rattle.cw_linked.specs.Spans.{AreSpanned};
 ghost use Rattle.cw_linked.specs.Tied.{IsFreedAt};
 ghost use Rattle.cw_linked.specs.Waiting.{AreWaits};
 ghost use Rattle.cw_linked.specs.Works.{known_of, IsKnown};
@@ -26,6 +27,7 @@ use crate::edges::Edges;
 use crate::home::{Home, approach, look_at, no_home};
 use crate::links::{Stepped, take_link};
 use crate::popped::{Popped, pop};
+use crate::spans::{Spans, make_spans};
 use crate::work::{Work, cell_by};
 use cw_core::NoMemory;
 use cw_core::limits::CELLS;
@@ -71,6 +73,7 @@ fn tie_at(
     alloc: Global,
     game: &Game,
     edges: &Edges,
+    spans: &[Spans],
     work: &mut Work,
     indices: &mut Indices,
     home: &mut Home,
@@ -80,6 +83,7 @@ fn tie_at(
 ) -> Result<Stepped, NoMemory>
     requires routed { AreRouted (game_of game.now) (length game.now.graph.parts.items) }
     requires runs { AreRuns (game_of game.now) (length game.now.graph.parts.items) edges.now.runs.items }
+    requires spans { AreSpanned (game_of game.now) spans.now }
     requires known { IsKnown (game_of game.now) (known_of work.old) }
     requires within { index < length work.old.store.heights }
     requires freed { IsFreedAt (game_of game.now) work.old index moves }
@@ -91,7 +95,9 @@ fn tie_at(
 {
     let link = cell_by(game, &edges.runs, work, home.cell.at.number(), index);
     home.past = 0;
-    let stepped = take_link(alloc, game, work, indices, index, &link, moves, wanted)?;
+    let stepped = take_link(
+        alloc, game, spans, work, indices, index, &link, moves, wanted,
+    )?;
     home.cell = link;
     Ok(stepped)
 }
@@ -102,6 +108,7 @@ fn steps(
     alloc: Global,
     game: &Game,
     edges: &Edges,
+    spans: &[Spans],
     work: &mut Work,
     indices: &mut Indices,
 ) -> Result<Option<Context>, NoMemory>
@@ -110,6 +117,7 @@ fn steps(
     requires returns { AreReturns (game_of game.now) edges.now.returns }
     requires plain { ArePlain (game_of game.now) (min (length game.now.graph.parts.items) 65536) (length (game_of game.now).spots) edges.now.plain.items }
     requires runs { AreRuns (game_of game.now) (length game.now.graph.parts.items) edges.now.runs.items }
+    requires spans { AreSpanned (game_of game.now) spans.now }
     requires work { IsWork (game_of game.now) work.old }
     requires listed { HasListed indices.old work.old.blocks.contexts.items }
     ensures { IfOk result (λ more. Ends (game_of game.now) (known_of work.new) more) }
@@ -127,6 +135,7 @@ fn steps(
                     alloc,
                     game,
                     edges,
+                    spans,
                     work,
                     indices,
                     &mut home,
@@ -161,13 +170,14 @@ fn blank(alloc: Global) -> Result<Work, NoMemory>
 }
 
 /// `main` with all states alone, and what is known of it.
-fn begun(alloc: Global, game: &Game) -> Result<Work, NoMemory>
+fn begun(alloc: Global, game: &Game, spans: &[Spans]) -> Result<Work, NoMemory>
     requires routed { AreRouted (game_of game.now) (length game.now.graph.parts.items) }
+    requires spans { AreSpanned (game_of game.now) spans.now }
     ensures work { IfOk result (λ work. IsWork (game_of game.now) work) }
     ensures alone { IfOk result (λ work. work.blocks.contexts.items ≡ context (game_of game.now).main (all_states (game_of game.now)) ∷ []) }
 {
     let mut work = blank(alloc)?;
-    add(alloc, game, &mut work, &main_context(game))?;
+    add(alloc, game, spans, &mut work, &main_context(game))?;
     Ok(work)
 }
 
@@ -182,9 +192,10 @@ fn solve_work(
     ensures { IfOk result (λ end. Ends (game_of game.now) (known_of end.0) end.1) }
 {
     let edges = Edges::make(alloc, game)?;
-    let mut work = begun(alloc, game)?;
+    let spans = make_spans(alloc, game)?;
+    let mut work = begun(alloc, game, &spans)?;
     indices.push(game.main())?;
-    let more = steps(alloc, game, &edges, &mut work, indices)?;
+    let more = steps(alloc, game, &edges, &spans, &mut work, indices)?;
     Ok((work, more))
 }
 

@@ -34,10 +34,12 @@ loop-x-preserved c =
     let new = c.push_state.new.store in
     let inv = c.loop-x.invariant in
     let ensured = c.in_ok-push_state.ensures in
+    let run : positions g c.args.function + 0 ≡ positions g c.args.function = omega arith in
+    let indices = subst (λ (n : ℕ). PushesIndices mid new n) run ensured.indices in
     record {
       indices = subst (λ (n : ℕ). PushesIndices old new n) (run_more g c.args.function c.loop-x.x)
-          (more_indices old mid new (c.loop-x.x * positions g c.args.function) (positions g c.args.function) inv.indices ensured.indices);
-      flagged = more_flagged g old mid new c.args.function c.loop-x.x inv.indices ensured.indices inv.flagged ensured.flagged;
+          (more_indices old mid new (c.loop-x.x * positions g c.args.function) (positions g c.args.function) inv.indices indices);
+      flagged = more_flagged g old mid new c.args.function c.loop-x.x inv.indices indices inv.flagged ensured.flagged;
     }
 
 pub returns : goal.returns
