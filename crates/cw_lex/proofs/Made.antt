@@ -7,7 +7,8 @@ use Rattle.cw_lex.specs.declared.tokens.Token.{Token}
 use Rattle.cw_lex.specs.declared.front.Front.TheVariants as front
 use Rattle.cw_lex.specs.Punctuators.{HasNoMarker}
 use Rattle.cw_lex.specs.Fronts.{front_at}
-use Rattle.cw_lex.specs.Tokens.{fresh_from, AreTokens, AreMadeOf}
+use Rattle.cw_lex.specs.Fresh.{fresh_from}
+use Rattle.cw_lex.specs.Tokens.{AreTokens, AreMadeOf}
 use Rattle.cw_lex.specs.Listed.{IsTokenOf}
 use Rattle.cw_lex.proofs.Tokened.{alone}
 use Rattle.cw_lex.proofs.Standing.{Reached, at_start, gap_further, token_further, at_end}

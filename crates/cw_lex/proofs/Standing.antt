@@ -15,7 +15,8 @@ use Rattle.cw_lex.specs.declared.front.Front.TheVariants as front
 use Rattle.cw_lex.specs.declared.lexer.LexFault.TheVariants as fault
 use Rattle.cw_lex.specs.Punctuators.{IsLeastMarker, HasNoMarker}
 use Rattle.cw_lex.specs.Fronts.{front_at, size}
-use Rattle.cw_lex.specs.Tokens.{fresh_behind, fresh_in, fresh_from, Stand, tokens_of, AreTokens, fault_at, IsFirstDefect, IsFault}
+use Rattle.cw_lex.specs.Fresh.{fresh_in, fresh_from}
+use Rattle.cw_lex.specs.Tokens.{fresh_behind, Stand, tokens_of, AreTokens, fault_at, IsFirstDefect, IsFault}
 
 -- one front more behind them
 stand_more : (f : Bool) (bs : List ℕ) (ps : List Front) (g : Bool) (rest : List ℕ) (p : Front) → Stand f bs ps g rest → front_at g rest ≡ p → 0 < size p

@@ -4,6 +4,7 @@ pub mod Numbers
 pub mod Characters
 pub mod Punctuators
 pub mod Fronts
+pub mod Fresh
 pub mod Tokens
 pub mod Listed
 pub mod Forms

@@ -1,5 +1,5 @@
 -- The tokens of a source. Public source: ISO/IEC 9899:2011, 5.1.1.2 (a source is cut into tokens and white space, in order), 6.4.
-use Rattle.std.specs.Prelude.{◌≡◌, ℕ, ◌+◌, ◌-◌, ◌<◌, ◌==◌, Bool, true, false, ◌||◌, List, [], ◌∷◌, drop, map, take}
+use Rattle.std.specs.Prelude.{◌≡◌, ℕ, ◌+◌, ◌<◌, ◌==◌, Bool, true, false, ◌||◌, List, [], ◌∷◌, drop, map, take}
 use Rattle.std.specs.List.{list_any, sum_by}
 use Rattle.cw_lex.specs.declared.tokens.Token.{Token}
 use Rattle.cw_lex.specs.declared.front.Defect.{Defect}
@@ -16,14 +16,6 @@ abbrev pub fresh_behind : Bool → Front → List ℕ → Bool
 fresh_behind fresh (front.Gap n) bs = fresh || list_any (λ b. b == 10) (take n bs)
 fresh_behind fresh (front.Token k n) bs = false
 fresh_behind fresh (front.Fault d) bs = false
-
--- the same, given the bytes behind the last token, all of them gaps, and whether there is no token
-unfoldable pub fresh_in : Bool → List ℕ → Bool
-fresh_in none_yet gap = none_yet || list_any (λ b. b == 10) gap
-
--- the same at a place, given where the last token ends: 0 stands for no token
-abbrev pub fresh_from : ℕ → ℕ → List ℕ → Bool
-fresh_from last at source = fresh_in (last == 0) (take (at - last) (drop last source))
 
 -- These fronts stand at the front of the bytes, one after the other and none of them a fault; what is left behind them, and whether
 -- no token stands on its line so far.

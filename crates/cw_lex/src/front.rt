@@ -7,7 +7,7 @@ ghost use Rattle.cw_lex.specs.Characters.{character_len, text_len};
 ghost use Rattle.cw_lex.specs.Punctuators.{punctuator_len};
 ghost use Rattle.cw_lex.specs.Bytes.{is_white, is_blank, is_line_byte, is_name_byte, is_number_byte};
 ghost use Rattle.cw_lex.specs.Fronts.{identifier, number, quoted, to_close, comment, is_include, line, directive, punctuator, front_at};
-ghost use Rattle.cw_lex.specs.Tokens.{fresh_in};
+ghost use Rattle.cw_lex.specs.Fresh.{fresh_in};
 
 use crate::bytes::{is_blank, is_letter, is_name_byte, is_number_byte, is_white, tail};
 use crate::characters::{character_length, text_length};
@@ -283,7 +283,7 @@ fn punctuator(bytes: &[u8]) -> Front
 
 /// Whether no token stands on the line so far, given the bytes behind the last token, and whether there is none.
 #[inline(never)]
-#[tactic(auto, unfolding(crate::specs::Tokens::fresh_in))]
+#[tactic(auto, unfolding(crate::specs::Fresh::fresh_in))]
 fn is_fresh(gap: &[u8], none_yet: bool) -> bool
     ensures { result ≡ fresh_in none_yet gap.now }
 {

@@ -4,7 +4,8 @@ ghost use Rattle.std.specs.Prelude.{◌≡◌, ◌+◌, ◌^◌, ◌<◌, ◌≤
 ghost use Rattle.cw_lex.specs.declared.lexer.LexFault.TheVariants.{NoMemory};
 ghost use Rattle.cw_lex.specs.Punctuators.{HasNoMarker};
 ghost use Rattle.cw_lex.specs.Fronts.{front_at};
-ghost use Rattle.cw_lex.specs.Tokens.{fresh_from, AreMadeOf, AreTokens, fault_at, IsFault};
+ghost use Rattle.cw_lex.specs.Fresh.{fresh_from};
+ghost use Rattle.cw_lex.specs.Tokens.{AreMadeOf, AreTokens, fault_at, IsFault};
 ghost use Rattle.cw_lex.specs.Fronts.{IsWithin};
 ghost use Rattle.cw_lex.specs.Listed.{IsTokenOf};
 ghost use Rattle.cw_lex.specs.declared.tokens.Token.{Token};

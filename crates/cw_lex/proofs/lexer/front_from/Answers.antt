@@ -1,6 +1,6 @@
 use Rattle.std.proofs.Common.{◌≡◌, ◌-◌, ℕ, length, drop, arith, subst, length-drop}
 use Rattle.cw_lex.specs.Fronts.{IsWithin, front_at}
-use Rattle.cw_lex.specs.Tokens.{fresh_from}
+use Rattle.cw_lex.specs.Fresh.{fresh_from}
 use Rattle.cw_lex.proofs.Within.{front_within}
 use Rattle.cw_lex.proofs.lexer.front_from.Goals as goal
 

@@ -1,5 +1,5 @@
 use Rattle.std.proofs.Common.{sym, inr, arith}
-use Rattle.cw_lex.specs.Tokens.{fresh_from}
+use Rattle.cw_lex.specs.Fresh.{fresh_from}
 use Rattle.cw_lex.proofs.Made.{nothing_made, gap_made, token_is, token_made, all_made}
 use Rattle.cw_lex.proofs.Standing.{at_defect, is_fault}
 use Rattle.cw_lex.proofs.lexer.read.Goals as goal

@@ -1,6 +1,6 @@
 use Rattle.std.proofs.Common.{◌≤◌, ◌-◌, length}
 use Rattle.std.specs.Prelude.{vec_len, vec_capacity}
-use Rattle.cw_lex.specs.Tokens.{fresh_from}
+use Rattle.cw_lex.specs.Fresh.{fresh_from}
 use Rattle.cw_lex.proofs.Made.{IsMadeUpTo}
 use Rattle.cw_lex.proofs.lexer.read.Given as goal
 
