@@ -3,7 +3,9 @@ use Rattle.std.specs.Prelude.{◌≡◌, ℕ, ◌<◌, ◌&&◌, true, false, Bo
 use Rattle.cw_core.specs.declared.ids.PosId.{PosId}
 use Rattle.cw_core.specs.declared.ids.MemId.{MemId}
 use Rattle.cw_core.specs.declared.ids.StateId.{StateId}
-use Rattle.cw_certs.specs.Tables.{Table}
+use Rattle.cw_certs.specs.declared.rows.IntoRow.{IntoRow}
+use Rattle.cw_certs.specs.declared.rows.BackRow.{BackRow}
+use Rattle.cw_certs.specs.Tables.{Table, same}
 use Rattle.cw_game.specs.Games.{Game}
 use Rattle.cw_game.specs.Pairs.{Called, is_live, leads_if}
 use Rattle.cw_wcheck.specs.declared.rows.LiveRow.{LiveRow}
@@ -13,6 +15,14 @@ use Rattle.cw_wcheck.specs.declared.calls.CallAt.{CallAt}
 abbrev pub stands_there : ℕ → ℕ → Option (PosId × MemId) → Bool
 stands_there p m None = false
 stands_there p m (Some r) = nat_eq r.0.0 p && nat_eq r.1.0 m
+
+-- what stands in the list of calls is the row of this seam, plain or split, with this memory
+abbrev pub is_into : ℕ → Bool → ℕ → IntoRow → Bool
+is_into seam split m r = nat_eq r.seam.0 seam && (same r.split split && nat_eq r.mem.0 m)
+
+-- what stands in the list of ways back is the row of such a call, from an end in this state
+abbrev pub is_back : ℕ → Bool → ℕ → ℕ → BackRow → Bool
+is_back seam split m exit r = nat_eq r.seam.0 seam && (same r.split split && (nat_eq r.mem.0 m && nat_eq r.exit.0 exit))
 
 -- where the game gives a pair, the memory is there, means its state with the promise, and is live at its position
 abbrev pub takes_pair : Table → ℕ → Option MemId → Option (ℕ × ℕ) → Bool

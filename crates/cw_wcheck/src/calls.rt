@@ -9,9 +9,10 @@ ghost use Rattle.cw_game.specs.Conditions.{means_state, calls_on, promise_of, ba
 ghost use Rattle.cw_certs.specs.Tables.{into_at, back_at};
 ghost use Rattle.cw_wcheck.specs.Working.{IsRowOf, MeanStates, called_of};
 
-use crate::memories::{leads, meaning};
+use crate::memories::{is_live_near, leads, meaning};
 use crate::rows::LiveRow;
-use cw_certs::{WeaverCert, back_at, into_at, is_live, live_at};
+use crate::ways::{back_near, into_near};
+use cw_certs::{WeaverCert, live_at};
 use cw_core::{MemId, PosId, SeamId, StateId, StateSet};
 use cw_game::Spot;
 use cw_product::{Game, Turn};
@@ -85,10 +86,10 @@ fn means_state(cert: &WeaverCert, mem: MemId, state: StateId) -> bool
 fn begins_by(game: &Game, cert: &WeaverCert, row: &LiveRow, call: CallAt) -> bool
     ensures { result ≡ calls_on (game_of game.now) cert.now row.now.state.0 row.now.mem.0 (Some (called_of call)) }
 {
-    match into_at(cert, call.seam, call.split, row.mem) {
+    match into_near(cert, row.ways.into, call.seam, call.split, row.mem) {
         Some(into) => {
             means_state(cert, into.callee, row.state)
-                && is_live(cert, entry_of(game, call.function), into.callee)
+                && is_live_near(cert, row.near, entry_of(game, call.function), into.callee)
         }
         None => false,
     }
@@ -106,10 +107,10 @@ pub fn calls_on(game: &Game, cert: &WeaverCert, row: &LiveRow) -> bool
 }
 
 /// The promise of the memory with which the called function begins.
-fn promise_of(cert: &WeaverCert, mem: MemId, call: CallAt) -> Option<&StateSet>
+fn promise_of(cert: &WeaverCert, near: usize, mem: MemId, call: CallAt) -> Option<&StateSet>
     ensures { option_map (λ promise. promise.now) result ≡ promise_of cert.now (into_at cert.now call.seam.0 call.split mem.0) }
 {
-    let into = into_at(cert, call.seam, call.split, mem)?;
+    let into = into_near(cert, near, call.seam, call.split, mem)?;
     let (_, promise) = meaning(cert, into.callee)?;
     Some(promise)
 }
@@ -121,7 +122,7 @@ fn goes_back(game: &Game, cert: &WeaverCert, row: &LiveRow, call: CallAt, exit: 
     ensures { result ≡ back_by cert.now (called_of call) (returned (game_of game.now).states (kept_at call.split
         row.now.state.0) exit.0) row.now.promise (back_at cert.now call.seam.0 call.split row.now.mem.0 exit.0) }
 {
-    match back_at(cert, call.seam, call.split, row.mem, exit) {
+    match back_near(cert, row.ways.back, call.seam, call.split, row.mem, exit) {
         Some(back) => {
             let state = game.returned(row.state, exit, call.split);
             leads(cert, row.near, call.back, back.after, state, &row.promise)
@@ -173,7 +174,7 @@ fn all_return(game: &Game, cert: &WeaverCert, row: &LiveRow, call: CallAt) -> bo
     requires mems { MeanStates (game_of game.now) cert.now }
     ensures { result ≡ returns_on (game_of game.now) cert.now row.now.state.0 row.now.mem.0 row.now.promise (Some (called_of call)) }
 {
-    match promise_of(cert, row.mem, call) {
+    match promise_of(cert, row.ways.into, row.mem, call) {
         Some(promise) => {
             let ends = live_at(cert, exit_of(game, call.function));
             each_returns(game, cert, row, call, promise, ends)

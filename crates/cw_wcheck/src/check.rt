@@ -16,6 +16,7 @@ use crate::fault::BadRow;
 use crate::memories::{has_all_states, meaning};
 use crate::ranges::{is_header, range_fault};
 use crate::rows::failing_condition;
+use crate::ways::Ways;
 use cw_certs::{WeaverCert, is_live};
 use cw_core::limits::LIMITS;
 use cw_product::Game;
@@ -43,9 +44,10 @@ fn row_fault(game: &Game, cert: &WeaverCert) -> Option<BadRow>
     ensures { result ≡ option_map numbered (first_failing (live_rows (game_of game.now) cert.now (enumerate_from 0 cert.now.live))) }
 {
     let rows = cert.live();
+    let mut ways = Ways { into: 0, back: 0 };
     for i in 0..rows.len() {
         let (pos, mem) = rows[i];
-        if let Some(condition) = failing_condition(game, cert, i + 1, pos, mem) {
+        if let Some(condition) = failing_condition(game, cert, i + 1, &mut ways, pos, mem) {
             return Some(BadRow {
                 table: 2,
                 number: i as u32,

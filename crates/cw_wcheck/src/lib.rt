@@ -8,6 +8,7 @@ mod memories;
 mod ranges;
 mod rows;
 pub mod soundness;
+mod ways;
 
 pub use check::check_weaver;
 pub use fault::BadRow;

@@ -35,23 +35,28 @@ pub fn is_memory_if(cert: &WeaverCert, mem: Option<MemId>) -> bool
     mem.is_none_or(|mem| is_memory(cert, mem))
 }
 
-/// Where the row of a position may stand in the list of live rows, by the position of the row at this index: so many rows behind or before
-/// that as there are positions between. Nothing rests on it but how long a look-up takes.
-fn row_near(cert: &WeaverCert, near: usize, pos: PosId) -> usize {
+/// Where the row of a position and a memory may stand in the list of live rows, by the row at this index: so many rows behind or before
+/// that as there are positions between, and beside it where it has another memory at the position. Nothing rests on it but how long a
+/// look-up takes.
+fn row_near(cert: &WeaverCert, near: usize, pos: PosId, mem: MemId) -> usize {
     match cert.live().get(near) {
-        Some((there, _)) => {
-            if there.0 <= pos.0 {
+        Some((there, with)) => {
+            if there.0 < pos.0 {
                 near.saturating_add((pos.0 - there.0) as usize)
-            } else {
+            } else if there.0 > pos.0 {
                 near.saturating_sub((there.0 - pos.0) as usize)
+            } else if with.0 < mem.0 {
+                near.saturating_add(1)
+            } else {
+                near.saturating_sub(1)
             }
         }
         None => near,
     }
 }
 
-/// Whether a memory is live at a position. The list of live rows is searched only where the pair stands neither at this index of it nor where
-/// the row of its position would stand if each position between had one row.
+/// Whether a memory is live at a position. The list of live rows is searched only where the pair stands neither at this index of it nor
+/// where the rows looked at before tell that it may stand.
 #[inline(always)]
 pub fn is_live_near(cert: &WeaverCert, near: usize, pos: PosId, mem: MemId) -> bool
     ensures { result ≡ is_live cert.now pos.0 mem.0 }
@@ -64,7 +69,16 @@ pub fn is_live_near(cert: &WeaverCert, near: usize, pos: PosId, mem: MemId) -> b
 fn is_live_about(cert: &WeaverCert, near: usize, pos: PosId, mem: MemId) -> bool
     ensures { result ≡ is_live cert.now pos.0 mem.0 }
 {
-    stands_at(cert, row_near(cert, near, pos), pos, mem) || is_live(cert, pos, mem)
+    let index = row_near(cert, near, pos, mem);
+    stands_at(cert, index, pos, mem) || is_live_beside(cert, index, pos, mem)
+}
+
+/// The same where it doesn't stand there either: the row at that index tells where it may stand once more.
+fn is_live_beside(cert: &WeaverCert, near: usize, pos: PosId, mem: MemId) -> bool
+    ensures { result ≡ is_live cert.now pos.0 mem.0 }
+{
+    let index = row_near(cert, near, pos, mem);
+    stands_at(cert, index, pos, mem) || is_live(cert, pos, mem)
 }
 
 /// Whether a position and a memory stand at an index of the list of live rows.

@@ -11,16 +11,18 @@ ghost use Rattle.cw_wcheck.specs.Working.{IsRowOf, MeanStates, lands_live, step_
 
 use crate::calls::{calls_on, returns_on};
 use crate::memories::{is_live_near, is_promised, meaning, memory_after, takes, takes_on};
+use crate::ways::{Ways, ways_at};
 use cw_certs::{Move, TryRow, WeaverCert, try_at};
 use cw_core::{MemId, PosId, SeamId, StateId, StateSet};
 use cw_game::Spot;
 use cw_product::Game;
 
 /// A live row: its position and what stands there, its memory, and the state and the promise that the memory means. Where it leads,
-/// the row behind it often stands: at this index of the list.
+/// the row behind it often stands: at this index of the list. At a call its rows mostly stand where the `ways` are.
 #[derive(Drop)]
 pub struct LiveRow {
     pub near: usize,
+    pub ways: Ways,
     pub pos: PosId,
     pub spot: Spot,
     pub mem: MemId,
@@ -219,11 +221,12 @@ fn step_fault(cert: &WeaverCert, near: usize, next: PosId, mem: MemId) -> Option
 }
 
 /// The number of the first condition from the third on that fails of a position and a memory, before this index of the list of live
-/// rows; None where the memory isn't there.
+/// rows; None where the memory isn't there. At a call the ways go on to its rows.
 pub fn failing_condition(
     game: &Game,
     cert: &WeaverCert,
     near: usize,
+    ways: &mut Ways,
     pos: PosId,
     mem: MemId,
 ) -> Option<u8>
@@ -236,8 +239,10 @@ pub fn failing_condition(
     if let Spot::Step(next) = spot {
         return step_fault(cert, near, PosId(next), mem);
     }
+    *ways = ways_at(cert, *ways, spot, mem);
     let row = LiveRow {
         near,
+        ways: *ways,
         pos,
         spot,
         mem,
