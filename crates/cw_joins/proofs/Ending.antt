@@ -6,7 +6,7 @@ use Rattle.std.specs.List.{Contains, IsDistinct}
 use Rattle.std.specs.Ordering.{eq_by_cmp}
 use Rattle.std.specs.declared.cmp.Ordering.{Ordering}
 use Rattle.cw_fixpoint.specs.Closures.{Exactly}
-use Rattle.cw_fixpoint.specs.Members.{Rules, IsMember, IsPair, HaveMore, pair_cmp}
+use Rattle.cw_joins.specs.Members.{Rules, IsMember, IsPair, HaveMore, pair_cmp}
 use Rattle.cw_joins.specs.Working.{Reached}
 use Rattle.cw_joins.proofs.Reaching.{all_seen, all_paired, are_pairs, have_more}
 use Rattle.cw_joins.proofs.Hints.{in_set}

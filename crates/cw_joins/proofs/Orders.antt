@@ -4,7 +4,7 @@ use Rattle.std.specs.FinMap.{IsAntisymmetric}
 use Rattle.std.specs.declared.cmp.Ordering.{Ordering}
 use Rattle.std.specs.Cmp.{IsTotalOrder}
 use Rattle.std.proofs.lemmas.Cmp.{on_total, then_total}
-use Rattle.cw_fixpoint.specs.Members.{pair_cmp}
+use Rattle.cw_joins.specs.Members.{pair_cmp}
 use Rattle.cw_lemmas.proofs.Orders.{then_equal}
 
 -- pairs that compare as equal are identical

@@ -7,7 +7,7 @@ use Rattle.std.specs.declared.cmp.Ordering.{Ordering}
 use Rattle.std.proofs.lemmas.Bool.Decides.{nat_tests}
 use Rattle.std.proofs.lemmas.List.Elements.{Contains-append_left, Contains-append_right, Contains-append_cases}
 use Rattle.cw_fixpoint.specs.Seen.{SeenIs, Adds}
-use Rattle.cw_fixpoint.specs.Members.{Rules, IsMember, first, then, joins, AreMet, IsPair, pair_cmp, HaveMore}
+use Rattle.cw_joins.specs.Members.{Rules, IsMember, first, then, joins, AreMet, IsPair, pair_cmp, HaveMore}
 use Rattle.cw_joins.specs.Working.{PutsIn, held_if, met_by, join_of, Below, Reached}
 use Rattle.cw_lemmas.proofs.Lists.{contains_none, contains_one}
 use Rattle.cw_lemmas.proofs.Lists.{contains_map, head_in}

@@ -1,3 +1,4 @@
+pub mod Members
 pub mod Working
 pub mod Chains
 pub mod Seeing

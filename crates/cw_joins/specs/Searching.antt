@@ -1,7 +1,7 @@
 -- Working definitions: what a search keeps of the keys and pairs that it saw.
 use Rattle.std.specs.Prelude.{◌⊎◌, ℕ, ◌+◌, ◌<◌, ◌≤◌, List, length}
 use Rattle.std.specs.declared.cmp.Ordering.{Ordering}
-use Rattle.cw_fixpoint.specs.Members.{Rules, pair_cmp}
+use Rattle.cw_joins.specs.Members.{Rules, pair_cmp}
 use Rattle.cw_joins.specs.Chains.{Holds}
 use Rattle.cw_joins.specs.Working.{Reached}
 use Rattle.cw_joins.specs.declared.joined.Search.{Search}

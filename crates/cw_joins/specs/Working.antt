@@ -1,7 +1,7 @@
 -- Working definitions: what a search keeps of the keys that it saw.
 use Rattle.std.specs.Prelude.{◌≡◌, ◌⊎◌, ℕ, ◌<◌, ◌≤◌, List, [], ◌++◌, Option, Some, None, map, length, slice_index_or}
 use Rattle.std.specs.List.{Contains}
-use Rattle.cw_fixpoint.specs.Members.{Rules, IsMember, AreMet}
+use Rattle.cw_joins.specs.Members.{Rules, IsMember, AreMet}
 
 -- what is held for a group, if there is one
 abbrev pub held_if : {K G : Type 0} → (G → List K) → Option G → List K

@@ -4,7 +4,7 @@ ghost use Rattle.std.specs.Prelude.{◌≡◌, ◌+◌, ◌<◌, ◌≤◌, ◌+
 ghost use Rattle.std.specs.FinMap.{IsAntisymmetric};
 ghost use Rattle.std.specs.List.{Contains};
 ghost use Rattle.cw_fixpoint.specs.Closures.{Exactly};
-ghost use Rattle.cw_fixpoint.specs.Members.{IsMember, IsPair, HaveMore, pair_cmp};
+ghost use Rattle.cw_joins.specs.Members.{IsMember, IsPair, HaveMore, pair_cmp};
 ghost use Rattle.cw_joins.specs.Working.{join_of};
 ghost use Rattle.cw_joins.specs.Searching.{Keeps, Searched};
 

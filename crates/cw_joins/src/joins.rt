@@ -2,7 +2,7 @@
 
 ghost use Rattle.std.specs.Prelude.{◌≡◌, ◌++◌, List, Option, Some, IfOk, OnOk};
 ghost use Rattle.std.specs.List.{Contains};
-ghost use Rattle.cw_fixpoint.specs.Members.{Rules};
+ghost use Rattle.cw_joins.specs.Members.{Rules};
 
 use std::alloc::AllocError;
 

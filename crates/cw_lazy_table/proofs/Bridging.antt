@@ -15,7 +15,7 @@ use Rattle.cw_game.specs.declared.spots.Spot.{Spot}
 use Rattle.cw_game.specs.declared.spots.Spot.TheVariants.{Visit}
 use Rattle.cw_game.specs.Games.{Game, Config, resumed, leads_in, weavers_in}
 use Rattle.cw_game.specs.Pairs.{has, all_states, Called, call_in, is_call_in, is_exit_in}
-use Rattle.cw_fixpoint.specs.Members.{IsMember, first, then, joins}
+use Rattle.cw_joins.specs.Members.{IsMember, first, then, joins}
 use Rattle.cw_lazy_table.specs.Live.{IsFull, IsLive, begins, skips, tries, moves, goes_on, calls, returns}
 use Rattle.cw_lazy_table.specs.declared.key.Key.{Key}
 use Rattle.cw_lazy_table.specs.Closing.{key, moves_on, visited, begun, answered, gone_on, after, waits, ends, back, rules, AreRight}

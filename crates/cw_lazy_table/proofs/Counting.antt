@@ -17,7 +17,7 @@ use Rattle.cw_certs.specs.Tables.{Table}
 use Rattle.cw_fixpoint.specs.Closures.{Exactly}
 use Rattle.cw_game.specs.Games.{Game}
 use Rattle.cw_game.specs.Pairs.{Called, call_in}
-use Rattle.cw_fixpoint.specs.Members.{HaveMore, IsPair, pair_cmp}
+use Rattle.cw_joins.specs.Members.{HaveMore, IsPair, pair_cmp}
 use Rattle.cw_solve.specs.Low.{HeightsAreLow}
 use Rattle.cw_lazy_table.specs.declared.key.Key.{Key}
 use Rattle.cw_lazy_table.specs.declared.seam_key.SeamKey.{SeamKey}

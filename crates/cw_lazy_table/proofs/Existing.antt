@@ -14,7 +14,7 @@ use Rattle.cw_certs.specs.Ascending.{mem_cmp}
 use Rattle.cw_certs.specs.Tables.{Table, table_with}
 use Rattle.cw_certs.proofs.Orders.{mem_total}
 use Rattle.cw_fixpoint.specs.Closures.{Exactly}
-use Rattle.cw_fixpoint.specs.Members.{Rules, IsMember, first, then, joins, IsPair, pair_cmp}
+use Rattle.cw_joins.specs.Members.{Rules, IsMember, first, then, joins, IsPair, pair_cmp}
 use Rattle.cw_fixpoint.proofs.Existing.{in_order, closed_in, in_flat, of_flat, numbers, in_numbers}
 use Rattle.cw_game.specs.Games.{Game}
 use Rattle.cw_game.specs.Pairs.{all_states}

@@ -9,7 +9,7 @@ use Rattle.std.specs.declared.cmp.Ordering.TheVariants.{Less}
 use Rattle.std.proofs.lemmas.List.{map-append, length-map, get_or_default}
 use Rattle.std.proofs.lemmas.Option.{slice_get_within, get_or_from_slice_get}
 use Rattle.cw_fixpoint.specs.Closures.{Exactly}
-use Rattle.cw_fixpoint.specs.Members.{IsMember, first, IsPair, HaveMore, pair_cmp}
+use Rattle.cw_joins.specs.Members.{IsMember, first, IsPair, HaveMore, pair_cmp}
 use Rattle.cw_fixpoint.specs.Numbers.{number_in}
 use Rattle.cw_fixpoint.proofs.Numbers.{stands, below, same_order}
 use Rattle.cw_game.specs.declared.spots.Spot.{Spot}

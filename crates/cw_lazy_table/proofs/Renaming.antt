@@ -1,7 +1,7 @@
 -- Rules that say the same of keys by other names have the same members and pairs, by their names.
 use Rattle.std.proofs.Common.{◌≡◌, map, Some, option_map, refl, sym, ap, ap₂, ◌∙◌, subst}
 use Rattle.std.specs.List.{Contains}
-use Rattle.cw_fixpoint.specs.Members.{Rules, IsMember, first, then, joins, IsPair}
+use Rattle.cw_joins.specs.Members.{Rules, IsMember, first, then, joins, IsPair}
 use Rattle.cw_lemmas.proofs.Lists.{contains_map, map_contains}
 use Rattle.cw_lemmas.proofs.Options.{option_map_some as mapped}
 

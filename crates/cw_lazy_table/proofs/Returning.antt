@@ -7,7 +7,7 @@ use Rattle.cw_fixpoint.specs.Closures.{Exactly}
 use Rattle.cw_game.specs.declared.spots.Spot.{Spot}
 use Rattle.cw_game.specs.Games.{Game}
 use Rattle.cw_game.specs.Pairs.{Called, call_in, is_exit_in}
-use Rattle.cw_fixpoint.specs.Members.{IsMember, IsPair, pair_cmp}
+use Rattle.cw_joins.specs.Members.{IsMember, IsPair, pair_cmp}
 use Rattle.cw_solve.specs.Low.{HeightsAreLow}
 use Rattle.cw_lazy_table.specs.declared.key.Key.{Key}
 use Rattle.cw_lazy_table.specs.Kinds as kind

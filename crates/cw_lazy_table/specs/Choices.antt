@@ -2,7 +2,7 @@
 use Rattle.std.specs.Prelude.{◌≡◌, ℕ, Bool, not, Option, Some, None, length, slice_get, Contains}
 use Rattle.cw_game.specs.Games.{Game, returned, Holds}
 use Rattle.cw_game.specs.Pairs.{has, all_states, Called, call_in, kept_at}
-use Rattle.cw_fixpoint.specs.Members.{Rules, IsMember, then, joins}
+use Rattle.cw_joins.specs.Members.{Rules, IsMember, then, joins}
 use Rattle.cw_product.specs.Product.{Held as HeldGame, game_of}
 use Rattle.cw_solve.specs.Contexts.{AreTheNeeded}
 use Rattle.cw_solve.specs.Low.{HeightsAreLow}

@@ -4,7 +4,7 @@ use Rattle.std.specs.Prelude.{◌≡◌, ◌<◌, ℕ, Bool, List, Some, Contain
 use Rattle.std.specs.List.Sorted.{IsStrictlySortedBy}
 use Rattle.std.specs.Ordering.{nat_cmp}
 use Rattle.cw_core.specs.declared.ids.StateId.{StateId}
-use Rattle.cw_fixpoint.specs.Members.{Rules, IsMember, then, joins}
+use Rattle.cw_joins.specs.Members.{Rules, IsMember, then, joins}
 use Rattle.cw_fixpoint.specs.Numbers.{number_in}
 use Rattle.cw_game.specs.Games.{Game}
 use Rattle.cw_product.specs.Product.{Held as HeldGame, game_of}

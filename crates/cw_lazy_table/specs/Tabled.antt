@@ -5,7 +5,7 @@ use Rattle.cw_core.specs.declared.quantity.Quantity.TheVariants.{Rows}
 use Rattle.cw_certs.specs.Ascending.{mem_cmp}
 use Rattle.cw_fixpoint.specs.Closures.{Exactly}
 use Rattle.cw_game.specs.Games.{Game}
-use Rattle.cw_fixpoint.specs.Members.{IsMember, IsPair, pair_cmp}
+use Rattle.cw_joins.specs.Members.{IsMember, IsPair, pair_cmp}
 use Rattle.cw_product.specs.Product.{Held as HeldGame, game_of}
 use Rattle.cw_solve.specs.Low.{HeightsAreLow}
 use Rattle.cw_lazy_table.specs.declared.key.Key.{Key}

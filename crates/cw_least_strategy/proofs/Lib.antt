@@ -20,4 +20,5 @@ pub mod Parts
 pub mod Backs
 pub mod Existing
 mod Numbered
+mod Descending
 mod Searching

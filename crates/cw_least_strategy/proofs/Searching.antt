@@ -6,8 +6,8 @@ use Rattle.std.specs.Option.{option_to_list}
 use Rattle.std.specs.declared.cmp.Ordering.{Ordering}
 use Rattle.std.proofs.lemmas.List.{nil_from_length, reverse-append}
 use Rattle.std.proofs.lemmas.List.Elements.{Contains-append_left, Contains-append_right, Contains-append_cases}
-use Rattle.cw_fixpoint.specs.Descents.{Joins}
-use Rattle.cw_fixpoint.proofs.Descending.{Descends}
+use Rattle.cw_least_strategy.specs.Descents.{Joins}
+use Rattle.cw_least_strategy.proofs.Descending.{Descends}
 
 pub joins_beside : {K : Type 0} (old keys : List K) → Joins old keys (old ++ keys)
 joins_beside old keys k = (

@@ -1,6 +1,7 @@
 -- The definitions.
 pub mod Acts
 pub mod Backs
+pub mod Descents
 pub mod Heights
 pub mod Kept
 pub mod Parts

@@ -4,7 +4,7 @@ ghost use Rattle.std.specs.Prelude.{◌≡◌, ◌≤◌, ◌++◌, ◌∷◌, [
 ghost use Rattle.std.specs.List.{All};
 ghost use Rattle.std.specs.declared.cmp.Ordering.TheVariants.{Less};
 ghost use Rattle.cw_fixpoint.specs.Closures.{Reached, Exactly, HasMore};
-ghost use Rattle.cw_fixpoint.specs.Descents.{Joins};
+ghost use Rattle.cw_least_strategy.specs.Descents.{Joins};
 ghost use Rattle.cw_product.specs.Product.{game_of};
 ghost use Rattle.cw_least_strategy.specs.Acts.{IsIn};
 ghost use Rattle.cw_least_strategy.specs.Numbered.{AreNumbered};

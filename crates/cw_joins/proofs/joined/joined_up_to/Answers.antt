@@ -1,5 +1,5 @@
 use Rattle.std.proofs.Common.{rules, ◌+◌, ◌<◌, ◌≤◌, length, arith, ⊎_elim}
-use Rattle.cw_fixpoint.specs.Members.{pair_cmp}
+use Rattle.cw_joins.specs.Members.{pair_cmp}
 use Rattle.cw_joins.proofs.Ending.{members_of, pairs_of, more_than}
 use Rattle.cw_joins.proofs.Orders.{pair_total, pair_exact}
 use Rattle.cw_joins.proofs.Hints.{as_many}

@@ -1,6 +1,6 @@
 use Rattle.std.proofs.Common.{rules, ◌+◌, ◌<◌, ◌≤◌, List, length, sym, subst, ap, arith}
 use Rattle.cw_fixpoint.specs.Closures.{Exactly}
-use Rattle.cw_fixpoint.specs.Members.{HaveMore, IsMember, IsPair, pair_cmp}
+use Rattle.cw_joins.specs.Members.{HaveMore, IsMember, IsPair, pair_cmp}
 use Rattle.cw_certs.specs.Tables.{Table}
 use Rattle.cw_product.specs.Product.{game_of}
 use Rattle.cw_lazy_table.specs.declared.key.Key.{Key}

@@ -1,8 +1,8 @@
 use Rattle.std.proofs.Common.{rules, ℕ, ◌≡◌, ◌∙◌, ◌++◌, ◌∷◌, [], List, length, refl, sym, ap, ap₂, subst, arith, IfSome, IfNone}
 use Rattle.std.specs.List.{All, Contains}
 use Rattle.std.specs.declared.cmp.Ordering.TheVariants.{Less}
-use Rattle.cw_fixpoint.specs.Descents.{Joins}
-use Rattle.cw_fixpoint.proofs.Descending.{Descends, descends_start, descends_all, may_follow, has_more, descends_more}
+use Rattle.cw_least_strategy.specs.Descents.{Joins}
+use Rattle.cw_least_strategy.proofs.Descending.{Descends, descends_start, descends_all, may_follow, has_more, descends_more}
 use Rattle.cw_product.specs.Product.{game_of}
 use Rattle.cw_lemmas.proofs.Lists.{contains_one}
 use Rattle.cw_solve.specs.Solved.{Held}

@@ -1,5 +1,5 @@
 use Rattle.std.proofs.Common.{◌-◌, ◌≤◌, ◌++◌, ◌∷◌, [], length, reverse}
-use Rattle.cw_fixpoint.proofs.Descending.{Descends}
+use Rattle.cw_least_strategy.proofs.Descending.{Descends}
 use Rattle.cw_product.specs.Product.{game_of}
 use Rattle.cw_least_strategy.specs.Parts.{AreDone}
 use Rattle.cw_least_strategy.specs.Small.{small_cmp, small_named}

@@ -1,6 +1,6 @@
 use Rattle.std.proofs.Common.{rules, ◌≡◌, length, subst}
 use Rattle.std.proofs.lemmas.List.{nil_from_length}
-use Rattle.cw_fixpoint.specs.Descents.{Joins}
+use Rattle.cw_least_strategy.specs.Descents.{Joins}
 use Rattle.cw_least_strategy.proofs.Searching.{one_taken}
 use Rattle.cw_least_strategy.proofs.search.greatest.Goals as goal
 

@@ -1,8 +1,8 @@
 use Rattle.std.proofs.Common.{◌<◌, ◌≤◌, ◌≡◌, ◌++◌, ◌∷◌, [], length, take, subst, sym, ◌+◌, arith}
 use Rattle.std.specs.Prelude.{get_or}
 use Rattle.std.proofs.lemmas.List.{take_more, take_all}
-use Rattle.cw_fixpoint.specs.Descents.{Joins}
-use Rattle.cw_fixpoint.proofs.Descending.{joins_push}
+use Rattle.cw_least_strategy.specs.Descents.{Joins}
+use Rattle.cw_least_strategy.proofs.Descending.{joins_push}
 use Rattle.cw_least_strategy.specs.declared.key.SmallKey.{SmallKey}
 use Rattle.cw_least_strategy.specs.Small.{small_cmp}
 use Rattle.cw_least_strategy.proofs.Small.{small_exact, small_total}

@@ -1,5 +1,5 @@
 use Rattle.std.proofs.Common.{take}
-use Rattle.cw_fixpoint.specs.Descents.{Joins}
+use Rattle.cw_least_strategy.specs.Descents.{Joins}
 use Rattle.cw_least_strategy.proofs.search.wait_for.Given as goal
 
 abbrev pub invariant-loop-key : goal.invariant-loop-key

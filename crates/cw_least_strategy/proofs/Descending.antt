@@ -15,7 +15,7 @@ use Rattle.cw_fixpoint.specs.Closures.{Reached, first, then, Exactly, HasMore}
 use Rattle.cw_fixpoint.proofs.Keys.{inserted_old, inserted_new, inserted_from}
 use Rattle.cw_lemmas.proofs.Lists.{contains_none, contains_one}
 use Rattle.cw_fixpoint.proofs.Reach.{kept}
-use Rattle.cw_fixpoint.specs.Descents.{Joins}
+use Rattle.cw_least_strategy.specs.Descents.{Joins}
 
 -- what waits, key by key
 joins_one : {K : Type 0} (cmp : K → K → Ordering) → IsTotalOrder cmp → IsAntisymmetric cmp → (s n : BTreeSet K) (k : K) → Updates cmp s n k true → Joins s.keys (k ∷ []) n.keys

@@ -1,6 +1,0 @@
-use Rattle.std.proofs.Common.{take}
-use Rattle.cw_fixpoint.specs.Descents.{Joins}
-use Rattle.cw_fixpoint.proofs.descent.wait_for.Given as goal
-
-abbrev pub invariant-loop-key : goal.invariant-loop-key
-invariant-loop-key g l = Joins l.initial.waiting.keys (take l.key-index l.keys) l.waiting.keys

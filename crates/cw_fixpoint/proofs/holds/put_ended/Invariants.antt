@@ -1,5 +1,0 @@
-use Rattle.std.proofs.Common.{take, map, ◌≡◌, ◌++◌}
-use Rattle.cw_fixpoint.proofs.holds.put_ended.Given as goal
-
-abbrev pub invariant-loop-b : goal.invariant-loop-b
-invariant-loop-b g l = l.met.items ≡ l.initial.met.items ++ map (λ b. (l.key, b)) (take l.b-index l.ended)
