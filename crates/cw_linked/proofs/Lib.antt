@@ -50,3 +50,4 @@ pub mod Plain
 pub mod Listing
 pub mod Soles
 pub mod Spanning
+pub mod Granting

@@ -20,3 +20,4 @@ pub mod Blocks
 pub mod Homes
 pub mod Listed
 pub mod Spans
+pub mod Grants

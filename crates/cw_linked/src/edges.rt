@@ -9,6 +9,7 @@ ghost use Rattle.cw_product.specs.MovesAt.{first_move, second_move};
 ghost use Rattle.cw_product.specs.Routed.{AreRouted};
 ghost use Rattle.cw_solve.specs.Rounds.{positions};
 ghost use Rattle.cw_linked.specs.Edges.{first_kept, second_kept, AddsSource, refusal, first_target, second_asked, second_target, FlagsTarget, AddsMove, AddsMoves, changes_state, AreSourcesTo, AreReached, AreReachedTo, AreChangesTo, AreReturnsTo};
+ghost use Rattle.cw_linked.specs.Grants.{AreGrantsAt, AreAllGrants};
 ghost use Rattle.cw_linked.specs.Plain.{IsPlain, ArePlain};
 ghost use Rattle.cw_linked.specs.Returns.{AreReturns};
 ghost use Rattle.cw_linked.specs.Runs.{AreRuns};
@@ -16,6 +17,7 @@ ghost use Rattle.cw_linked.specs.Steps.{IsMoveIn, Leads};
 ghost use Rattle.cw_linked.specs.Waiting.{keeps_state, is_step, source_at, IsStepTo, IsVisit, lone, next_by, pair_of, AreSources, AreChanges, AreWaits};
 
 use crate::divisor::Divisor;
+use crate::grants::{Grants, granted, grants_at};
 use crate::waiting::list_of;
 use cw_certs::Move;
 use cw_core::limits::POSITIONS_TIMES_STATES;
@@ -303,6 +305,29 @@ fn refusal(game: &Game, spot: Spot) -> Option<bool>
     }
 }
 
+/// Where the first move leads, by the grants of what is asked there, if these are given.
+#[inline(always)]
+fn first_next(
+    game: &Game,
+    grants: Option<&Grants>,
+    pos: PosId,
+    state: StateId,
+    by: Move,
+) -> Option<(PosId, StateId)>
+    requires routed { AreRouted (game_of game.now) (length game.now.graph.parts.items) }
+    requires position { IsPosition (game_of game.now) pos.0 }
+    requires state { IsState (game_of game.now) state.0 }
+    requires grants { IfSome grants (λ own. AreGrantsAt (game_of game.now) pos.0 own.now) }
+    requires by { by ≡ first_move (slice_get (game_of game.now).spots pos.0) }
+    ensures is { numbers result ≡ next_at (game_of game.now) pos.0 state.0 by }
+    ensures within { IfSome result (λ r. IsPosition (game_of game.now) r.0.0 × IsState (game_of game.now) r.1.0) }
+{
+    match grants {
+        None => game.next(pos, state, by),
+        Some(own) => granted(game, own, pos, state),
+    }
+}
+
 /// Where the second move leads, if there is one.
 fn next_by(game: &Game, pos: PosId, state: StateId, by: Option<Move>) -> Option<(PosId, StateId)>
     requires position { IsPosition (game_of game.now) pos.0 }
@@ -392,10 +417,12 @@ fn add_move(
 }
 
 /// Puts a pair into the lists of those to which its moves lead.
+#[inline(always)]
 fn add_moves(
     game: &Game,
     flags: &RankedFlags,
     pairs: &mut Chains<Pair>,
+    grants: Option<&Grants>,
     pos: PosId,
     state: StateId,
     refuses: Option<bool>,
@@ -405,6 +432,7 @@ fn add_moves(
     requires position { IsPosition (game_of game.now) pos.0 }
     requires state { IsState (game_of game.now) state.0 }
     requires changing { keeps_state (slice_get (game_of game.now).spots pos.0) ≡ false }
+    requires grants { IfSome grants (λ own. AreGrantsAt (game_of game.now) pos.0 own.now) }
     requires refuses { refuses ≡ refusal (game_of game.now) (slice_get (game_of game.now).spots pos.0) }
     requires first { moves.now.0 ≡ first_move (slice_get (game_of game.now).spots pos.0) }
     requires second { moves.now.1 ≡ second_move (slice_get (game_of game.now).spots pos.0) }
@@ -414,7 +442,7 @@ fn add_moves(
     requires few { length pairs.old.values ≤ 16777200 }
     ensures { OnOk result (AddsMoves (game_of game.now) flags.now pairs.old pairs.new pos.0 state.0) }
 {
-    let first = game.next(pos, state, moves.0);
+    let first = first_next(game, grants, pos, state, moves.0);
     let second = second_next(game, pos, state, refuses, first, moves.1);
     let sole = is_lone(first, second);
     let pair = Pair { pos, state, sole };
@@ -429,28 +457,84 @@ fn add_moves(
 }
 
 /// Puts the pairs of a position that may change the state into the lists of those to which their moves lead.
-fn add_pairs(
+#[inline(always)]
+fn add_states(
     game: &Game,
     flags: &RankedFlags,
     pairs: &mut Chains<Pair>,
+    grants: Option<&Grants>,
     pos: PosId,
+    spot: Spot,
 ) -> Result<(), NoMemory>
     requires routed { AreRouted (game_of game.now) (length game.now.graph.parts.items) }
     requires position { IsPosition (game_of game.now) pos.0 }
+    requires spot { Some spot ≡ slice_get (game_of game.now).spots pos.0 }
+    requires changing { changes_state (slice_get (game_of game.now).spots pos.0) ≡ true }
+    requires grants { IfSome grants (λ own. AreGrantsAt (game_of game.now) pos.0 own.now) }
     requires flagged { AreReached (game_of game.now) flags.now }
     requires before { AreChangesTo (game_of game.now) flags.now pairs.old pos.0 0 }
     ensures { OnOk result (AreChangesTo (game_of game.now) flags.now pairs.new (pos.0 + 1) 0) }
 {
-    let spot = game.spot(pos);
-    if !is_changing(spot) {
-        return Ok(());
-    }
     let moves = game.moves(pos);
     let refuses = refusal(game, spot);
     for q in 0..game.states() {
-        add_moves(game, flags, pairs, pos, StateId(q), refuses, &moves)?;
+        add_moves(game, flags, pairs, grants, pos, StateId(q), refuses, &moves)?;
     }
     Ok(())
+}
+
+/// The same: of what is asked there the grants are looked for, or made.
+#[inline(never)]
+fn add_changing(
+    alloc: Global,
+    game: &Game,
+    flags: &RankedFlags,
+    pairs: &mut Chains<Pair>,
+    all: &mut Vec<Grants>,
+    pos: PosId,
+) -> Result<(), NoMemory>
+    requires routed { AreRouted (game_of game.now) (length game.now.graph.parts.items) }
+    requires position { IsPosition (game_of game.now) pos.0 }
+    requires changing { changes_state (slice_get (game_of game.now).spots pos.0) ≡ true }
+    requires grants { AreAllGrants (game_of game.now) all.old.items }
+    requires flagged { AreReached (game_of game.now) flags.now }
+    requires before { AreChangesTo (game_of game.now) flags.now pairs.old pos.0 0 }
+    ensures pairs { OnOk result (AreChangesTo (game_of game.now) flags.now pairs.new (pos.0 + 1) 0) }
+    ensures grants { OnOk result (AreAllGrants (game_of game.now) all.new.items) }
+{
+    let spot = game.spot(pos);
+    match spot {
+        Spot::Asked(_, _, prim) => {
+            let k = grants_at(alloc, game, all, pos, prim)?;
+            add_states(game, flags, pairs, Some(&all[k]), pos, spot)
+        }
+        _ => add_states(game, flags, pairs, None, pos, spot),
+    }
+}
+
+/// Puts the pairs of a position into the lists of those to which their moves lead, if it may change the state. Most don't: so what is
+/// done at one that does stands in a function of its own, for which nothing is made ready at the others.
+#[inline(always)]
+fn add_pairs(
+    alloc: Global,
+    game: &Game,
+    flags: &RankedFlags,
+    pairs: &mut Chains<Pair>,
+    all: &mut Vec<Grants>,
+    pos: PosId,
+) -> Result<(), NoMemory>
+    requires routed { AreRouted (game_of game.now) (length game.now.graph.parts.items) }
+    requires position { IsPosition (game_of game.now) pos.0 }
+    requires grants { AreAllGrants (game_of game.now) all.old.items }
+    requires flagged { AreReached (game_of game.now) flags.now }
+    requires before { AreChangesTo (game_of game.now) flags.now pairs.old pos.0 0 }
+    ensures pairs { OnOk result (AreChangesTo (game_of game.now) flags.now pairs.new (pos.0 + 1) 0) }
+    ensures grants { OnOk result (AreAllGrants (game_of game.now) all.new.items) }
+{
+    if !is_changing(game.spot(pos)) {
+        return Ok(());
+    }
+    add_changing(alloc, game, flags, pairs, all, pos)
 }
 
 /// For each pair at a flagged position those at positions that may change the state, from which a move leads there.
@@ -463,8 +547,9 @@ fn make_pairs(alloc: Global, game: &Game, flags: &RankedFlags) -> Result<Chains<
     let lists = flags.flagged() * u32::from(game.states());
     let mut pairs = Chains::make(alloc, lists)?;
     pairs.reserve(lists)?;
+    let mut grants = Vec::new(alloc);
     for p in 0..game.positions() {
-        add_pairs(game, flags, &mut pairs, PosId(p))?;
+        add_pairs(alloc, game, flags, &mut pairs, &mut grants, PosId(p))?;
     }
     Ok(pairs)
 }

@@ -9,6 +9,7 @@ mod calls;
 mod cells;
 mod divisor;
 mod edges;
+mod grants;
 mod home;
 mod implied;
 mod links;

@@ -18,7 +18,7 @@ add_move-requires-clause-is_pair c =
     let spot = slice_get g.spots p in
     let sole : c.is_lone-sole.result ≡ is_sole g p q
     = c.is_lone-sole.ensures
-    ∙ ap (λ (a : Option (ℕ × ℕ)). lone a (numbers c.second_next-second.result)) (c.next-first.ensures.is ∙ ap (λ (m : Move). next_at g p q m) c.requires.first)
+    ∙ ap (λ (a : Option (ℕ × ℕ)). lone a (numbers c.second_next-second.result)) (c.first_next-first.ensures.is ∙ ap (λ (m : Move). next_at g p q m) c.requires.first)
     ∙ ap (λ (b : Option (ℕ × ℕ)). lone (next_at g p q (first_move spot)) b) (c.second_next-second.ensures.is ∙ ap (λ (m : Option Move). next_by g p q spot m) c.requires.second) in
     let pair : Bool → Pair = λ sole. record { pos = c.args.pos; state = c.args.state; sole = sole } in
     ap pair sole
@@ -37,7 +37,7 @@ add_move-requires-in-Some-clause-is_pair c =
     let spot = slice_get g.spots p in
     let sole : c.is_lone-sole.result ≡ is_sole g p q
     = c.is_lone-sole.ensures
-    ∙ ap (λ (a : Option (ℕ × ℕ)). lone a (numbers c.second_next-second.result)) (c.next-first.ensures.is ∙ ap (λ (m : Move). next_at g p q m) c.requires.first)
+    ∙ ap (λ (a : Option (ℕ × ℕ)). lone a (numbers c.second_next-second.result)) (c.first_next-first.ensures.is ∙ ap (λ (m : Move). next_at g p q m) c.requires.first)
     ∙ ap (λ (b : Option (ℕ × ℕ)). lone (next_at g p q (first_move spot)) b) (c.second_next-second.ensures.is ∙ ap (λ (m : Option Move). next_by g p q spot m) c.requires.second) in
     let pair : Bool → Pair = λ sole. record { pos = c.args.pos; state = c.args.state; sole = sole } in
     ap pair sole
