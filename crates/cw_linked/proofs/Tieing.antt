@@ -1,26 +1,27 @@
 -- A link is tied in the store, and what is left to do then is done state by state.
-use Rattle.std.proofs.Common.{◌≡◌, ℕ, suc, ◌+◌, ◌<◌, ◌≤◌, List, Some, length, set, sym, ap, ◌∙◌, subst, arith, inl, inr}
+use Rattle.std.proofs.Common.{◌≡◌, ℕ, suc, ◌+◌, ◌<◌, ◌≤◌, List, true, Some, length, set, sym, ap, ◌∙◌, subst, arith, inl, inr}
 use Rattle.std.specs.Prelude.{slice_get, slice_index}
 use Rattle.std.proofs.lemmas.Bool.{cases_eq, cases_lt}
 use Rattle.std.proofs.lemmas.List.{get_or-set_same, get_or-set_other}
 use Rattle.std.proofs.lemmas.Option.{same_Some}
-use Rattle.cw_game.specs.Games.{Game, returned}
-use Rattle.cw_game.specs.Pairs.{Called, call_in, kept_at}
+use Rattle.cw_game.specs.Games.{Game, returned, Holds}
+use Rattle.cw_game.specs.Pairs.{has, Called, call_in, kept_at}
 use Rattle.cw_solve.specs.declared.contexts.Context.{Context}
 use Rattle.cw_solve.specs.Tabled.{Tabled}
-use Rattle.cw_solve.specs.Contexts.{context}
+use Rattle.cw_solve.specs.Contexts.{context, promise_at}
 use Rattle.cw_product.specs.Routed.{AreRouted}
 use Rattle.cw_solve.specs.Rounds.{IsCell}
 use Rattle.cw_solve.specs.Tables.{HasCell}
+use Rattle.cw_solve.proofs.Falls.{sooner, member_is}
 use Rattle.cw_lemmas.proofs.Truths.{not_both}
 use Rattle.cw_linked.specs.declared.work.Cell.{Cell}
 use Rattle.cw_linked.specs.declared.work.Work.{Work}
 use Rattle.cw_linked.specs.Calls.{AreCallers, AsksCaller}
-use Rattle.cw_linked.specs.Founds.{Found, class_of, AreAlike, IsLink, IsTied, height_back, AreRight, IsCalled, IsStanding, IsFresh, Nothing, AllCalled, AllStanding}
+use Rattle.cw_linked.specs.Founds.{Found, class_of, AreAlike, IsLink, IsTied, height_back, GoesTo, AreRight, IsCalled, IsStanding, IsFresh, Nothing, AllCalled, AllStanding}
 use Rattle.cw_linked.specs.Queues.{found_of, AreLong, AreHigh, LowersKeys, IsCellAt}
-use Rattle.cw_linked.specs.Returns.{Returns, AsksReturn}
+use Rattle.cw_linked.specs.Returns.{Returns}
 use Rattle.cw_linked.specs.Steps.{IsSame, CallsBy, IsIt}
-use Rattle.cw_linked.specs.Tied.{CallsFrom}
+use Rattle.cw_linked.specs.Tied.{CallsFrom, AsksBack}
 use Rattle.cw_linked.specs.Works.{Known, known_of, IsKnown, heights_of, index_at, value_at}
 use Rattle.cw_linked.proofs.Backs.{stands_on}
 use Rattle.cw_linked.proofs.Bounding.{index_is}
@@ -61,16 +62,23 @@ module _ (g : Game) (functions : ℕ) (routed : AreRouted g functions) (alike : 
         ∙ ap (λ (y : ℕ). heights_of g (known_of w) cell.at.number cell.pos.0 y) goes.2 ∙ none);
   }
 
-  -- and no link
-  pub unlost_return : (w : Work) → AreLong w → AreHigh w → AreRight g w.blocks.contexts.items (found_of g w) → (cell : Cell) (p : ℕ)
-      → heights_of g (known_of w) cell.at.number cell.pos.0 cell.state.0 ≡ 0 → AsksReturn g w w cell p
-  unlost_return w long high right cell p none = record {
-    step = nothing g w long high right;
-    standing = λ k call link back x lt same tied set goes member some.
-        let e : height_back g (found_of g w) cell.at.number call k x ≡ 0 = ap (λ (y : ℕ). heights_of g (known_of w) cell.at.number y (returned g.states (kept_at call.split k) x)) back
-        ∙ ap (λ (y : ℕ). heights_of g (known_of w) cell.at.number cell.pos.0 y) same ∙ none in
-        absurd (omega (arith, e, some));
-  }
+  -- A state of a promise returns to no pair that is lost within the moves for which that is promised.
+  promised_longer : (cs : List Context) → ((i : ℕ) (c : Context) → slice_get cs i ≡ Some c → c.function < functions) → (s : Found) → AreRight g cs s
+      → (i : ℕ) (c : Context) (p k : ℕ) (call : Called) → IsLink g cs i c p k call → IsTied s i p k → (set x : ℕ) → GoesTo cs s i p k call set → x < g.states.count
+      → has set x ≡ true → 0 < height_back g s i call k x → s.wave i p k < height_back g s i call k x
+  promised_longer cs within s right i c p k call link tied set x goes lt member some =
+      let q = returned g.states (kept_at call.split k) x in
+      let l = right.linked i c p k call link tied in
+      let same : l.0 ≡ set = ap (λ (y : Context). y.promise) (same_Some (context call.function l.0) (context call.function set) (sym l.1 ∙ goes)) in
+      let cell = back_of g functions routed alike cs within i c p k call x link lt in
+      let holds : Holds g (s.wave i p k) call.back q (has c.promise) ≡ true
+      = sym (member_is g l.0 (promise_at g (s.wave i p k) call.back (kept_at call.split k) c.promise) l.2 x lt) ∙ ap (λ (y : ℕ). has y x) same ∙ member in
+      elim (cases_lt (s.wave i p k) (height_back g s i call k x)) [
+        | inl less ↦ less
+        | inr le ↦ absurd (not_both (Holds g (height_back g s i call k x) call.back q (has c.promise))
+            (sooner g functions routed (height_back g s i call k x) (s.wave i p k) call.back q (has c.promise) le cell.state holds)
+            (right.taken i c call.back q cell some).lost)
+      ]
 
   -- The calls of a link, state by state.
   pub all_from : (cs : List Context) (s : Found) (j r x : ℕ) → AllCalled g cs s (CallsBy g j r x) → AllCalled g cs s (CallsFrom g j r x 0)
@@ -128,30 +136,46 @@ module _ (g : Game) (functions : ℕ) (routed : AreRouted g functions) (alike : 
             asks.called i c p q call is_mid es (to, begins, state) (subst (λ (t : Known). index ≡ index_at g t.blocks.contexts.items i p k) unchanged here)
 
     -- A link, state by state.
-    module _ (link : Cell) (back : ℕ) (returns : Returns g link.pos.0 back) (cell : Cell) (asks : AsksReturn g mid new cell link.pos.0) (at : cell.at ≡ link.at) (pos : cell.pos.0 ≡ back) where
-      pub one_again : ((call : Called) → IsLink g Contexts link.at.number link.at.context link.pos.0 link.state.0 call
+    module _ (link : Cell) (back moves : ℕ) (returns : Returns g link.pos.0 back) (cell : Cell) (asks : AsksBack g mid new cell link.pos.0 moves) (at : cell.at ≡ link.at) (pos : cell.pos.0 ≡ back) where
+      pub one_again : (found_of g w).wave link.at.number link.pos.0 link.state.0 ≡ moves → ((call : Called) → IsLink g Contexts link.at.number link.at.context link.pos.0 link.state.0 call
           → (y : ℕ) → y < g.states.count → returned g.states (kept_at call.split link.state.0) y < cell.state.0
           → IsStanding g Contexts (found_of g mid) link.at.number link.pos.0 link.state.0 call y)
           → (call : Called) → IsLink g Contexts link.at.number link.at.context link.pos.0 link.state.0 call
           → (y : ℕ) → y < g.states.count → returned g.states (kept_at call.split link.state.0) y < cell.state.0 + 1
           → IsStanding g Contexts (found_of g new) link.at.number link.pos.0 link.state.0 call y
-      one_again before call is y lt less =
+      one_again wave before call is y lt less =
           elim (cases_lt (returned g.states (kept_at call.split link.state.0) y) cell.state.0) [
             | inl earlier ↦ subst (λ (t : Known). IsStanding g t.blocks.contexts.items (found_of g new) link.at.number link.pos.0 link.state.0 call y) (sym unchanged)
                 (stands_on g functions routed alike mid new mid_known asks.step link.at.number link.at.context link.pos.0 link.state.0 call y is_mid
                 (subst (λ (t : Known). IsStanding g t.blocks.contexts.items (found_of g mid) link.at.number link.pos.0 link.state.0 call y) unchanged (before call is y lt earlier)))
-            | inr most ↦
+            | inr most ↦ λ tied set goes member some.
                 let same : returned g.states (kept_at call.split link.state.0) y ≡ cell.state.0 = omega (arith, less, most) in
                 let one : returns.0 ≡ call = one_call (slice_get g.spots link.pos.0) returns.0 call returns.1 is.calls in
                 let behind : call.back ≡ cell.pos.0 = ap (λ (c : Called). c.back) (sym one) ∙ returns.2 ∙ sym pos in
-                subst (λ (t : Known). IsStanding g t.blocks.contexts.items (found_of g new) link.at.number link.pos.0 link.state.0 call y) (sym unchanged)
+                let height : heights_of g (known_of new) link.at.number call.back (returned g.states (kept_at call.split link.state.0) y)
+                ≡ heights_of g (known_of mid) cell.at.number cell.pos.0 cell.state.0
+                = ap (λ (t : Known). heights_of g t link.at.number call.back (returned g.states (kept_at call.split link.state.0) y)) asks.step.others.known
+                ∙ ap (λ (a : Tabled). heights_of g (known_of mid) a.number call.back (returned g.states (kept_at call.split link.state.0) y)) (sym at)
+                ∙ ap (λ (r : ℕ). heights_of g (known_of mid) cell.at.number r (returned g.states (kept_at call.split link.state.0) y)) behind
+                ∙ ap (heights_of g (known_of mid) cell.at.number cell.pos.0) same in
+                let longer : (found_of g new).wave link.at.number link.pos.0 link.state.0 < heights_of g (known_of new) link.at.number call.back (returned g.states (kept_at call.split link.state.0) y)
+                = promised_longer Contexts (below g functions routed alike w w known) (found_of g new) right_now link.at.number link.at.context link.pos.0 link.state.0 call is tied set y goes lt member some in
+                (subst (λ (t : Known). IsStanding g t.blocks.contexts.items (found_of g new) link.at.number link.pos.0 link.state.0 call y) (sym unchanged)
                 (subst (λ (a : Tabled). IsLink g mid.blocks.contexts.items a.number a.context link.pos.0 link.state.0 call
                 → IsStanding g mid.blocks.contexts.items (found_of g new) a.number link.pos.0 link.state.0 call y) at
-                (λ l. asks.standing link.state.0 call l behind y lt same) is_mid)
+                (λ l. (asks.asked (omega (arith, longer, height, wave_now wave))).standing link.state.0 call l behind y lt same) is_mid)) tied set goes member some
           ]
         where
           is_mid : IsLink g mid.blocks.contexts.items link.at.number link.at.context link.pos.0 link.state.0 call
           is_mid = subst (λ (t : Known). IsLink g t.blocks.contexts.items link.at.number link.at.context link.pos.0 link.state.0 call) unchanged is
+
+          right_now : AreRight g Contexts (found_of g new)
+          right_now = subst (λ (t : Known). AreRight g t.blocks.contexts.items (found_of g new)) step.others.known asks.step.right
+
+          wave_now : (found_of g w).wave link.at.number link.pos.0 link.state.0 ≡ moves → (found_of g new).wave link.at.number link.pos.0 link.state.0 ≡ moves
+          wave_now e =
+              subst (λ (s : Found). s.wave link.at.number link.pos.0 link.state.0 ≡ moves) (sym (found_keys g mid new asks.step.others))
+              (subst (λ (s : Found). s.wave link.at.number link.pos.0 link.state.0 ≡ moves) (sym (found_keys g w mid step.others)) e)
 
       pub others_again : AllStanding g Contexts (found_of g mid) (IsIt link.at.number link.pos.0 link.state.0) → AllStanding g Contexts (found_of g new) (IsIt link.at.number link.pos.0 link.state.0)
       others_again all = subst (λ (t : Known). AllStanding g t.blocks.contexts.items (found_of g new) (IsIt link.at.number link.pos.0 link.state.0)) (sym unchanged)

@@ -170,6 +170,9 @@ module _ (g : Game) (functions : ℕ) (routed : AreRouted g functions) (alike : 
     mid_tied : IsTied (found_of g mid) link.at.number link.pos.0 link.state.0
     mid_tied = subst (λ (s : Found). IsTied s link.at.number link.pos.0 link.state.0) (sym found_mid) is_tied_there.tied_now
 
+    mid_wave : (found_of g mid).wave link.at.number link.pos.0 link.state.0 ≡ moves
+    mid_wave = subst (λ (s : Found). s.wave link.at.number link.pos.0 link.state.0 ≡ moves) (sym found_mid) is_tied_there.now
+
     pub back_of_link : IsOf g link.at.context.function back
     back_of_link = subst (λ (y : ℕ). IsOf g link.at.context.function y) tieable.ready.2
         (back_stays g functions routed link.at.context.function link.pos.0 call (functions_below link.at.number link.at.context tieable.at.is.at) tieable.at.is.of is_link.calls)
@@ -196,6 +199,9 @@ module _ (g : Game) (functions : ℕ) (routed : AreRouted g functions) (alike : 
 
       pub one_tied : IsTied (found_of g one) link.at.number link.pos.0 link.state.0
       one_tied = subst (λ (s : Found). IsTied s link.at.number link.pos.0 link.state.0) (sym (found_keys g mid one calls.step.others)) mid_tied
+
+      pub one_wave : (found_of g one).wave link.at.number link.pos.0 link.state.0 ≡ moves
+      one_wave = subst (λ (s : Found). s.wave link.at.number link.pos.0 link.state.0 ≡ moves) (sym (found_keys g mid one calls.step.others)) mid_wave
 
       pub one_standing : AllStanding g one.blocks.contexts.items (found_of g one) (IsIt link.at.number link.pos.0 link.state.0)
       one_standing = subst (λ (t : Known). AllStanding g t.blocks.contexts.items (found_of g one) (IsIt link.at.number link.pos.0 link.state.0)) (sym calls.step.others.known)

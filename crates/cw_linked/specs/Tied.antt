@@ -10,8 +10,9 @@ use Rattle.cw_linked.specs.declared.work.Work.{Work}
 use Rattle.cw_linked.specs.Calls.{AreCallers}
 use Rattle.cw_linked.specs.Founds.{IsLink, height_back, IsShrinking, AreRight, Nothing, AllClosed, AllCalled, AllStanding}
 use Rattle.cw_linked.specs.Queues.{found_of, AreFlagged, AreLong, AreHigh, AreDue, LowersKeys, IsCellAt}
+use Rattle.cw_linked.specs.Returns.{AsksReturn}
 use Rattle.cw_linked.specs.Steps.{IsReady, CallsBy, IsIt}
-use Rattle.cw_linked.specs.Works.{known_of, IsKnown}
+use Rattle.cw_linked.specs.Works.{known_of, IsKnown, heights_of}
 
 -- what the solver keeps but for what waits
 pub record IsFirm (g : Game) (w : Work) : Type 0 where
@@ -74,6 +75,11 @@ pub record AsksCalls (g : Game) (old new : Work) : Type 0 where
 -- the calls of a link from a state on
 abbrev pub CallsFrom : Game → (j r x from : ℕ) → ℕ → ℕ → ℕ → Type 0
 CallsFrom g j r x from i p q = CallsBy g j r x i p q × (from ≤ q)
+
+-- where a cell's height is more than so many moves, each link of a position that returns to it stands, as far as states return to the cell
+pub record AsksBack (g : Game) (old new : Work) (cell : Cell) (p moves : ℕ) : Type 0 where
+  pub step : LowersKeys g old new
+  pub asked : moves < heights_of g (known_of old) cell.at.number cell.pos.0 cell.state.0 → AsksReturn g old new cell p
 
 -- a link stands again
 pub record AsksAgain (g : Game) (old new : Work) : Type 0 where

@@ -15,9 +15,9 @@ ghost use Rattle.cw_linked.specs.Calls.{AreCallers, AsksCaller};
 ghost use Rattle.cw_linked.specs.Founds.{AreRight, AllCalled, AllStanding, IsTied};
 ghost use Rattle.cw_linked.specs.Popped.{Finishes};
 ghost use Rattle.cw_linked.specs.Queues.{found_of, AreFlagged, AreLong, AreHigh, IsCellAt};
-ghost use Rattle.cw_linked.specs.Returns.{AreFew, Returns, AsksReturn};
+ghost use Rattle.cw_linked.specs.Returns.{AreFew, Returns};
 ghost use Rattle.cw_linked.specs.Steps.{CallsBy, IsIt};
-ghost use Rattle.cw_linked.specs.Tied.{IsTieable, TiesLink, AsksCalls, AsksAgain};
+ghost use Rattle.cw_linked.specs.Tied.{IsTieable, TiesLink, AsksCalls, AsksBack, AsksAgain};
 ghost use Rattle.cw_linked.specs.Works.{known_of, IsKnown, heights_of, cell_of};
 
 use crate::block::{Block, block_of};
@@ -150,7 +150,7 @@ fn ask_calls(
     Ok(())
 }
 
-/// Asks for the link at a position that returns to the cell, if the cell is lost.
+/// Asks for the link at a position that returns to the cell, if the cell is lost in more than so many moves. Those that are lost sooner are in no promise for so many.
 fn ask_back(
     game: &Game,
     work: &mut Work,
@@ -159,6 +159,7 @@ fn ask_back(
     back: PosId,
     state: StateId,
     pos: PosId,
+    moves: u32,
 ) -> Result<(), NoMemory>
     requires routed { AreRouted (game_of game.now) (length game.now.graph.parts.items) }
     requires known { IsKnown (game_of game.now) (known_of work.old) }
@@ -170,24 +171,31 @@ fn ask_back(
     requires long { AreLong work.old }
     requires high { AreHigh work.old }
     requires right { AreRight (game_of game.now) work.old.blocks.contexts.items (found_of (game_of game.now) work.old) }
-    ensures { OnOk result (AsksReturn (game_of game.now) work.old work.new (cell_of at.now back state) pos.0) }
+    ensures { OnOk result (AsksBack (game_of game.now) work.old work.new (cell_of at.now back state) pos.0 moves) }
 {
     let height = height_in(game, work, at, block, back, state);
-    if height == 0 {
+    if height <= moves {
         return Ok(());
     }
     ask_return(game, work, at, block, back, state, height, pos)?;
     Ok(())
 }
 
-/// Asks for a link that was tied, if states of its promise return to taken pairs.
-fn ask_again(game: &Game, work: &mut Work, link: &Cell, back: PosId) -> Result<(), NoMemory>
+/// Asks for a link that was tied for so many moves, if states of its promise return to taken pairs.
+fn ask_again(
+    game: &Game,
+    work: &mut Work,
+    link: &Cell,
+    back: PosId,
+    moves: u32,
+) -> Result<(), NoMemory>
     requires routed { AreRouted (game_of game.now) (length game.now.graph.parts.items) }
     requires known { IsKnown (game_of game.now) (known_of work.old) }
     requires cell { HasCell (game_of game.now) work.old.blocks link.now.at link.now.pos.0 link.now.state.0 }
     requires back { IsOf (game_of game.now) link.now.at.context.function back.0 }
     requires returns { Returns (game_of game.now) link.now.pos.0 back.0 }
     requires tied { IsTied (found_of (game_of game.now) work.old) link.now.at.number link.now.pos.0 link.now.state.0 }
+    requires wave { (found_of (game_of game.now) work.old).wave link.now.at.number link.now.pos.0 link.now.state.0 ≡ moves }
     requires few { AreFew work.old }
     requires flagged { AreFlagged (game_of game.now) work.old }
     requires long { AreLong work.old }
@@ -199,7 +207,16 @@ fn ask_again(game: &Game, work: &mut Work, link: &Cell, back: PosId) -> Result<(
 {
     let block = block_of(game, &work.blocks, &link.at);
     for q in 0..game.states() {
-        ask_back(game, work, &link.at, &block, back, StateId(q), link.pos)?;
+        ask_back(
+            game,
+            work,
+            &link.at,
+            &block,
+            back,
+            StateId(q),
+            link.pos,
+            moves,
+        )?;
     }
     Ok(())
 }
@@ -220,6 +237,6 @@ pub(crate) fn tie_link(
 {
     tie(work, index, callee, moves);
     ask_calls(game, work, index, link, callee)?;
-    ask_again(game, work, link, back)?;
+    ask_again(game, work, link, back, moves)?;
     Ok(())
 }

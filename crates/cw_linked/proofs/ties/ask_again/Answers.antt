@@ -29,12 +29,12 @@ loop-q-preserved c =
     let cell : Cell = record { at = link.at; pos = c.args.back; state = record { 0 = c.loop-q.q } } in
     record {
       step = two_steps g w mid new c.loop-q.invariant.step c.in_ok-ask_back.ensures.step;
-      others = others_again g functions c.requires.routed (alike c.args.game.now) w mid new c.requires.known c.loop-q.invariant.step link c.args.back.0 c.requires.returns cell
+      others = others_again g functions c.requires.routed (alike c.args.game.now) w mid new c.requires.known c.loop-q.invariant.step link c.args.back.0 c.args.moves c.requires.returns cell
           c.in_ok-ask_back.ensures refl refl
           c.loop-q.invariant.others;
-      before = one_again g functions c.requires.routed (alike c.args.game.now) w mid new c.requires.known c.loop-q.invariant.step link c.args.back.0 c.requires.returns cell
+      before = one_again g functions c.requires.routed (alike c.args.game.now) w mid new c.requires.known c.loop-q.invariant.step link c.args.back.0 c.args.moves c.requires.returns cell
           c.in_ok-ask_back.ensures refl refl
-          c.loop-q.invariant.before;
+          c.requires.wave c.loop-q.invariant.before;
     }
 
 pub returns : goal.returns

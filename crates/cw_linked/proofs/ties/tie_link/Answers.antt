@@ -3,7 +3,7 @@ use Rattle.cw_product.specs.Product.{game_of}
 use Rattle.cw_solve.proofs.Keeping.{few}
 use Rattle.cw_linked.proofs.Alike.{alike}
 use Rattle.cw_linked.proofs.Takings.{few_number}
-use Rattle.cw_linked.proofs.Tightening.{within, link_flagged, mid_firm, mid_goes, mid_called, back_of_link, one_few, one_flagged, one_tied, one_standing, tied_all}
+use Rattle.cw_linked.proofs.Tightening.{within, link_flagged, mid_firm, mid_goes, mid_called, back_of_link, one_few, one_flagged, one_tied, one_wave, one_standing, tied_all}
 use Rattle.cw_linked.proofs.ties.tie_link.Goals as goal
 
 pub tie-requires-clause-within : goal.tie-requires-clause-within
@@ -66,6 +66,13 @@ ask_again-requires-clause-tied c =
     let g = game_of c.args.game.now in
     let functions = length c.args.game.now.graph.parts.items in
     one_tied g functions c.requires.routed (alike c.args.game.now) c.args.work.now c.tie.new.work c.args.link.now c.args.index c.args.moves c.args.callee.now.number c.args.back.0
+    c.args.callee.now.context c.requires.tieable c.tie.ensures c.ask_calls.new.work c.in_ok-ask_calls.ensures
+
+pub ask_again-requires-clause-wave : goal.ask_again-requires-clause-wave
+ask_again-requires-clause-wave c =
+    let g = game_of c.args.game.now in
+    let functions = length c.args.game.now.graph.parts.items in
+    one_wave g functions c.requires.routed (alike c.args.game.now) c.args.work.now c.tie.new.work c.args.link.now c.args.index c.args.moves c.args.callee.now.number c.args.back.0
     c.args.callee.now.context c.requires.tieable c.tie.ensures c.ask_calls.new.work c.in_ok-ask_calls.ensures
 
 pub ask_again-requires-clause-few : goal.ask_again-requires-clause-few
