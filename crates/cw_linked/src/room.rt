@@ -9,10 +9,10 @@ ghost use Rattle.cw_solve.specs.Rounds.{positions};
 ghost use Rattle.cw_product.specs.Routed.{IsThere, AreRouted, IsOf};
 ghost use Rattle.cw_linked.specs.Added.{PushesIndices, PushesNext, PushesContext, FlagsState, FlagsLinks};
 ghost use Rattle.cw_linked.specs.Founds.{class_of};
-ghost use Rattle.cw_linked.specs.Spans.{IsSpanned};
+ghost use Rattle.cw_linked.specs.Spans.{IsSpan, IsSpanned};
 
 use crate::calls::class_at;
-use crate::spans::Spans;
+use crate::spans::{Span, Spans};
 use cw_core::limits::CELLS;
 use cw_core::{NoMemory, PosId, StateId};
 use cw_game::Spot;
@@ -95,13 +95,15 @@ fn is_split(game: &Game, pos: PosId) -> bool
     }
 }
 
-/// Whether one stands at a position of a function.
-pub(crate) fn has_splits(game: &Game, function: u16) -> bool
+/// Whether one stands in the span of a function's calls.
+pub(crate) fn has_splits(game: &Game, function: u16, calls: &Span) -> bool
     requires routed { AreRouted (game_of game.now) (length game.now.graph.parts.items) }
     requires there { IsThere (game_of game.now) (length game.now.graph.parts.items) function }
+    requires calls { IsSpan (game_of game.now) function (λ p. is_call_in (slice_get (game_of game.now).spots p)) calls.now ((game_of game.now).exit function + 1) }
     ensures { result ≡ false → (p : ℕ) (call : Called) → IsOf (game_of game.now) function p → call_in (slice_get (game_of game.now).spots p) ≡ Some call → call.split ≡ false }
 {
-    for p in game.entry(function).0..game.exit(function).0 + 1 {
+    let _ = function;
+    for p in calls.first..calls.end {
         if is_split(game, PosId(p)) {
             return true;
         }

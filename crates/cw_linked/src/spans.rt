@@ -117,9 +117,10 @@ fn spans_of(game: &Game, function: u16) -> Spans
     ensures { IsSpanned (game_of game.now) function result }
 {
     game.fact_is_closed();
+    let calls = calls_of(game, function);
     Spans {
-        calls: calls_of(game, function),
-        split: has_splits(game, function),
+        calls,
+        split: has_splits(game, function, &calls),
         labels: labels_of(game, function),
     }
 }

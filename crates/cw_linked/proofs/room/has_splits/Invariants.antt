@@ -7,4 +7,4 @@ use Rattle.cw_linked.proofs.room.has_splits.Given as goal
 abbrev pub invariant-loop-p : goal.invariant-loop-p
 invariant-loop-p l =
     let g = game_of l.game in
-    (p : ℕ) (call : Called) → g.entry l.function ≤ p → p < l.p → call_in (slice_get g.spots p) ≡ Some call → call.split ≡ false
+    (p : ℕ) (call : Called) → l.calls.first ≤ p → p < l.p → call_in (slice_get g.spots p) ≡ Some call → call.split ≡ false
