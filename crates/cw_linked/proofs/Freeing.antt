@@ -1,5 +1,5 @@
 -- The links of a context wait to be tied.
-use Rattle.std.proofs.Common.{◌≡◌, ℕ, ◌<◌, List, ◌||◌, Some, length, set, refl, sym, ap, ap₂, ◌∙◌, subst, arith, inl, inr, Bool}
+use Rattle.std.proofs.Common.{◌≡◌, ℕ, ◌<◌, List, ◌||◌, false, Some, length, set, refl, sym, ap, ap₂, ◌∙◌, subst, arith, inl, inr, Bool}
 use Rattle.std.specs.Prelude.{◌⊎◌, slice_get, slice_index, nat_eq, nat_lt}
 use Rattle.std.proofs.lemmas.Bool.{cases_eq}
 use Rattle.std.proofs.lemmas.List.{get_or-set_same}
@@ -9,7 +9,7 @@ use Rattle.cw_links.specs.Keys.{lowered}
 use Rattle.cw_solve.specs.declared.contexts.Context.{Context}
 use Rattle.cw_solve.specs.Rounds.{slot, IsCell}
 use Rattle.cw_linked.specs.declared.work.Work.{Work}
-use Rattle.cw_linked.specs.Added.{ThePair, IsLinkOf, FreesLinks}
+use Rattle.cw_linked.specs.Added.{ThePair, AllOf, IsLinkOf, FreesLinks}
 use Rattle.cw_linked.specs.Founds.{class_of, IsLink}
 use Rattle.cw_linked.specs.Queues.{AreLong, AreSameBut, AsksForLink}
 use Rattle.cw_linked.specs.Works.{Known, index_at}
@@ -88,6 +88,20 @@ module _ (g : Game) (i : ℕ) (c : Context) where
     asked = frees.asked;
     long = frees.long;
     links = λ p x call link those. frees.links p x call link (among p x link.cell those);
+    rest = frees.rest;
+  }
+
+  -- at a call that isn't split one link stands, at the first state
+  pub frees_first : (old new : Work) (r : ℕ) → ((call : Called) → call_in (slice_get g.spots r) ≡ Some call → call.split ≡ false) → FreesLinks g old new i c (ThePair r 0)
+      → FreesLinks g old new i c (AllOf r)
+  frees_first old new r whole frees = record {
+    others = frees.others;
+    asked = frees.asked;
+    long = frees.long;
+    links = λ p x call link e.
+        let one = whole call (subst (λ (y : ℕ). call_in (slice_get g.spots y) ≡ Some call) e link.calls) in
+        let zero_is : 0 ≡ x = ap (λ (s : Bool). class_of g s x) (sym one) ∙ link.class in
+        frees.links p x call link (e, sym zero_is);
     rest = frees.rest;
   }
 

@@ -5,22 +5,16 @@ use Rattle.cw_rights.specs.declared.capabilities.Primitive.TheVariants.{Limit, E
 use Rattle.cw_game.specs.declared.spots.Spot.{Spot}
 use Rattle.cw_game.specs.declared.spots.Spot.TheVariants.{Visit, Asked, Step, Branch, Label, Open, Close, Call, SplitCall, Exit}
 use Rattle.cw_game.specs.Games.{Game, refuses_in, bad_in, Promise, holds_in}
-use Rattle.cw_game.specs.Pairs.{has, Called, call_in, is_call_in, is_exit_in}
+use Rattle.cw_game.specs.Pairs.{has, is_call_in, is_exit_in}
 use Rattle.cw_solve.specs.declared.contexts.Context.{Context}
 use Rattle.cw_product.specs.Routed.{AreRouted}
 use Rattle.cw_solve.specs.Rounds.{IsCell}
 use Rattle.cw_lemmas.proofs.Truths.{not_both}
-use Rattle.cw_linked.specs.declared.work.Work.{Work}
-use Rattle.cw_linked.specs.Added.{AllOf, loss_begins_in, FreesLinks}
+use Rattle.cw_linked.specs.Added.{loss_begins_in}
 use Rattle.cw_linked.specs.Founds.{Found, implied, tells, IsClosed}
 use Rattle.cw_linked.specs.Steps.{IsBound}
-use Rattle.cw_linked.proofs.Freeing.{frees_nothing}
 use Rattle.cw_linked.proofs.Leading.{in_gives, next_cell}
 use Rattle.cw_linked.proofs.Least.{tells_none}
-
--- no link is at a position where no call stands
-pub frees_position : (g : Game) (w : Work) (j : ℕ) (d : Context) (r : ℕ) → ((call : Called) → call_in (slice_get g.spots r) ≡ Some call → ⊥) → FreesLinks g w w j d (AllOf r)
-frees_position g w j d r none = frees_nothing g j d w (AllOf r) (λ p x call is e. none call (subst (λ (y : ℕ). call_in (slice_get g.spots y) ≡ Some call) e is.calls))
 
 or_true : (b : Bool) → (b || true) ≡ true
 or_true true = refl

@@ -11,8 +11,8 @@ ghost use Rattle.cw_linked.specs.Spans.{IsSpanned, AreSpanned};
 ghost use Rattle.cw_linked.specs.Works.{known_of, IsKnown};
 
 use crate::asked::ask_all;
-use crate::calls::{class_at, is_call, is_same};
-use crate::room::{push, push_indices};
+use crate::calls::{class_at, is_same};
+use crate::room::{is_split, push, push_indices};
 use crate::spans::{Spans, spans_at};
 use crate::work::{Work, ask_link};
 use cw_core::{NoMemory, PosId, StateId};
@@ -60,7 +60,9 @@ fn free_links(game: &Game, work: &mut Work, at: &Tabled, pos: PosId) -> Result<(
     requires flagged { AreFlagged (game_of game.now) work.old }
     ensures { OnOk result (FreesLinks (game_of game.now) work.old work.new at.now.number at.now.context (AllOf pos.0)) }
 {
-    if !is_call(game, pos) {
+    // All states are alike at a call that isn't split, so its one link stands at the first one.
+    if !is_split(game, pos) {
+        free_link(game, work, at, pos, StateId(0))?;
         return Ok(());
     }
     for x in 0..game.states() {

@@ -85,7 +85,7 @@ fn push_state(
 }
 
 /// Whether a call in a process of its own stands at a position.
-fn is_split(game: &Game, pos: PosId) -> bool
+pub(crate) fn is_split(game: &Game, pos: PosId) -> bool
     requires { IsPosition (game_of game.now) pos.0 }
     ensures { result ≡ false → (call : Called) → call_in (slice_get (game_of game.now).spots pos.0) ≡ Some call → call.split ≡ false }
 {
