@@ -47,20 +47,22 @@ pub(crate) fn stands(mems: &[(StateId, usize)], at: usize, memory: (StateId, usi
     }
 }
 
-/// Puts a memory, but where it stands at an index already. The index behind it.
+/// Puts a memory, but where it stands at its place already, and tells where it stands.
 #[inline(always)]
 fn put_memory(
     memories: &mut Vec<(StateId, usize)>,
-    near: usize,
+    places: &mut Places,
     memory: (StateId, usize),
-) -> Result<usize, AllocError>
+) -> Result<(), AllocError>
     ensures { OnOk result (IsPut memories.old.items memory memories.new.items) }
 {
+    let near = places.guess(memory.0.0, memory.1);
     if stands(memories, near, memory) {
-        return Ok(near.saturating_add(1));
+        return Ok(());
     }
+    places.tell(memory.0.0, memory.1, memories.len());
     memories.push(memory)?;
-    Ok(memories.len())
+    Ok(())
 }
 
 /// The states and the promises of keys, by where each of so many states and promises was put.
@@ -76,9 +78,11 @@ pub(crate) fn memories_of(
     let mut memories = Vec::new(alloc);
     let mut places = Places::make(alloc, states, promises)?;
     for key in keys {
-        let at = places.guess(key.state, key.promise);
-        let behind = put_memory(&mut memories, at, (StateId(key.state), key.promise))?;
-        places.tell(key.state, key.promise, behind.saturating_sub(1));
+        put_memory(
+            &mut memories,
+            &mut places,
+            (StateId(key.state), key.promise),
+        )?;
     }
     Ok(memories)
 }
@@ -207,7 +211,7 @@ pub(crate) fn returns(
     requires { (ab : Key × Key) → Contains pairs.now ab → IsPosition (game_of game.now) ab.0.pos }
     ensures { IfOk result (λ v. Exactly return_cmp (Contains (filter_map (return_of (game_of game.now)) pairs.now)) v.items) }
 {
-    let mut found = Vec::new(alloc);
+    let mut found = Vec::with_capacity(alloc, pairs.len())?;
     for pair in pairs {
         put_return(call_at(game, &pair.0), &pair.1, &mut found)?;
     }
