@@ -11,11 +11,12 @@ use std::marker::Model;
 /// More numbers than these are not kept: 4 MB.
 const MOST: usize = 1_048_576;
 
-/// A solved game, and for each position and each promise that the game needs the number of the context that may have both. Nothing rests on
-/// these numbers but how long a look-up takes. A contract sees the solved game.
+/// A solved game, for each position the function that has it, and for each function and each promise that the game needs the number of the
+/// context that may have both. Nothing rests on these numbers but how long a look-up takes. A contract sees the solved game.
 #[derive(Drop)]
 pub(crate) struct Looked<'g> {
     solved: &'g Solved<'g>,
+    functions: Vec<u16>,
     numbers: Vec<u32>,
     promises: usize,
 }
@@ -32,64 +33,86 @@ impl<'g> Model for Looked<'g> {
     ghost view = { λ s. s.solved.now };
 }
 
-/// The index of a promise, which mostly is the one that was found last.
-fn index_near(promises: &[StateSet], near: usize, promise: &StateSet) -> usize {
-    if promises.get(near) == Some(promise) {
-        return near;
-    }
+/// The index of a promise.
+fn index_of(promises: &[StateSet], promise: &StateSet) -> usize {
     match promises.binary_search(promise) {
         Ok(index) => index,
         Err(_) => promises.len(),
     }
 }
 
-/// Notes the number of a context at each position of its function.
-fn note(
-    game: &Game,
-    numbers: &mut Vec<u32>,
-    promises: usize,
-    function: u16,
-    promise: usize,
-    number: u32,
-) {
+/// Notes a function at each of its positions.
+fn note_function(game: &Game, functions: &mut Vec<u16>, function: u16) {
     if (function as usize) < game.graph().parts.len() {
         for pos in game.entry(function).0..=game.exit(function).0 {
-            let at = (pos as usize)
-                .saturating_mul(promises)
-                .saturating_add(promise);
-            if let Some(there) = numbers.get_mut(at) {
-                *there = number;
+            if let Some(there) = functions.get_mut(pos as usize) {
+                *there = function;
             }
         }
     }
 }
 
-/// Looks up the contexts of a solved game by these promises.
+/// The function of each position.
+fn functions_of(alloc: Global, game: &Game) -> Result<Vec<u16>, AllocError> {
+    let mut functions = vec![in alloc; 0_u16; game.positions() as usize]?;
+    for function in 0..u16::MAX {
+        if (function as usize) >= game.graph().parts.len() {
+            return Ok(functions);
+        }
+        note_function(game, &mut functions, function);
+    }
+    Ok(functions)
+}
+
+/// Where the number of a function's context is noted, among so many promises by the index of its own.
+#[inline(always)]
+fn place(function: u16, promises: usize, promise: usize) -> usize {
+    (function as usize)
+        .wrapping_mul(promises)
+        .wrapping_add(promise)
+}
+
+/// The number of the context that may have a function and a promise, by their place. A promise is searched where it comes for the first time.
+fn numbers_of(
+    alloc: Global,
+    game: &Game,
+    solved: &Solved,
+    promises: &[StateSet],
+    orders: &[usize],
+) -> Result<Vec<u32>, AllocError> {
+    let count = game.graph().parts.len().saturating_mul(promises.len());
+    let mut numbers = vec![in alloc; 0_u32; if count <= MOST { count } else { 0 }]?;
+    let mut indices = Vec::new(alloc);
+    for number in 0..solved.contexts() {
+        let context = solved.context(number);
+        let order = orders.get(number as usize).copied().unwrap_or(0);
+        if order >= indices.len() {
+            indices.push(index_of(promises, &context.promise))?;
+        }
+        let index = indices.get(order).copied().unwrap_or(0);
+        let at = place(context.function, promises.len(), index);
+        if let Some(there) = numbers.get_mut(at) {
+            *there = number;
+        }
+    }
+    Ok(numbers)
+}
+
+/// Looks up the contexts of a solved game by these promises. The orders tell in which order the promises of the contexts come for the first time.
 pub(crate) fn look_up<'g>(
     alloc: Global,
     game: &Game,
     solved: &'g Solved<'g>,
     promises: &[StateSet],
+    orders: &[usize],
 ) -> Result<Looked<'g>, AllocError>
     ensures { IfOk result (λ s. s ≡ solved.now) }
 {
-    let count = (game.positions() as usize).saturating_mul(promises.len());
-    let mut numbers = vec![in alloc; 0_u32; if count <= MOST { count } else { 0 }]?;
-    let mut near: usize = 0;
-    for number in 0..solved.contexts() {
-        let context = solved.context(number);
-        near = index_near(promises, near, &context.promise);
-        note(
-            game,
-            &mut numbers,
-            promises.len(),
-            context.function,
-            near,
-            number,
-        );
-    }
+    let functions = functions_of(alloc, game)?;
+    let numbers = numbers_of(alloc, game, solved, promises, orders)?;
     Ok(Looked {
         solved,
+        functions,
         numbers,
         promises: promises.len(),
     })
@@ -101,15 +124,15 @@ impl<'g> Looked<'g> {
     ghost use Rattle.cw_solve.specs.Numbering.{IsUnder, IsNumberOf};
     ghost use Rattle.cw_solve.specs.Solved.{IsNumbered, IsHeightIn};
 
-    /// The number that was noted for a position and the index of a promise.
+    /// The number that was noted for the function of a position and the index of a promise.
     #[inline(always)]
     fn noted(&self, pos: PosId, promise: usize) -> u32 {
-        let at = (pos.0 as usize)
-            .saturating_mul(self.promises)
-            .saturating_add(promise);
-        match self.numbers.get(at) {
+        match self.functions.get(pos.0 as usize) {
             None => 0,
-            Some(number) => *number,
+            Some(function) => match self.numbers.get(place(*function, self.promises, promise)) {
+                None => 0,
+                Some(number) => *number,
+            },
         }
     }
 

@@ -25,23 +25,29 @@ fn stands(promises: &[StateSet], at: usize, promise: &StateSet) -> bool
     }
 }
 
-/// Appends a promise, but where it is the first one or the last already: most contexts have one of these.
-fn put_promise(promises: &mut Vec<StateSet>, promise: &StateSet) -> Result<(), AllocError>
+/// Appends a promise, but where it is the first one or the last already: most contexts have one of these. The index at which it stands.
+fn put_promise(promises: &mut Vec<StateSet>, promise: &StateSet) -> Result<usize, AllocError>
     ensures { OnOk result (IsPut promises.old.items promise.now promises.new.items) }
 {
     let last = promises.len().saturating_sub(1);
-    if stands(promises, 0, promise) || stands(promises, last, promise) {
-        return Ok(());
+    if stands(promises, 0, promise) {
+        return Ok(0);
     }
+    if stands(promises, last, promise) {
+        return Ok(last);
+    }
+    let index = promises.len();
     promises.push(*promise)?;
-    Ok(())
+    Ok(index)
 }
 
-/// The promises of all contexts, ascending, each once.
+/// The promises of all contexts, ascending, each once. Appends for each context where its promise stands among them in the order in which they come
+/// for the first time.
 pub(crate) fn promises_of(
     alloc: Global,
     game: &Game,
     solved: &Solved,
+    orders: &mut Vec<usize>,
 ) -> Result<Vec<StateSet>, AllocError>
     requires ready { IsReady game.now solved.now }
     ensures { IfOk result (λ v. ArePromises (game_of game.now) v.items) }
@@ -49,7 +55,8 @@ pub(crate) fn promises_of(
     let _ = game;
     let mut all = Vec::new(alloc);
     for number in 0..solved.contexts() {
-        put_promise(&mut all, &solved.context(number).promise)?;
+        let order = put_promise(&mut all, &solved.context(number).promise)?;
+        orders.push(order)?;
     }
     ordered(alloc, &all)
 }

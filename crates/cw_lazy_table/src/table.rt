@@ -304,8 +304,9 @@ fn table_within(
     ensures few { IfOk result (λ o. IfSome o (λ t. table_rows t ≤ ROWS)) }
     ensures many { IfOk result (λ o. IfNone o ((t : Table) → IsLazyTable (game_of game.now) t → ROWS < table_rows t)) }
 {
-    let promises = promises_of(alloc, game, solved)?;
-    let looked = look_up(alloc, game, solved, &promises)?;
+    let mut orders = Vec::with_capacity(alloc, solved.contexts() as usize)?;
+    let promises = promises_of(alloc, game, solved, &mut orders)?;
+    let looked = look_up(alloc, game, solved, &promises, &orders)?;
     table_by(alloc, game, &looked, &promises)
 }
 

@@ -27,4 +27,4 @@ returns c =
 pub loop-number-preserved : goal.loop-number-preserved
 loop-number-preserved c =
     promise_more c.args.solved.now.contexts c.loop-number.number c.context.result.now c.loop-number.all.items c.put_promise.new.promises.items c.context.ensures c.loop-number.invariant
-    c.in_ok-put_promise.ensures
+    c.in_ok-order.ensures

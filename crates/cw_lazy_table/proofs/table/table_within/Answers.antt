@@ -10,4 +10,4 @@ table_by-requires-clause-ready c = subst (λ (s : Held). IsReady c.args.game.now
 
 pub table_by-requires-clause-promises : goal.table_by-requires-clause-promises
 table_by-requires-clause-promises c =
-    subst (λ (l : List ℕ). ArePromises (game_of c.args.game.now) l) (sym c.deref-2.ensures.value) c.in_ok-promises.ensures
+    subst (λ (l : List ℕ). ArePromises (game_of c.args.game.now) l) (sym c.deref-3.ensures.value) c.in_ok-promises.ensures
