@@ -14,7 +14,7 @@ ghost use Rattle.cw_lazy_table.specs.Numbered.{lost_by, set_at, numbered, CanAsk
 use crate::choice::{is_lost, promised};
 use crate::key::Key;
 use crate::looked::Looked;
-use crate::promises::promise_number;
+use crate::promises::promise_number_near;
 use cw_certs::Move;
 use cw_core::limits::POSITIONS_TIMES_STATES;
 use cw_core::{PosId, StateId, StateSet};
@@ -156,12 +156,13 @@ fn set_of(game: &Game, solved: &Looked, promises: &[StateSet], key: &Key) -> Sta
     }
 }
 
-/// The number of what is promised at a key.
+/// The number of what is promised at a key: mostly what is promised to its own function.
 pub(crate) fn set_at(game: &Game, solved: &Looked, promises: &[StateSet], key: &Key) -> usize
     requires can { CanAsk game.now solved.now promises.now key.now }
     ensures { result ≡ set_at (game_of game.now) promises.now key.now.pos key.now.state key.now.promise }
 {
-    promise_number(promises, &set_of(game, solved, promises, key))
+    let set = set_of(game, solved, promises, key);
+    promise_number_near(promises, key.promise, &set)
 }
 
 /// No groups.

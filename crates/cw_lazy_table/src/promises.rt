@@ -68,3 +68,15 @@ pub(crate) fn promise_number(promises: &[StateSet], promise: &StateSet) -> usize
 {
     number_of(promises, promise)
 }
+
+/// The same, where the promise mostly stands at an index.
+pub(crate) fn promise_number_near(promises: &[StateSet], near: usize, promise: &StateSet) -> usize
+    requires order { IsStrictlySortedBy nat_cmp promises.now }
+    ensures { result ≡ number_in nat_cmp promises.now promise.now }
+{
+    if stands(promises, near, promise) {
+        near
+    } else {
+        promise_number(promises, promise)
+    }
+}
