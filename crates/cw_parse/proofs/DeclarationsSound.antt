@@ -24,7 +24,7 @@ use Rattle.cw_expressions.proofs.TypesSound.{base_takes, stars_take, type_name_t
 use Rattle.cw_expressions.proofs.Whole.{next_sound}
 use Rattle.cw_parse.specs.Lists.{Read, separated}
 use Rattle.cw_parse.specs.DeclarationReading.{storage, flag, specifiers, next_name, optional_expression, array, more_elements, elements, value, initialiser, item, declaration}
-use Rattle.cw_parse.specs.DeclarationReading.{optional_name, brackets, param, is_void, params, front, header}
+use Rattle.cw_parse.specs.DeclarationReading.{optional_name, brackets, param, is_void, params, front, header_behind, header}
 use Rattle.cw_parse.proofs.BothWays.{Took, joined}
 use Rattle.cw_parse.proofs.Listed.{Several, separated_sound}
 
@@ -272,7 +272,7 @@ regroup : (a b c d rest : List Lexeme) → a ++ (b ++ (c ++ (d ++ rest))) ≡ (a
 regroup a b c d rest = joined _ a _ (b ++ (c ++ d)) rest refl (joined _ b _ (c ++ d) rest refl (sym (append_assoc c d rest)))
 
 pub header_sound : (ts : List Lexeme) → IfOk (header ts) (Took HasHeader ts)
-unfolding header
+unfolding header header_behind
 header_sound ts =
     if_bind (front ts) _ _ _ (front_sound ts) (λ f p.
     if_bind (expect w.Open f.1) _ _ _ (expect_takes w.Open refl f.1) (λ o q.

@@ -23,9 +23,10 @@ use Rattle.cw_parse.specs.DeclarationReading.{declaration, header, begins_header
 use Rattle.cw_parse.proofs.BothWays.{Reads, reads_bind, reads_then, reads_else, reads_of, reads_expect}
 use Rattle.cw_parse.proofs.DeclarationsComplete.{declaration_again}
 use Rattle.cw_parse.proofs.HeadersComplete.{header_again, header_next, declaration_next}
-use Rattle.cw_parse.specs.StatementReading.{goes_on, read_statement, all_named, body, headed, held, part, some_left, added, one_part, parts, no_parts, file}
+use Rattle.cw_parse.specs.StatementReading.{goes_on, read_statement, all_named, body, headed, held, parted, part, some_left, added, one_part, parts, no_parts, file}
 use Rattle.cw_parse.proofs.StatementsSound.{read_shortens}
 use Rattle.cw_parse.proofs.StatementsComplete.{statements_again, read_statement_again}
+use Rattle.cw_parse.proofs.Parting.{part_parted}
 use Rattle.cw_parse.proofs.FilesSound.{file_added, parts_shorten, file_sound}
 
 named_again : (ps : List Param) → AreNamed ps → all_named ps ≡ true
@@ -61,24 +62,27 @@ module _ (n : ℕ) where
         last : (g : Definition) (to : ℕ) (s : Statements) → g.brace ≡ to → g.body ≡ s → ok_part (Defines (made g.name g.result g.params to s)) rest ≡ ok_part (Defines g) rest
         last g to s p q = rw (← p, ← q) refl
 
-  part_again : (ts : List Lexeme) (x : Part) (rest : List Lexeme) → IsPart n ts x → Reads Deep (part (ts ++ rest)) (x, rest)
-  unfolding part headed held
-  part_again ts (Declares p) rest (h, s, whole, hh, semi) =
+  parted_again : (ts : List Lexeme) (x : Part) (rest : List Lexeme) → IsPart n ts x → Reads Deep (parted (ts ++ rest)) (x, rest)
+  unfolding parted headed held
+  parted_again ts (Declares p) rest (h, s, whole, hh, semi) =
       let e : ts ++ rest ≡ h ++ (s ∷ rest) = ap (λ (z : List Lexeme). z ++ rest) whole ∙ append_assoc h (s ∷ []) rest in
-      reads_of Deep part (ts ++ rest) (h ++ (s ∷ rest)) _ e
+      reads_of Deep parted (ts ++ rest) (h ++ (s ∷ rest)) _ e
       (reads_bind Deep (begins_header (h ++ (s ∷ rest))) _ true _ (inl (header_next h p (s ∷ rest) hh))
       (reads_bind Deep (header (h ++ (s ∷ rest))) _ (p, s ∷ rest) _ (header_again Deep h p (s ∷ rest) hh)
       (reads_then Deep (begins w.Semicolon (s ∷ rest)) _ _ _ (begins_again w.Semicolon s rest semi) (inl refl))))
-  part_again ts (Holds d) rest h =
+  parted_again ts (Holds d) rest h =
       reads_bind Deep (begins_header (ts ++ rest)) _ false _ (inl (declaration_next n ts d rest h))
       (reads_bind Deep (declaration (ts ++ rest)) _ (d, rest) _ (declaration_again n ts d rest h) (inl refl))
-  part_again ts (Defines f) rest (a, o, b, c, ss, whole, hh, named, opens, brace, h, same_body, closes) =
+  parted_again ts (Defines f) rest (a, o, b, c, ss, whole, hh, named, opens, brace, h, same_body, closes) =
       let e : ts ++ rest ≡ a ++ (o ∷ (b ++ (c ∷ rest))) = ap (λ (z : List Lexeme). z ++ rest) whole ∙ append_assoc a (o ∷ b ++ c ∷ []) rest
       ∙ ap (λ (z : List Lexeme). a ++ (o ∷ z)) (append_assoc b (c ∷ []) rest) in
-      reads_of Deep part (ts ++ rest) (a ++ (o ∷ (b ++ (c ∷ rest)))) _ e
+      reads_of Deep parted (ts ++ rest) (a ++ (o ∷ (b ++ (c ∷ rest)))) _ e
       (reads_bind Deep (begins_header (a ++ (o ∷ (b ++ (c ∷ rest))))) _ true _ (inl (header_next a (seen f) (o ∷ (b ++ (c ∷ rest))) hh))
       (reads_bind Deep (header (a ++ (o ∷ (b ++ (c ∷ rest))))) _ (seen f, o ∷ (b ++ (c ∷ rest))) _ (header_again Deep a (seen f) (o ∷ (b ++ (c ∷ rest))) hh)
       (reads_else Deep (begins w.Semicolon (o ∷ (b ++ (c ∷ rest)))) _ _ _ (rw opens refl) (body_again f o b c ss rest named opens brace h same_body closes))))
+
+  part_again : (ts : List Lexeme) (x : Part) (rest : List Lexeme) → IsPart n ts x → Reads Deep (part (ts ++ rest)) (x, rest)
+  part_again ts x rest h = subst (λ (r : Read Part). Reads Deep r (x, rest)) (sym (part_parted (ts ++ rest))) (parted_again ts x rest h)
 
   -- ---- all parts
 

@@ -21,8 +21,9 @@ use Rattle.cw_parse.specs.Lists.{Read, rest_after, many}
 use Rattle.cw_parse.specs.DeclarationReading.{declaration, header, begins_header}
 use Rattle.cw_parse.proofs.BothWays.{Took, joined}
 use Rattle.cw_parse.proofs.Listed.{all_more}
+use Rattle.cw_parse.proofs.Parting.{part_parted}
 use Rattle.cw_parse.proofs.DeclarationsSound.{HasHeader, declaration_sound, header_sound}
-use Rattle.cw_parse.specs.StatementReading.{goes_on, read_statement, all_named, body, headed, held, part, some_left, added, one_part, parts, no_parts, file}
+use Rattle.cw_parse.specs.StatementReading.{goes_on, read_statement, all_named, body, headed, held, parted, part, some_left, added, one_part, parts, no_parts, file}
 use Rattle.cw_parse.proofs.StatementsSound.{all_sound, declaration_some}
 
 by_name : (name : Option Name) (others : Bool) → cond (is_some name) others false ≡ true → (name ≢ None) × (others ≡ true)
@@ -76,11 +77,14 @@ anything : {A : Type 0} (r : Result A Refusal) → IfOk r (λ x. Unit {0})
 anything (Ok x) = tt
 anything (Err e) = tt
 
-pub part_sound : (ts : List Lexeme) → IfOk (part ts) (Took SomePart ts)
-unfolding part
-part_sound ts =
+parted_sound : (ts : List Lexeme) → IfOk (parted ts) (Took SomePart ts)
+unfolding parted
+parted_sound ts =
     if_bind (begins_header ts) _ _ _ (anything (begins_header ts)) (λ b u.
     if_cond b _ _ _ (λ e. headed_sound ts) (λ e. held_sound ts))
+
+pub part_sound : (ts : List Lexeme) → IfOk (part ts) (Took SomePart ts)
+part_sound ts = subst (λ (r : Read Part). IfOk r (Took SomePart ts)) (sym (part_parted ts)) (parted_sound ts)
 
 part_shorter : (s : File × List Lexeme) → IfOk (one_part s) (λ y. length y.1 < length s.1)
 unfolding one_part

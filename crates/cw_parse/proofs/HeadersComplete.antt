@@ -23,7 +23,7 @@ use Rattle.cw_expressions.proofs.Follows.{Starts, starts_never}
 use Rattle.std.proofs.lemmas.Bool.{false_from_ne_true as is_false}
 use Rattle.cw_expressions.proofs.TypesComplete.{next_is, continues_type, type_name_again, stars_again}
 use Rattle.cw_parse.specs.Lists.{Read}
-use Rattle.cw_parse.specs.DeclarationReading.{optional_name, brackets, param, is_void, params, front, header, begins_header}
+use Rattle.cw_parse.specs.DeclarationReading.{optional_name, brackets, param, is_void, params, front, header_behind, header, begins_header}
 use Rattle.cw_parse.proofs.BothWays.{Reads, reads_bind, reads_then, reads_else, reads_expect}
 use Rattle.cw_parse.proofs.Listed.{Several, not_longer, separated_all, separated_again}
 use Rattle.cw_parse.proofs.DeclarationsSound.{param_sound, HasHeader}
@@ -229,7 +229,7 @@ module _ (D : Type 0) where
   -- ---- headers
 
   pub header_again : (ts : List Lexeme) (p : Prototype) (rest : List Lexeme) → HasHeader ts p → Reads D (header (ts ++ rest)) (p, rest)
-  unfolding header
+  unfolding header header_behind
   header_again ts p rest (a, b, c, d, specs, stars, parts, hs, hb, result, hc, (o, inner, close, between, opens, closes, hp)) =
       let whole : ts ++ rest ≡ a ++ (b ++ (c ++ (o ∷ (inner ++ (close ∷ rest))))) = four a b c d ts rest parts
       ∙ ap (λ (z : List Lexeme). a ++ (b ++ (c ++ z))) (between_again d o inner close rest between) in

@@ -9,6 +9,7 @@ pub mod StatementsSound
 pub mod Over
 pub mod More
 pub mod StatementsComplete
+mod Parting
 pub mod FilesSound
 pub mod FilesComplete
 pub mod Given

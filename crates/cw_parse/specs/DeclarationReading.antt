@@ -128,16 +128,20 @@ front ts = do
   n ← next_name s.1
   Ok (((specs.0, s.0), n.0), n.1)
 
--- a header, seen as its prototype
+-- a header behind these, seen as its prototype
+unfoldable pub header_behind : (Specifiers × ℕ) × Name → List Lexeme → Read Prototype
+header_behind f ts = do
+  o ← expect w.Open ts
+  ps ← params o.1
+  c ← expect w.Close ps.1
+  Ok (record { name = f.1; result = pointer f.0.0 f.0.1; params = ps.0 }, c.1)
+
 unfoldable pub header : List Lexeme → Read Prototype
 header ts = do
   f ← front ts
-  o ← expect w.Open f.1
-  ps ← params o.1
-  c ← expect w.Close ps.1
-  Ok (record { name = f.0.1; result = pointer f.0.0.0 f.0.0.1; params = ps.0 }, c.1)
+  header_behind f.0 f.1
 
--- whether `(` follows what comes first: so it is in a header, and not in a declaration
+-- whether `(` follows what comes first: so it is where a header is next, and not where a declaration is
 unfoldable pub begins_header : List Lexeme → Result Bool Refusal
 begins_header ts = do
   f ← front ts

@@ -1,5 +1,6 @@
 -- Working definitions: reading statements and files from left to right, on lists. Proofs compare the code with this, and this with the grammar.
 use Rattle.std.specs.Prelude.{ℕ, zero, suc, Bool, true, false, ◌&&◌, not, is_some, Option, List, [], ◌∷◌, ◌++◌, length, Result, Ok, Err, if◌then◌else◌}
+use Rattle.cw_syntax.specs.declared.program.Name.{Name}
 use Rattle.cw_syntax.specs.declared.program.Param.{Param}
 use Rattle.cw_syntax.specs.Trees.{Tree, Statement, Stated, Form, Block, Declares, Evaluates, Empties, Labels, Chooses, Whiles, Does, Fors, Breaks, Continues, Returns, Perhaps}
 use Rattle.cw_syntax.specs.Trees.{nothing, just, Prototype, File}
@@ -7,6 +8,7 @@ use Rattle.cw_grammar.specs.declared.terminals.Terminal.{Terminal}
 use Rattle.cw_grammar.specs.declared.terminals.Terminal.TheVariants as w
 use Rattle.cw_grammar.specs.declared.terminals.Lexeme.{Lexeme}
 use Rattle.cw_grammar.specs.Lexemes.{name_of, statements}
+use Rattle.cw_grammar.specs.Declarations.{Specifiers}
 use Rattle.cw_grammar.specs.Expressions.{nesting_limit}
 use Rattle.cw_grammar.specs.Files.{Part, Declares as DeclaresPart, Holds, Defines}
 use Rattle.cw_expressions.specs.declared.refusal.Refusal.{Refusal}
@@ -14,7 +16,7 @@ use Rattle.cw_expressions.specs.declared.refusal.Refusal.TheVariants.{Syntax, To
 use Rattle.cw_expressions.specs.Cursor.{◌>>=◌, begins, after, first, expect, repeat}
 use Rattle.cw_expressions.specs.Next.{next_expression}
 use Rattle.cw_parse.specs.Lists.{Read, Reader, rest_after, many}
-use Rattle.cw_parse.specs.DeclarationReading.{optional_expression, declaration, starts_declaration, header, begins_header}
+use Rattle.cw_parse.specs.DeclarationReading.{optional_expression, declaration, starts_declaration, front, header_behind, header, begins_header}
 
 -- an expression in parentheses
 unfoldable pub condition : List Lexeme → Read Tree
@@ -189,10 +191,23 @@ held ts = do
   d ← declaration ts
   Ok (Holds d.0, d.1)
 
-unfoldable pub part : List Lexeme → Read Part
-part ts = do
+-- a part by what it is, which is looked at first
+unfoldable pub parted : List Lexeme → Read Part
+parted ts = do
   is_header ← begins_header ts
   if is_header then headed ts else held ts
+
+-- a prototype or a function behind its specifiers, stars and name
+unfoldable pub headed_behind : (Specifiers × ℕ) × Name → List Lexeme → Read Part
+headed_behind f ts = do
+  p ← header_behind f ts
+  if begins w.Semicolon p.1 then Ok (DeclaresPart p.0, after p.1) else body p.0 p.1
+
+-- a part, of which what it begins with is read once
+unfoldable pub part : List Lexeme → Read Part
+part ts = do
+  f ← front ts
+  if begins w.Open f.1 then headed_behind f.0 f.1 else held ts
 
 abbrev pub some_left : List Lexeme → Bool
 some_left [] = false

@@ -5,16 +5,18 @@ ghost use Rattle.cw_syntax.specs.Trees.{File, file_of, prototype_of};
 ghost use Rattle.cw_grammar.specs.Files.{IsProgram};
 ghost use Rattle.cw_expressions.specs.declared.refusal.Refusal.TheVariants.{NoMemory};
 ghost use Rattle.cw_expressions.specs.Cursor.{Gives};
-ghost use Rattle.cw_parse.specs.StatementReading.{all_named, body, headed, part, some_left, added, one_part, parts, file};
+ghost use Rattle.cw_parse.specs.StatementReading.{all_named, body, headed_behind, part, some_left, added, one_part, parts, file};
+ghost use Rattle.cw_parse.specs.DeclarationView.{specifiers_of};
 ghost use Rattle.cw_parse.specs.StatementView.{part_of, file_part, filed};
 
 use crate::declarations::declaration_at;
-use crate::headers::{header_at, is_header_next};
+use crate::headers::{front_at, header_at};
+use crate::specifiers::Specifiers;
 use crate::statements::statements_at;
 use cw_expressions::cursor::{begins_with, past, take};
 use cw_expressions::refusal::Refusal;
 use cw_grammar::terminals::{Lexeme, Terminal};
-use cw_syntax::program::{Decl, Function, Param, Program, Proto};
+use cw_syntax::program::{Decl, Function, Name, Param, Program, Proto};
 use std::alloc::Global;
 use std::mem::forget;
 
@@ -66,12 +68,18 @@ fn body_at<'t>(
     }
 }
 
-/// A prototype or a function.
-#[tactic(auto, unfolding(crate::specs::StatementReading::headed))]
-fn headed_at<'t>(alloc: Global, tokens: &'t [Lexeme]) -> Result<(FilePart, &'t [Lexeme]), Refusal>
-    ensures { Gives file_part result (headed tokens.now) }
+/// A prototype or a function, behind its specifiers, stars and name.
+#[tactic(auto, unfolding(crate::specs::StatementReading::headed_behind))]
+fn headed_at<'t>(
+    alloc: Global,
+    specifiers: Specifiers,
+    stars: u8,
+    name: Name,
+    tokens: &'t [Lexeme],
+) -> Result<(FilePart, &'t [Lexeme]), Refusal>
+    ensures { Gives file_part result (headed_behind ((specifiers_of specifiers, stars), name) tokens.now) }
 {
-    let (header, rest) = header_at(alloc, tokens)?;
+    let (header, rest) = header_at(alloc, specifiers, stars, name, tokens)?;
     if begins_with(rest, Terminal::Semicolon) {
         Ok((FilePart::Prototype(header), past(rest)))
     } else {
@@ -79,14 +87,15 @@ fn headed_at<'t>(alloc: Global, tokens: &'t [Lexeme]) -> Result<(FilePart, &'t [
     }
 }
 
-/// A prototype or a function, or a declaration outside functions (ISO C11, 6.9).
+/// A prototype or a function, or a declaration outside functions (ISO C11, 6.9). Which it is shows behind what all begin with: so
+/// that is read once where a parenthesis follows, and again as a part of a declaration.
 #[tactic(auto, unfolding(crate::specs::StatementReading::part, crate::specs::StatementReading::held))]
 fn part_at<'t>(alloc: Global, tokens: &'t [Lexeme]) -> Result<(FilePart, &'t [Lexeme]), Refusal>
     ensures { Gives file_part result (part tokens.now) }
 {
-    let is_header = is_header_next(tokens)?;
-    if is_header {
-        headed_at(alloc, tokens)
+    let ((specifiers, stars, name), rest) = front_at(tokens)?;
+    if begins_with(rest, Terminal::Open) {
+        headed_at(alloc, specifiers, stars, name, rest)
     } else {
         let (declaration, rest) = declaration_at(alloc, tokens)?;
         Ok((FilePart::Global(declaration), rest))

@@ -4,7 +4,7 @@ ghost use Rattle.std.specs.Prelude.{◌≡◌};
 ghost use Rattle.cw_expressions.specs.Cursor.{Gives, begins};
 ghost use Rattle.cw_grammar.specs.declared.terminals.Terminal.TheVariants.{Comma};
 ghost use Rattle.cw_parse.specs.Lists.{one_more, many, behind, separated};
-ghost use Rattle.cw_parse.specs.DeclarationReading.{brackets, param, is_void, params, front, header, begins_header};
+ghost use Rattle.cw_parse.specs.DeclarationReading.{brackets, param, is_void, params, front, header_behind};
 ghost use Rattle.cw_parse.specs.DeclarationView.{specifiers_of, plain, parameters, headed};
 
 use crate::specifiers::{Specifiers, name_at, optional_name_at, specifiers_at};
@@ -101,9 +101,9 @@ fn params_at<'t>(alloc: Global, tokens: &'t [Lexeme]) -> Result<(Vec<Param>, &'t
     }
 }
 
-/// Specifiers, stars and a name.
+/// What a header or a declaration begins with: specifiers, stars and a name, and the tokens after them.
 #[tactic(auto, unfolding(crate::specs::DeclarationReading::front))]
-fn front_at(tokens: &[Lexeme]) -> Result<((Specifiers, u8, Name), &[Lexeme]), Refusal>
+pub(crate) fn front_at(tokens: &[Lexeme]) -> Result<((Specifiers, u8, Name), &[Lexeme]), Refusal>
     ensures { Gives (λ x. (((specifiers_of x.0.0, x.0.1), x.0.2), x.1.now)) result (front tokens.now) }
 {
     let (specifiers, rest) = specifiers_at(tokens)?;
@@ -112,17 +112,19 @@ fn front_at(tokens: &[Lexeme]) -> Result<((Specifiers, u8, Name), &[Lexeme]), Re
     Ok(((specifiers, stars, name), rest))
 }
 
-/// The header of a prototype or a function that is next, up to the parenthesis that closes its parameters, and the tokens after
-/// it. Public source: ISO/IEC 9899:2011, 6.7.6.3 and 6.9.1.
-#[tactic(auto, unfolding(crate::specs::DeclarationReading::header))]
+/// The header of a prototype or a function behind its specifiers, stars and name, up to the parenthesis that closes its parameters, and
+/// the tokens after it. Public source: ISO/IEC 9899:2011, 6.7.6.3 and 6.9.1.
+#[tactic(auto, unfolding(crate::specs::DeclarationReading::header_behind))]
 pub(crate) fn header_at<'t>(
     alloc: Global,
+    specifiers: Specifiers,
+    stars: u8,
+    name: Name,
     tokens: &'t [Lexeme],
 ) -> Result<(Proto, &'t [Lexeme]), Refusal>
-    ensures { Gives headed result (header tokens.now) }
+    ensures { Gives headed result (header_behind ((specifiers_of specifiers, stars), name) tokens.now) }
 {
-    let ((specifiers, stars, name), rest) = front_at(tokens)?;
-    let (_, rest) = take(rest, Terminal::Open)?;
+    let (_, rest) = take(tokens, Terminal::Open)?;
     let (params, rest) = params_at(alloc, rest)?;
     let (_, rest) = take(rest, Terminal::Close)?;
     let result = CType {
@@ -138,14 +140,4 @@ pub(crate) fn header_at<'t>(
         },
         rest,
     ))
-}
-
-/// Whether `(` follows the specifiers, stars and name that are next: so it is where a header is next, and not where a
-/// declaration is.
-#[tactic(auto, unfolding(crate::specs::DeclarationReading::begins_header))]
-pub(crate) fn is_header_next(tokens: &[Lexeme]) -> Result<bool, Refusal>
-    ensures { Gives (λ x. x) result (begins_header tokens.now) }
-{
-    let (_, rest) = front_at(tokens)?;
-    Ok(begins_with(rest, Terminal::Open))
 }
