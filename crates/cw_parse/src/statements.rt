@@ -1,6 +1,6 @@
 //! Statements, by recursion on the nesting that is left.
 
-ghost use Rattle.std.specs.Prelude.{◌≡◌, true, false, []};
+ghost use Rattle.std.specs.Prelude.{◌≡◌, true, false, [], ◌∷◌, ◌++◌, IfOk};
 ghost use Rattle.cw_grammar.specs.Expressions.{nesting_limit};
 ghost use Rattle.cw_syntax.specs.Trees.{tree_of, statement_of};
 ghost use Rattle.cw_expressions.specs.Cursor.{Gives};
@@ -16,7 +16,7 @@ use cw_expressions::cursor::{begins_with, past, take};
 use cw_expressions::refusal::Refusal;
 use cw_grammar::terminals::{Lexeme, Terminal};
 use cw_syntax::program::{Expr, Head, Name, Stmt, What};
-use std::alloc::Global;
+use std::alloc::{AllocError, Global};
 
 /// A statement at the front, with at most this nesting. It stands in its callers, so that a statement is moved once to where it is kept.
 #[inline(always)]
@@ -146,6 +146,34 @@ fn block_at<'t>(
     ))
 }
 
+/// Takes memory for the statements of a block when its first is read: for one where the block ends behind it, and else for two. So a list
+/// of one or two, as most blocks are, is never moved.
+#[inline(always)]
+fn make_room(list: &mut Vec<Stmt>, behind: &[Lexeme]) -> Result<(), AllocError>
+    ensures { list.new.items ≡ list.old.items }
+{
+    if !list.is_empty() {
+        return Ok(());
+    }
+    let room = if begins_with(behind, Terminal::CloseBrace) {
+        1
+    } else {
+        2
+    };
+    list.reserve_exact(room)
+}
+
+/// Appends a statement of a block, behind which these tokens stand. What is let go where memory is wanting is let go here, and not in the
+/// loop that reads.
+#[inline(always)]
+fn put_statement(list: &mut Vec<Stmt>, statement: Stmt, behind: &[Lexeme]) -> Result<(), AllocError>
+    ensures { IfOk result (λ _. list.new.items ≡ list.old.items ++ statement ∷ []) }
+{
+    make_room(list, behind)?;
+    list.push(statement)?;
+    Ok(())
+}
+
 /// Statements up to a brace, in a list with no room to spare.
 #[inline(always)]
 #[cycle(parser)]
@@ -156,12 +184,11 @@ fn listed_at<'t>(
 ) -> Result<(Vec<Stmt>, &'t [Lexeme]), Refusal>
     ensures { Gives several result (many (read_statement depth true) goes_on ([], tokens.now)) }
 {
-    // A list of two, as many blocks are, is never moved.
-    let mut list = Vec::with_capacity(alloc, 2)?;
+    let mut list = Vec::new(alloc);
     let mut rest = tokens;
     'statements: while !begins_with(rest, Terminal::CloseBrace) {
         let (statement, behind) = read(alloc, depth, true, rest)?;
-        list.push(statement)?;
+        put_statement(&mut list, statement, behind)?;
         rest = behind;
     }
     list.shrink_to_fit();

@@ -27,7 +27,7 @@ block_at-returns t c =
 
 pub listed_at-returns-in_err-statement : goal.listed_at-returns-in_err-statement
 listed_at-returns-in_err-statement t c =
-    let p = err_from_is_err_and c.from_residual-in_err-statement.result c.from_residual-in_err-statement.ensures.1 in
+    let p = err_from_is_err_and c.from_residual.result c.from_residual.ensures.1 in
     let stay : begins w.CloseBrace c.statements.rest.now ≡ false = sym c.begins_with.ensures.begins ∙ c.statements-test.true in
     rw (p.1, p.2, ← c.statements.invariant) (many_fails (read_statement c.args.depth true) goes_on c.in_err-statement.field-0.0
     (map statement_of c.statements.list.items, c.statements.rest.now) (ap not stay)
@@ -42,11 +42,11 @@ pub listed_at-statements-preserved : goal.listed_at-statements-preserved
 listed_at-statements-preserved t c =
     let stay : begins w.CloseBrace c.statements.rest.now ≡ false = sym c.begins_with.ensures.begins ∙ c.statements-test.true in
     let more : one_more (read_statement c.args.depth true) (map statement_of c.statements.list.items, c.statements.rest.now) ≡ Ok
-    (map statement_of c.push.new.self.items, c.in_ok-statement.behind.now)
-    = rw c.in_ok-push.ensures.items (one_more_is statement_of
+    (map statement_of c.put_statement.new.list.items, c.in_ok-statement.behind.now)
+    = rw c.in_ok-put_statement.ensures (one_more_is statement_of
     (read_statement c.args.depth true) c.statements.list.items c.in_ok-statement.statement c.statements.rest.now c.in_ok-statement.behind.now c.in_ok-statement.ensures) in
     many_further (read_statement c.args.depth true) goes_on (read_shortens c.args.depth) (map statement_of c.statements.list.items, c.statements.rest.now)
-    (map statement_of c.push.new.self.items, c.in_ok-statement.behind.now) (ap not stay) more ∙ c.statements.invariant
+    (map statement_of c.put_statement.new.list.items, c.in_ok-statement.behind.now) (ap not stay) more ∙ c.statements.invariant
 
 pub listed_at-returns : goal.listed_at-returns
 listed_at-returns t c =
