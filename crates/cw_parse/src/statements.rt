@@ -35,10 +35,12 @@ fn read<'t>(
     statement_at(alloc, depth - 1, in_block, tokens)
 }
 
-/// A statement, or in a block a declaration, with `depth` nestings left (ISO C11, 6.8).
+/// A statement, or in a block a declaration, with `depth` nestings left (ISO C11, 6.8). What begins with a name is read apart from
+/// what `nested_at` reads by calls: so it isn't moved to the place of what they give, and that place is cleared only where one of them
+/// is called.
 #[inline(always)]
 #[cycle(parser)]
-#[tactic(auto, unfolding(crate::specs::StatementReading::statement))]
+#[tactic(auto, unfolding(crate::specs::StatementReading::statement, crate::specs::StatementReading::stated))]
 fn statement_at<'t>(
     alloc: Global,
     depth: u32,
@@ -48,30 +50,14 @@ fn statement_at<'t>(
     ensures { Gives one result (statement (read_statement depth) in_block tokens.now) }
 {
     if in_block && declares_next(tokens) {
-        declared_at(alloc, tokens)
-    } else {
-        stated_at(alloc, depth, tokens)
+        return declared_at(alloc, tokens);
     }
-}
-
-/// By its first terminal. An expression that begins with a name is read apart from what `nested_at` reads by calls: so it isn't
-/// moved to the place of what they give, and that place is cleared only where one of them is called.
-#[inline(always)]
-#[cycle(parser)]
-#[tactic(auto, unfolding(crate::specs::StatementReading::stated))]
-fn stated_at<'t>(
-    alloc: Global,
-    depth: u32,
-    tokens: &'t [Lexeme],
-) -> Result<(Stmt, &'t [Lexeme]), Refusal>
-    ensures { Gives one result (stated (read_statement depth) tokens.now) }
-{
     match tokens {
         [] => Err(Refusal::Syntax),
         [first, rest @ ..] => match first.terminal {
             Terminal::Name => {
                 if begins_with(rest, Terminal::Colon) {
-                    nested_at(alloc, depth, tokens)
+                    labelled_in_place(alloc, depth, first, rest)
                 } else {
                     evaluated_at(alloc, tokens)
                 }
@@ -193,6 +179,20 @@ fn listed_at<'t>(
     }
     list.shrink_to_fit();
     Ok((list, rest))
+}
+
+/// Behind a label's name. It stands in its caller, so that the place of what `labelled_at` gives is cleared only where a label is next.
+#[inline(always)]
+#[cycle(parser)]
+fn labelled_in_place<'t>(
+    alloc: Global,
+    depth: u32,
+    name: &Lexeme,
+    tokens: &'t [Lexeme],
+) -> Result<(Stmt, &'t [Lexeme]), Refusal>
+    ensures { Gives one result (labelled (read_statement depth) name.now tokens.now) }
+{
+    labelled_at(alloc, depth, name, tokens)
 }
 
 /// Behind a label's name.

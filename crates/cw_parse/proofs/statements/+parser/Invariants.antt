@@ -10,9 +10,6 @@ decreases-read l = 8 * l.depth
 abbrev pub decreases-statement_at : goal.decreases-statement_at
 decreases-statement_at l = 8 * l.depth + 7
 
-abbrev pub decreases-stated_at : goal.decreases-stated_at
-decreases-stated_at l = 8 * l.depth + 6
-
 abbrev pub decreases-nested_at : goal.decreases-nested_at
 decreases-nested_at l = 8 * l.depth + 5
 
@@ -21,6 +18,9 @@ decreases-block_at l = 8 * l.depth + 4
 
 abbrev pub decreases-listed_at : goal.decreases-listed_at
 decreases-listed_at l = 8 * l.depth + 1
+
+abbrev pub decreases-labelled_in_place : goal.decreases-labelled_in_place
+decreases-labelled_in_place l = 8 * l.depth + 5
 
 abbrev pub decreases-labelled_at : goal.decreases-labelled_at
 decreases-labelled_at l = 8 * l.depth + 4
