@@ -1,6 +1,6 @@
 -- A pair that stands at some index of the list of live rows is live.
 -- What stands at some index of a list that ascends strictly is what a look-up by its key finds.
-use Rattle.std.proofs.Common.{◌≡◌, ℕ, zero, suc, ◌<◌, List, [], ◌∷◌, Bool, true, false, cond, ◌&&◌, Option, Some, is_some, find, length, get_or, nat_eq, refl, sym, ap, ap₂, ◌∙◌, subst, arith}
+use Rattle.std.proofs.Common.{◌≡◌, ℕ, zero, suc, ◌<◌, List, [], ◌∷◌, Bool, true, false, cond, ◌&&◌, Option, Some, is_some, find, length, get_or, nat_eq, refl, sym, ap, ◌∙◌, arith}
 use Rattle.std.specs.Prelude.{slice_get}
 use Rattle.std.specs.List.Sorted.{IsStrictlySortedBy}
 use Rattle.std.specs.declared.cmp.Ordering.{Ordering}
@@ -14,12 +14,13 @@ use Rattle.cw_lemmas.proofs.Found.{find_first}
 use Rattle.cw_lemmas.proofs.Truths.{and_first, and_second}
 use Rattle.cw_core.specs.declared.ids.MemId.{MemId}
 use Rattle.cw_core.specs.declared.ids.PosId.{PosId}
+use Rattle.cw_certs.specs.declared.rows.AtRow.{AtRow}
 use Rattle.cw_certs.specs.declared.rows.IntoRow.{IntoRow}
 use Rattle.cw_certs.specs.declared.rows.BackRow.{BackRow}
-use Rattle.cw_certs.specs.Ascending.{Ascends, into_cmp, back_cmp}
-use Rattle.cw_certs.specs.Tables.{Table, same, into_at, back_at}
+use Rattle.cw_certs.specs.Ascending.{Ascends, at_cmp, into_cmp, back_cmp}
+use Rattle.cw_certs.specs.Tables.{Table, same, after_at, into_at, back_at}
 use Rattle.cw_game.specs.Pairs.{is_live}
-use Rattle.cw_wcheck.specs.Working.{stands_there, is_into, is_back}
+use Rattle.cw_wcheck.specs.Working.{stands_there, is_at, is_into, is_back}
 
 first_or : {X : Type 0} (passes : Bool) (x : X) (found : Option X) → is_some found ≡ true → is_some (cond passes (Some x) found) ≡ true
 first_or true x found h = refl
@@ -71,6 +72,15 @@ modes_alike false true false e f = absurd (false≢true f)
 
 then_alike : (o p : Ordering) → o ≡ Equal → p ≡ Equal → ordering_then o p ≡ Equal
 then_alike o p e f = ap (λ x. ordering_then x p) e ∙ f
+
+module _ (t : Table) (ascend : Ascends t) (j m : ℕ) where
+  labels_alike : (a b : AtRow) → is_at j m a ≡ true → is_at j m b ≡ true → at_cmp a b ≡ Equal
+  labels_alike a b e f =
+      then_alike _ _ (numbers_alike a.seam.0 b.seam.0 j (and_first _ _ e) (and_first _ _ f))
+      (numbers_alike a.mem.0 b.mem.0 m (and_second _ _ e) (and_second _ _ f))
+
+  pub label_there : (index : ℕ) (r : AtRow) → slice_get t.ats index ≡ Some r → is_at j m r ≡ true → Some r ≡ after_at t.ats j m
+  label_there index r e h = the_one at_cmp (is_at j m) labels_alike t.ats index r ascend.ats e h
 
 module _ (t : Table) (ascend : Ascends t) (j : ℕ) (split : Bool) (m : ℕ) where
   calls_alike : (a b : IntoRow) → is_into j split m a ≡ true → is_into j split m b ≡ true → into_cmp a b ≡ Equal

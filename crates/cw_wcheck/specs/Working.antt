@@ -1,13 +1,16 @@
 -- Working definitions: what the parts of the checker say of one row.
-use Rattle.std.specs.Prelude.{◌≡◌, ℕ, ◌<◌, ◌&&◌, true, false, Bool, cond, Option, Some, None, nat_eq, slice_get, length}
+use Rattle.std.specs.Prelude.{◌≡◌, ℕ, ◌<◌, ◌&&◌, ◌||◌, true, false, Bool, cond, Option, Some, None, nat_eq, slice_get, length}
 use Rattle.cw_core.specs.declared.ids.PosId.{PosId}
 use Rattle.cw_core.specs.declared.ids.MemId.{MemId}
 use Rattle.cw_core.specs.declared.ids.StateId.{StateId}
+use Rattle.cw_certs.specs.declared.rows.AtRow.{AtRow}
 use Rattle.cw_certs.specs.declared.rows.IntoRow.{IntoRow}
 use Rattle.cw_certs.specs.declared.rows.BackRow.{BackRow}
-use Rattle.cw_certs.specs.Tables.{Table, same}
+use Rattle.cw_certs.specs.Tables.{Table, same, into_at}
 use Rattle.cw_game.specs.Games.{Game}
-use Rattle.cw_game.specs.Pairs.{Called, is_live, leads_if}
+use Rattle.cw_game.specs.Pairs.{Called, has, is_live, leads_if}
+use Rattle.cw_game.specs.Conditions.{visits_on, answers_on, is_good_pair, moves_on, begins_by, all_return, promise_of}
+use Rattle.cw_game.specs.declared.spots.Spot.{Spot}
 use Rattle.cw_wcheck.specs.declared.rows.LiveRow.{LiveRow}
 use Rattle.cw_wcheck.specs.declared.calls.CallAt.{CallAt}
 
@@ -15,6 +18,10 @@ use Rattle.cw_wcheck.specs.declared.calls.CallAt.{CallAt}
 abbrev pub stands_there : ℕ → ℕ → Option (PosId × MemId) → Bool
 stands_there p m None = false
 stands_there p m (Some r) = nat_eq r.0.0 p && nat_eq r.1.0 m
+
+-- what stands in the list of labels is the row of this seam with this memory
+abbrev pub is_at : ℕ → ℕ → AtRow → Bool
+is_at seam m r = nat_eq r.seam.0 seam && nat_eq r.mem.0 m
 
 -- what stands in the list of calls is the row of this seam, plain or split, with this memory
 abbrev pub is_into : ℕ → Bool → ℕ → IntoRow → Bool
@@ -37,6 +44,35 @@ lands_live t m (Some pair) = is_live t pair.0 m
 -- the condition that fails where a step leads to this position, if one does
 abbrev pub step_fault : Table → ℕ → ℕ → Option ℕ
 step_fault t next m = cond (is_live t next m) None (Some 6)
+
+-- the one that fails where a branch leads to these positions
+abbrev pub branch_fault : Table → ℕ → ℕ → ℕ → Option ℕ
+branch_fault t left right m = cond (is_live t left m && is_live t right m) None (Some 6)
+
+-- the one that fails where this function ends in a state
+abbrev pub exit_fault : Game → ℕ → ℕ → ℕ → Option ℕ
+exit_fault g q e function = cond (nat_eq function g.main || has e q) None (Some 9)
+
+-- the one that fails where something is asked
+abbrev pub asked_fault : Game → Table → ℕ → ℕ → ℕ → ℕ → Option Spot → Option ℕ
+asked_fault g t p q m e s = cond (answers_on g t p q m e s) None (Some 5)
+
+-- the one that fails where each move leads on
+abbrev pub passing_fault : Game → Table → ℕ → ℕ → ℕ → ℕ → Option Spot → Option ℕ
+passing_fault g t p q m e s = cond (is_good_pair g q s) (cond (moves_on g t p q m e s) None (Some 6)) (Some 3)
+
+-- the one that fails at a call with this row in the list of calls
+abbrev pub called_fault : Game → Table → ℕ → ℕ → ℕ → Called → Option IntoRow → Option ℕ
+called_fault g t q m e c found = cond (begins_by g t q c found) (cond (all_return g t q m e c (promise_of t found)) None (Some 8)) (Some 7)
+
+-- the one that fails where there may be a call
+abbrev pub call_fault : Game → Table → ℕ → ℕ → ℕ → Option Called → Option ℕ
+call_fault g t q m e None = None
+call_fault g t q m e (Some c) = called_fault g t q m e c (into_at t c.seam c.split m)
+
+-- the one that fails at a visit
+abbrev pub visit_fault : Table → ℕ → ℕ → Option Spot → Option ℕ
+visit_fault t p m s = cond (visits_on t p m s) None (Some 4)
 
 -- the row's position is one of the game's, with what stands there, and its state is one of the game's
 pub record IsRowOf (g : Game) (r : LiveRow) : Type 0 where

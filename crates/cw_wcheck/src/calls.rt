@@ -5,14 +5,14 @@ ghost use Rattle.std.specs.List.{list_all};
 ghost use Rattle.cw_product.specs.Product.{game_of};
 ghost use Rattle.cw_game.specs.Games.{returned};
 ghost use Rattle.cw_game.specs.Pairs.{call_in, kept_at};
-ghost use Rattle.cw_game.specs.Conditions.{means_state, calls_on, promise_of, back_by, returns_by, returns_on};
+ghost use Rattle.cw_game.specs.Conditions.{means_state, begins_by, promise_of, back_by, returns_by, all_return};
 ghost use Rattle.cw_certs.specs.Tables.{into_at, back_at};
-ghost use Rattle.cw_wcheck.specs.Working.{IsRowOf, MeanStates, called_of};
+ghost use Rattle.cw_wcheck.specs.Working.{IsRowOf, MeanStates, call_fault, called_fault, called_of};
 
 use crate::memories::{is_live_near, leads, meaning};
 use crate::rows::LiveRow;
 use crate::ways::{back_near, into_near};
-use cw_certs::{WeaverCert, live_at};
+use cw_certs::{IntoRow, WeaverCert, live_at};
 use cw_core::{MemId, PosId, SeamId, StateId, StateSet};
 use cw_game::Spot;
 use cw_product::{Game, Turn};
@@ -82,35 +82,18 @@ fn means_state(cert: &WeaverCert, mem: MemId, state: StateId) -> bool
     }
 }
 
-/// Whether a call has its row, whose memory means the state and is live where the function begins.
-fn begins_by(game: &Game, cert: &WeaverCert, row: &LiveRow, call: CallAt) -> bool
-    ensures { result ≡ calls_on (game_of game.now) cert.now row.now.state.0 row.now.mem.0 (Some (called_of call)) }
+/// Whether the memory of a call's row means the state and is live where the function begins.
+fn begins_by(game: &Game, cert: &WeaverCert, row: &LiveRow, call: CallAt, into: &IntoRow) -> bool
+    ensures { result ≡ begins_by (game_of game.now) cert.now row.now.state.0 (called_of call) (Some into.now) }
 {
-    match into_near(cert, row.ways.into, call.seam, call.split, row.mem) {
-        Some(into) => {
-            means_state(cert, into.callee, row.state)
-                && is_live_near(cert, row.near, entry_of(game, call.function), into.callee)
-        }
-        None => false,
-    }
-}
-
-/// The seventh condition: a call has its row, whose memory means the state and is live where the function begins.
-pub fn calls_on(game: &Game, cert: &WeaverCert, row: &LiveRow) -> bool
-    requires row { IsRowOf (game_of game.now) row.now }
-    ensures { result ≡ calls_on (game_of game.now) cert.now row.now.state.0 row.now.mem.0 (call_in (Some row.now.spot)) }
-{
-    match call_at(game, row) {
-        Some(call) => begins_by(game, cert, row, call),
-        None => true,
-    }
+    means_state(cert, into.callee, row.state)
+        && is_live_near(cert, row.near, entry_of(game, call.function), into.callee)
 }
 
 /// The promise of the memory with which the called function begins.
-fn promise_of(cert: &WeaverCert, near: usize, mem: MemId, call: CallAt) -> Option<&StateSet>
-    ensures { option_map (λ promise. promise.now) result ≡ promise_of cert.now (into_at cert.now call.seam.0 call.split mem.0) }
+fn promise_of<'a>(cert: &'a WeaverCert, into: &IntoRow) -> Option<&'a StateSet>
+    ensures { option_map (λ promise. promise.now) result ≡ promise_of cert.now (Some into.now) }
 {
-    let into = into_near(cert, near, call.seam, call.split, mem)?;
     let (_, promise) = meaning(cert, into.callee)?;
     Some(promise)
 }
@@ -120,12 +103,12 @@ fn goes_back(game: &Game, cert: &WeaverCert, row: &LiveRow, call: CallAt, exit: 
     requires row { IsRowOf (game_of game.now) row.now }
     requires exit { exit.0 < (game_of game.now).states.count }
     ensures { result ≡ back_by cert.now (called_of call) (returned (game_of game.now).states (kept_at call.split
-        row.now.state.0) exit.0) row.now.promise (back_at cert.now call.seam.0 call.split row.now.mem.0 exit.0) }
+        row.now.state.0) exit.0) row.now.promise.now (back_at cert.now call.seam.0 call.split row.now.mem.0 exit.0) }
 {
     match back_near(cert, row.ways.back, call.seam, call.split, row.mem, exit) {
         Some(back) => {
             let state = game.returned(row.state, exit, call.split);
-            leads(cert, row.near, call.back, back.after, state, &row.promise)
+            leads(cert, row.near, call.back, back.after, state, row.promise)
         }
         None => false,
     }
@@ -142,7 +125,7 @@ fn returns_by(
 ) -> bool
     requires row { IsRowOf (game_of game.now) row.now }
     requires mems { MeanStates (game_of game.now) cert.now }
-    ensures { result ≡ returns_by (game_of game.now) cert.now row.now.state.0 row.now.mem.0 row.now.promise (called_of call)
+    ensures { result ≡ returns_by (game_of game.now) cert.now row.now.state.0 row.now.mem.0 row.now.promise.now (called_of call)
         promise.now (slice_get cert.now.mems mem.0) }
 {
     match meaning(cert, mem) {
@@ -162,19 +145,20 @@ fn each_returns(
 ) -> bool
     requires row { IsRowOf (game_of game.now) row.now }
     requires mems { MeanStates (game_of game.now) cert.now }
-    ensures { result ≡ list_all (λ r. returns_by (game_of game.now) cert.now row.now.state.0 row.now.mem.0 row.now.promise
+    ensures { result ≡ list_all (λ r. returns_by (game_of game.now) cert.now row.now.state.0 row.now.mem.0 row.now.promise.now
         (called_of call) promise.now (slice_get cert.now.mems r.1.0)) live.now }
 {
     live.iter().all(|row_there| returns_by(game, cert, row, call, promise, row_there.1))
 }
 
 /// Whether each memory with the promise of the call that is live at the end of the function has its way back.
-fn all_return(game: &Game, cert: &WeaverCert, row: &LiveRow, call: CallAt) -> bool
+fn all_return(game: &Game, cert: &WeaverCert, row: &LiveRow, call: CallAt, into: &IntoRow) -> bool
     requires row { IsRowOf (game_of game.now) row.now }
     requires mems { MeanStates (game_of game.now) cert.now }
-    ensures { result ≡ returns_on (game_of game.now) cert.now row.now.state.0 row.now.mem.0 row.now.promise (Some (called_of call)) }
+    ensures { result ≡ all_return (game_of game.now) cert.now row.now.state.0 row.now.mem.0 row.now.promise.now (called_of call)
+        (promise_of cert.now (Some into.now)) }
 {
-    match promise_of(cert, row.ways.into, row.mem, call) {
+    match promise_of(cert, into) {
         Some(promise) => {
             let ends = live_at(cert, exit_of(game, call.function));
             each_returns(game, cert, row, call, promise, ends)
@@ -183,14 +167,51 @@ fn all_return(game: &Game, cert: &WeaverCert, row: &LiveRow, call: CallAt) -> bo
     }
 }
 
-/// The eighth condition: at a call, each memory with the promise of the call that is live at the end of the function has its way back.
-pub fn returns_on(game: &Game, cert: &WeaverCert, row: &LiveRow) -> bool
+/// The condition that fails of a row at a call with this row in the list of calls. The seventh: its memory means the state and is live
+/// where the function begins. The eighth: each memory with its promise that is live at the end of the function has its way back.
+fn called_fault(
+    game: &Game,
+    cert: &WeaverCert,
+    row: &LiveRow,
+    call: CallAt,
+    into: &IntoRow,
+) -> Option<u8>
     requires row { IsRowOf (game_of game.now) row.now }
     requires mems { MeanStates (game_of game.now) cert.now }
-    ensures { result ≡ returns_on (game_of game.now) cert.now row.now.state.0 row.now.mem.0 row.now.promise (call_in (Some row.now.spot)) }
+    ensures { result ≡ called_fault (game_of game.now) cert.now row.now.state.0 row.now.mem.0 row.now.promise.now (called_of call)
+        (Some into.now) }
+{
+    if !begins_by(game, cert, row, call, into) {
+        return Some(7);
+    }
+    if !all_return(game, cert, row, call, into) {
+        return Some(8);
+    }
+    None
+}
+
+/// The same at a call, which is to have its row.
+fn fault_of_call(game: &Game, cert: &WeaverCert, row: &LiveRow, call: CallAt) -> Option<u8>
+    requires row { IsRowOf (game_of game.now) row.now }
+    requires mems { MeanStates (game_of game.now) cert.now }
+    ensures { result ≡ called_fault (game_of game.now) cert.now row.now.state.0 row.now.mem.0 row.now.promise.now (called_of call)
+        (into_at cert.now call.seam.0 call.split row.now.mem.0) }
+{
+    match into_near(cert, row.ways.into, call.seam, call.split, row.mem) {
+        Some(into) => called_fault(game, cert, row, call, &into),
+        None => Some(7),
+    }
+}
+
+/// The same at any position, where there may be no call.
+pub fn call_fault(game: &Game, cert: &WeaverCert, row: &LiveRow) -> Option<u8>
+    requires row { IsRowOf (game_of game.now) row.now }
+    requires mems { MeanStates (game_of game.now) cert.now }
+    ensures { result ≡ call_fault (game_of game.now) cert.now row.now.state.0 row.now.mem.0 row.now.promise.now
+        (call_in (Some row.now.spot)) }
 {
     match call_at(game, row) {
-        Some(call) => all_return(game, cert, row, call),
-        None => true,
+        Some(call) => fault_of_call(game, cert, row, call),
+        None => None,
     }
 }

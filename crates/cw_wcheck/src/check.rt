@@ -44,7 +44,11 @@ fn row_fault(game: &Game, cert: &WeaverCert) -> Option<BadRow>
     ensures { result ≡ option_map numbered (first_failing (live_rows (game_of game.now) cert.now (enumerate_from 0 cert.now.live))) }
 {
     let rows = cert.live();
-    let mut ways = Ways { into: 0, back: 0 };
+    let mut ways = Ways {
+        into: 0,
+        back: 0,
+        label: 0,
+    };
     for i in 0..rows.len() {
         let (pos, mem) = rows[i];
         if let Some(condition) = failing_condition(game, cert, i + 1, &mut ways, pos, mem) {

@@ -6,7 +6,8 @@ ghost use Rattle.cw_game.specs.Conditions.{is_memory, is_memory_if, memory_after
 ghost use Rattle.cw_product.specs.Moves.{numbers};
 ghost use Rattle.cw_wcheck.specs.Working.{stands_there, takes_pair};
 
-use cw_certs::{Move, WeaverCert, after_close, after_label, is_live, open_at};
+use crate::ways::{Ways, label_near};
+use cw_certs::{Move, WeaverCert, after_close, is_live, open_at};
 use cw_core::limits::PRODUCT_STATES_IN_FORMAT_2;
 use cw_core::{MemId, PosId, SeamId, StateId, StateSet};
 use cw_game::Spot;
@@ -150,12 +151,21 @@ pub fn takes_on(
     }
 }
 
-/// The memory after a move: that of the row for a label, an open and a close, and the same one after all else.
-pub fn memory_after(cert: &WeaverCert, mem: MemId, spot: Spot, by: Move) -> Option<MemId>
+/// The memory after a move: that of the row for a label, an open and a close, and the same one after all else. The row for a label may
+/// stand where the `ways` are.
+pub fn memory_after(
+    cert: &WeaverCert,
+    ways: Ways,
+    mem: MemId,
+    spot: Spot,
+    by: Move,
+) -> Option<MemId>
     ensures { result ≡ memory_after cert.now mem.0 spot by }
 {
     match spot {
-        Spot::Label(seam, _, _) => after_label(cert, SeamId(seam), mem).map(|row| row.after),
+        Spot::Label(seam, _, _) => label_near(cert, ways.label, SeamId(seam), mem).map(
+            |row| row.after,
+        ),
         Spot::Close(seam, _, _) => after_close(cert, SeamId(seam), mem).map(|row| row.after),
         Spot::Open(seam, _, _) => {
             let row = open_at(cert, SeamId(seam), mem)?;

@@ -1,15 +1,15 @@
 //! The conditions of a live row, beside what the game gives at its pair.
 
-ghost use Rattle.std.specs.Prelude.{◌≡◌, [], Some, false, true, slice_get};
+ghost use Rattle.std.specs.Prelude.{◌≡◌, ◌||◌, [], Some, None, cond, false, true, nat_eq, slice_get};
 ghost use Rattle.cw_product.specs.Product.{game_of};
 ghost use Rattle.cw_product.specs.Moves.{IsPosition, next_at};
 ghost use Rattle.cw_certs.specs.declared.moves.Move.TheVariants as Move;
 ghost use Rattle.cw_game.specs.Games.{bad_in, leads_in, resumed_in};
-ghost use Rattle.cw_game.specs.Conditions.{first_failing, live_by, live_conditions, visits_on, takes, takes_on, takes_answers, answers_on, is_passing, moves_by, moves_on, keeps_promise, calls_on, returns_on};
-ghost use Rattle.cw_game.specs.Pairs.{call_in};
-ghost use Rattle.cw_wcheck.specs.Working.{IsRowOf, MeanStates, lands_live, step_fault};
+ghost use Rattle.cw_game.specs.Conditions.{first_failing, live_by, live_conditions, visits_on, takes, takes_on, takes_answers, answers_on, is_passing, moves_by, moves_on};
+ghost use Rattle.cw_game.specs.Pairs.{has};
+ghost use Rattle.cw_wcheck.specs.Working.{IsRowOf, MeanStates, asked_fault, branch_fault, exit_fault, lands_live, passing_fault, step_fault, visit_fault};
 
-use crate::calls::{calls_on, returns_on};
+use crate::calls::call_fault;
 use crate::memories::{is_live_near, is_promised, meaning, memory_after, takes, takes_on};
 use crate::ways::{Ways, ways_at};
 use cw_certs::{Move, TryRow, WeaverCert, try_at};
@@ -17,17 +17,18 @@ use cw_core::{MemId, PosId, SeamId, StateId, StateSet};
 use cw_game::Spot;
 use cw_product::Game;
 
-/// A live row: its position and what stands there, its memory, and the state and the promise that the memory means. Where it leads,
-/// the row behind it often stands: at this index of the list. At a call its rows mostly stand where the `ways` are.
+/// A live row: its position and what stands there, its memory, and the state and the promise that the memory means, which is lent, as a
+/// copy of it costs more than the rest of a row. Where it leads, the row behind it often stands: at this index of the list. At a call or a
+/// label its rows mostly stand where the `ways` are.
 #[derive(Drop)]
-pub struct LiveRow {
+pub struct LiveRow<'a> {
     pub near: usize,
     pub ways: Ways,
     pub pos: PosId,
     pub spot: Spot,
     pub mem: MemId,
     pub state: StateId,
-    pub promise: StateSet,
+    pub promise: &'a StateSet,
 }
 
 /// Whether the pair to which a move leads, if it does, is live with the same memory.
@@ -58,13 +59,13 @@ fn visits_on(game: &Game, cert: &WeaverCert, row: &LiveRow) -> bool
 /// Whether a grant of what is asked is taken by this memory.
 fn takes_grant(game: &Game, cert: &WeaverCert, row: &LiveRow, mem: Option<MemId>) -> bool
     requires row { IsRowOf (game_of game.now) row.now }
-    ensures { result ≡ takes cert.now row.now.promise mem (leads_in (game_of game.now) row.now.pos.0 row.now.state.0 []
+    ensures { result ≡ takes cert.now row.now.promise.now mem (leads_in (game_of game.now) row.now.pos.0 row.now.state.0 []
         (Some row.now.spot) Move.Grant) }
 {
     takes(
         cert,
         row.near,
-        &row.promise,
+        row.promise,
         mem,
         game.next(row.pos, row.state, Move::Grant),
     )
@@ -73,13 +74,13 @@ fn takes_grant(game: &Game, cert: &WeaverCert, row: &LiveRow, mem: Option<MemId>
 /// Whether a refusal of it is.
 fn takes_refusal(game: &Game, cert: &WeaverCert, row: &LiveRow, mem: Option<MemId>) -> bool
     requires row { IsRowOf (game_of game.now) row.now }
-    ensures { result ≡ takes cert.now row.now.promise mem (leads_in (game_of game.now) row.now.pos.0 row.now.state.0 []
+    ensures { result ≡ takes cert.now row.now.promise.now mem (leads_in (game_of game.now) row.now.pos.0 row.now.state.0 []
         (Some row.now.spot) Move.Refuse) }
 {
     takes(
         cert,
         row.near,
-        &row.promise,
+        row.promise,
         mem,
         game.next(row.pos, row.state, Move::Refuse),
     )
@@ -88,13 +89,13 @@ fn takes_refusal(game: &Game, cert: &WeaverCert, row: &LiveRow, mem: Option<MemI
 /// Whether going on after a refusal that a stop can answer is.
 fn takes_resumed(game: &Game, cert: &WeaverCert, row: &LiveRow, mem: Option<MemId>) -> bool
     requires row { IsRowOf (game_of game.now) row.now }
-    ensures { result ≡ takes_on cert.now row.now.promise mem
+    ensures { result ≡ takes_on cert.now row.now.promise.now mem
         (resumed_in (game_of game.now) row.now.pos.0 row.now.state.0 (Some row.now.spot)) }
 {
     takes_on(
         cert,
         row.near,
-        &row.promise,
+        row.promise,
         mem,
         game.resumed(row.pos, row.state),
     )
@@ -103,7 +104,7 @@ fn takes_resumed(game: &Game, cert: &WeaverCert, row: &LiveRow, mem: Option<MemI
 /// Whether each answer to what is asked is taken by its memory of a row, and going on after a refusal that a stop can answer too.
 fn takes_answers(game: &Game, cert: &WeaverCert, row: &LiveRow, found: &TryRow) -> bool
     requires row { IsRowOf (game_of game.now) row.now }
-    ensures { result ≡ takes_answers (game_of game.now) cert.now row.now.pos.0 row.now.state.0 row.now.promise
+    ensures { result ≡ takes_answers (game_of game.now) cert.now row.now.pos.0 row.now.state.0 row.now.promise.now
         (Some row.now.spot) (Some found.now) }
 {
     takes_grant(game, cert, row, found.granted)
@@ -114,7 +115,7 @@ fn takes_answers(game: &Game, cert: &WeaverCert, row: &LiveRow, found: &TryRow) 
 /// The fifth condition: where something is asked there is a row, whose memories take the answers.
 fn answers_on(game: &Game, cert: &WeaverCert, row: &LiveRow) -> bool
     requires row { IsRowOf (game_of game.now) row.now }
-    ensures { result ≡ answers_on (game_of game.now) cert.now row.now.pos.0 row.now.state.0 row.now.mem.0 row.now.promise
+    ensures { result ≡ answers_on (game_of game.now) cert.now row.now.pos.0 row.now.state.0 row.now.mem.0 row.now.promise.now
         (Some row.now.spot) }
 {
     match row.spot {
@@ -131,13 +132,13 @@ fn moves_by(game: &Game, cert: &WeaverCert, row: &LiveRow, by: Move) -> bool
     requires row { IsRowOf (game_of game.now) row.now }
     requires good { bad_in (game_of game.now) row.now.state.0 (Some row.now.spot) ≡ false }
     requires passing { is_passing row.now.spot ≡ true }
-    ensures { result ≡ moves_by (game_of game.now) cert.now row.now.pos.0 row.now.state.0 row.now.mem.0 row.now.promise row.now.spot by }
+    ensures { result ≡ moves_by (game_of game.now) cert.now row.now.pos.0 row.now.state.0 row.now.mem.0 row.now.promise.now row.now.spot by }
 {
-    let mem = memory_after(cert, row.mem, row.spot, by);
+    let mem = memory_after(cert, row.ways, row.mem, row.spot, by);
     takes(
         cert,
         row.near,
-        &row.promise,
+        row.promise,
         mem,
         game.next(row.pos, row.state, by),
     )
@@ -149,7 +150,7 @@ fn moves_by(game: &Game, cert: &WeaverCert, row: &LiveRow, by: Move) -> bool
 fn moves_on(game: &Game, cert: &WeaverCert, row: &LiveRow) -> bool
     requires row { IsRowOf (game_of game.now) row.now }
     requires good { bad_in (game_of game.now) row.now.state.0 (Some row.now.spot) ≡ false }
-    ensures { result ≡ moves_on (game_of game.now) cert.now row.now.pos.0 row.now.state.0 row.now.mem.0 row.now.promise
+    ensures { result ≡ moves_on (game_of game.now) cert.now row.now.pos.0 row.now.state.0 row.now.mem.0 row.now.promise.now
         (Some row.now.spot) }
 {
     match row.spot {
@@ -167,49 +168,14 @@ fn moves_on(game: &Game, cert: &WeaverCert, row: &LiveRow) -> bool
     }
 }
 
-/// The ninth condition: at the exit of a function other than `main` the state is promised.
-fn keeps_promise(game: &Game, row: &LiveRow) -> bool
-    ensures { result ≡ keeps_promise (game_of game.now) row.now.state.0 row.now.promise (Some row.now.spot) }
+/// Whether a state in which a function ends is promised, if that isn't `main`.
+fn is_kept(game: &Game, function: u32, state: StateId, promise: &StateSet) -> bool
+    ensures { result ≡ (nat_eq function (game_of game.now).main || has promise.now state.0) }
 {
-    match row.spot {
-        Spot::Exit(function) => function == u32::from(game.main())
-            || is_promised(&row.promise, row.state),
-        _ => true,
-    }
+    function == u32::from(game.main()) || is_promised(promise, state)
 }
 
-/// The number of the first condition from the third on that fails of a row.
-fn condition_of(game: &Game, cert: &WeaverCert, row: &LiveRow) -> Option<u8>
-    requires row { IsRowOf (game_of game.now) row.now }
-    requires mems { MeanStates (game_of game.now) cert.now }
-    ensures { result ≡ first_failing (live_conditions (game_of game.now) cert.now row.now.pos.0 row.now.state.0
-        row.now.mem.0 row.now.promise (slice_get (game_of game.now).spots row.now.pos.0)) }
-{
-    if game.bad(row.pos, row.state) {
-        return Some(3);
-    }
-    if !visits_on(game, cert, row) {
-        return Some(4);
-    }
-    if !answers_on(game, cert, row) {
-        return Some(5);
-    }
-    if !moves_on(game, cert, row) {
-        return Some(6);
-    }
-    if !calls_on(game, cert, row) {
-        return Some(7);
-    }
-    if !returns_on(game, cert, row) {
-        return Some(8);
-    }
-    if !keeps_promise(game, row) {
-        return Some(9);
-    }
-    None
-}
-
-/// The same at a step, where most rows stand: a step keeps the memory and what it means, so the row behind it alone is asked for.
+/// The condition that fails at a step, where most rows stand: a step keeps the memory and what it means, so the row behind it alone is asked for.
 fn step_fault(cert: &WeaverCert, near: usize, next: PosId, mem: MemId) -> Option<u8>
     ensures { result ≡ step_fault cert.now next.0 mem.0 }
 {
@@ -220,8 +186,89 @@ fn step_fault(cert: &WeaverCert, near: usize, next: PosId, mem: MemId) -> Option
     }
 }
 
+/// The same at a branch, which keeps them too: both rows behind it are asked for.
+fn branch_fault(cert: &WeaverCert, near: usize, left: PosId, right: PosId, mem: MemId) -> Option<u8>
+    ensures { result ≡ branch_fault cert.now left.0 right.0 mem.0 }
+{
+    if is_live_near(cert, near, left, mem) && is_live_near(cert, near, right, mem) {
+        None
+    } else {
+        Some(6)
+    }
+}
+
+/// The same at the end of a function, which has the ninth condition alone.
+fn exit_fault(game: &Game, function: u32, state: StateId, promise: &StateSet) -> Option<u8>
+    ensures { result ≡ exit_fault (game_of game.now) state.0 promise.now function }
+{
+    if is_kept(game, function, state, promise) {
+        None
+    } else {
+        Some(9)
+    }
+}
+
+/// The same at a visit, which has the fourth condition alone.
+fn visit_fault(game: &Game, cert: &WeaverCert, row: &LiveRow) -> Option<u8>
+    requires row { IsRowOf (game_of game.now) row.now }
+    ensures { result ≡ visit_fault cert.now row.now.pos.0 row.now.mem.0 (Some row.now.spot) }
+{
+    if visits_on(game, cert, row) {
+        None
+    } else {
+        Some(4)
+    }
+}
+
+/// The same where something is asked, which has the fifth condition alone.
+fn asked_fault(game: &Game, cert: &WeaverCert, row: &LiveRow) -> Option<u8>
+    requires row { IsRowOf (game_of game.now) row.now }
+    ensures { result ≡ asked_fault (game_of game.now) cert.now row.now.pos.0 row.now.state.0 row.now.mem.0 row.now.promise.now
+        (Some row.now.spot) }
+{
+    if answers_on(game, cert, row) {
+        None
+    } else {
+        Some(5)
+    }
+}
+
+/// The same where each move leads on, which has the third condition and the sixth.
+fn passing_fault(game: &Game, cert: &WeaverCert, row: &LiveRow) -> Option<u8>
+    requires row { IsRowOf (game_of game.now) row.now }
+    ensures { result ≡ passing_fault (game_of game.now) cert.now row.now.pos.0 row.now.state.0 row.now.mem.0 row.now.promise.now
+        (Some row.now.spot) }
+{
+    if game.bad(row.pos, row.state) {
+        return Some(3);
+    }
+    if !moves_on(game, cert, row) {
+        return Some(6);
+    }
+    None
+}
+
+/// The number of the first condition from the third on that fails of a row, of those that there are of what stands there.
+fn row_fault(game: &Game, cert: &WeaverCert, row: &LiveRow) -> Option<u8>
+    requires row { IsRowOf (game_of game.now) row.now }
+    requires mems { MeanStates (game_of game.now) cert.now }
+    ensures { result ≡ first_failing (live_conditions (game_of game.now) cert.now row.now.pos.0 row.now.state.0
+        row.now.mem.0 row.now.promise.now (slice_get (game_of game.now).spots row.now.pos.0)) }
+{
+    match row.spot {
+        Spot::Visit(_, _, _) => visit_fault(game, cert, row),
+        Spot::Asked(_, _, _) => asked_fault(game, cert, row),
+        Spot::Step(_) | Spot::Branch(_, _) => passing_fault(game, cert, row),
+        Spot::Label(_, _, _) => passing_fault(game, cert, row),
+        Spot::Open(_, _, _) | Spot::Close(_, _, _) => passing_fault(game, cert, row),
+        Spot::Call(_, _, _) => call_fault(game, cert, row),
+        Spot::SplitCall(_, _, _) => call_fault(game, cert, row),
+        Spot::Exit(function) => exit_fault(game, function, row.state, row.promise),
+    }
+}
+
 /// The number of the first condition from the third on that fails of a position and a memory, before this index of the list of live
-/// rows; None where the memory isn't there. At a call the ways go on to its rows.
+/// rows; None where the memory isn't there. At a call or a label the ways go on to its rows.
 pub fn failing_condition(
     game: &Game,
     cert: &WeaverCert,
@@ -239,6 +286,12 @@ pub fn failing_condition(
     if let Spot::Step(next) = spot {
         return step_fault(cert, near, PosId(next), mem);
     }
+    if let Spot::Branch(left, right) = spot {
+        return branch_fault(cert, near, PosId(left), PosId(right), mem);
+    }
+    if let Spot::Exit(function) = spot {
+        return exit_fault(game, function, *state, promise);
+    }
     *ways = ways_at(cert, *ways, spot, mem);
     let row = LiveRow {
         near,
@@ -247,7 +300,7 @@ pub fn failing_condition(
         spot,
         mem,
         state: *state,
-        promise: *promise,
+        promise,
     };
-    condition_of(game, cert, &row)
+    row_fault(game, cert, &row)
 }
