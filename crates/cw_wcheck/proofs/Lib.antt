@@ -1,4 +1,5 @@
 pub mod Alls
+pub mod Parts
 pub mod Faults
 pub mod Judged
 pub mod Lives

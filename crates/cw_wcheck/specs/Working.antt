@@ -1,5 +1,5 @@
 -- Working definitions: what the parts of the checker say of one row.
-use Rattle.std.specs.Prelude.{◌≡◌, ℕ, ◌<◌, ◌&&◌, ◌||◌, true, false, Bool, cond, Option, Some, None, nat_eq, slice_get, length}
+use Rattle.std.specs.Prelude.{◌≡◌, ℕ, ◌-◌, ◌<◌, List, ◌&&◌, ◌||◌, not, true, false, Bool, cond, Option, Some, None, nat_eq, nat_lt, slice_get, length}
 use Rattle.cw_core.specs.declared.ids.PosId.{PosId}
 use Rattle.cw_core.specs.declared.ids.MemId.{MemId}
 use Rattle.cw_core.specs.declared.ids.StateId.{StateId}
@@ -18,6 +18,15 @@ use Rattle.cw_wcheck.specs.declared.calls.CallAt.{CallAt}
 abbrev pub stands_there : ℕ → ℕ → Option (PosId × MemId) → Bool
 stands_there p m None = false
 stands_there p m (Some r) = nat_eq r.0.0 p && nat_eq r.1.0 m
+
+-- a row that is there has a position below this number
+abbrev pub is_below : ℕ → Option (PosId × MemId) → Bool
+is_below number None = false
+is_below number (Some r) = nat_lt r.0.0 number
+
+-- the row before an index has a position below this number, if there is one before it, and the row there has not
+abbrev pub parts_at : ℕ → List (PosId × MemId) → ℕ → Bool
+parts_at number rows i = (nat_eq i 0 || is_below number (slice_get rows (i - 1))) && not (is_below number (slice_get rows i))
 
 -- what stands in the list of labels is the row of this seam with this memory
 abbrev pub is_at : ℕ → ℕ → AtRow → Bool

@@ -9,10 +9,11 @@ ghost use Rattle.cw_game.specs.Conditions.{means_state, begins_by, promise_of, b
 ghost use Rattle.cw_certs.specs.Tables.{into_at, back_at};
 ghost use Rattle.cw_wcheck.specs.Working.{IsRowOf, MeanStates, call_fault, called_fault, called_of};
 
+use crate::ends::ends_near;
 use crate::memories::{is_live_near, leads, meaning};
 use crate::rows::LiveRow;
 use crate::ways::{back_near, into_near};
-use cw_certs::{IntoRow, WeaverCert, live_at};
+use cw_certs::{IntoRow, WeaverCert};
 use cw_core::{MemId, PosId, SeamId, StateId, StateSet};
 use cw_game::Spot;
 use cw_product::{Game, Turn};
@@ -160,7 +161,7 @@ fn all_return(game: &Game, cert: &WeaverCert, row: &LiveRow, call: CallAt, into:
 {
     match promise_of(cert, into) {
         Some(promise) => {
-            let ends = live_at(cert, exit_of(game, call.function));
+            let ends = ends_near(cert, row.near, exit_of(game, call.function));
             each_returns(game, cert, row, call, promise, ends)
         }
         None => true,

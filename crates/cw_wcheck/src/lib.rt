@@ -3,6 +3,7 @@
 
 mod calls;
 mod check;
+mod ends;
 mod fault;
 mod memories;
 mod ranges;
