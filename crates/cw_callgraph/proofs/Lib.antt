@@ -11,3 +11,4 @@ mod Parted
 mod Forbidden
 mod Spelled
 mod Seams
+mod Scoped

@@ -47,12 +47,15 @@ fn latest(source: &[u8], before: Option<Meaning>, known: &[Known], name: &[u8]) 
     means
 }
 
-/// What a name means in a function: the names known within it stand before those of file scope.
+/// What a name means in a function: the names known within it stand before those of file scope, which are looked through only where
+/// none of these is the name.
 fn name_means(scope: &Scope, name: &[u8]) -> Option<Meaning>
     ensures { result ≡ name_means scope.now.source.now scope.now.file.now scope.now.inner.now name.now }
 {
-    let outer = latest(scope.source, None, scope.file, name);
-    latest(scope.source, outer, scope.inner, name)
+    match latest(scope.source, None, scope.inner, name) {
+        Some(means) => Some(means),
+        None => latest(scope.source, None, scope.file, name),
+    }
 }
 
 /// What an expression of this operator and span means, where it is a name.
