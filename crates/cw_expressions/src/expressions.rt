@@ -606,7 +606,7 @@ fn arguments_at<'t>(
         });
     }
     let first = read(alloc, depth, Rule::Expression, tokens)?;
-    let list = begun(alloc, first.tree)?;
+    let list = begun(alloc, first.tree, begins_with(first.rest, Terminal::Comma))?;
     let first = FoundList {
         list,
         depth: first.depth,

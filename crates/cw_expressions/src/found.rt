@@ -53,12 +53,13 @@ fn pair(alloc: Global, first: Expr, second: Expr) -> Result<Vec<Expr>, AllocErro
     Ok(list)
 }
 
-/// The list of this tree, with room for the arguments that most calls have.
+/// The list of this tree. Where more come, there is room for as many as most calls have, and else none to spare.
 #[inline(always)]
-pub(crate) fn begun(alloc: Global, tree: Expr) -> Result<Vec<Expr>, AllocError>
+pub(crate) fn begun(alloc: Global, tree: Expr, more: bool) -> Result<Vec<Expr>, AllocError>
     ensures items { IfOk result (λ list. list.items ≡ tree ∷ []) }
 {
-    let mut list = Vec::with_capacity(alloc, 4)?;
+    let room = if more { 4 } else { 1 };
+    let mut list = Vec::with_capacity(alloc, room)?;
     list.push_reserved(tree);
     Ok(list)
 }
