@@ -34,6 +34,7 @@ use cw_solve::{SolveFault, Solved, TableFault};
 use cw_syntax::checked::Checked;
 use cw_wcheck::check_weaver;
 use std::alloc::Global;
+use std::mem::forget;
 
 /// Has the checker of tables go through one that meets the conditions: it accepts that.
 fn confirm_table(game: &Game, table: &WeaverCert)
@@ -145,7 +146,12 @@ pub fn reckon(alloc: Global, checked: &Checked, game: &Game) -> Result<Count, St
         (AfterGame Nothing (game_of game.now)) result }
 {
     match solve(alloc, game) {
-        Ok(solution) => counted(alloc, checked, game, &solution),
+        Ok(solution) => {
+            let count = counted(alloc, checked, game, &solution);
+            // The end of the process gives its blocks back at once.
+            forget(solution);
+            count
+        }
         Err(SolveFault::TooManyCells(_)) => Err(Stop::Over(Quantity::Cells)),
         Err(SolveFault::NoMemory) => Err(Stop::NoMemory),
     }

@@ -32,6 +32,7 @@ use cw_product::Game;
 use cw_solve::{SolveFault, Solved, TableFault};
 use cw_syntax::checked::Checked;
 use std::alloc::Global;
+use std::mem::forget;
 
 /// The height of the pair at which the program begins, all exit states of `main` promised.
 pub(crate) fn start_height(game: &Game, solved: &Solved) -> Option<u32>
@@ -168,7 +169,12 @@ pub fn judge<O: Sink>(
     ensures puts { StartsVerdict O.taken O.faults O.refused out.old out.new result }
 {
     match solve(alloc, game) {
-        Ok(solution) => told(alloc, checked, game, &solution, out),
+        Ok(solution) => {
+            let verdict = told(alloc, checked, game, &solution, out);
+            // The end of the process gives its blocks back at once.
+            forget(solution);
+            verdict
+        }
         Err(SolveFault::TooManyCells(_)) => Err(Stop::Over(Quantity::Cells)),
         Err(SolveFault::NoMemory) => Err(Stop::NoMemory),
     }

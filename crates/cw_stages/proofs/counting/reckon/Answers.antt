@@ -18,5 +18,5 @@ returns-in-Ok c =
     record {
       due =
           wider_count whole source (λ numbers. AfterCells (IsCounted numbers whole source file) (game_of game)) (λ numbers. AfterGame (IsCounted numbers whole source file) (game_of game))
-          (AfterCells Nothing (game_of game)) (AfterGame Nothing (game_of game)) c.counted.result (λ numbers due h. inr (few, h)) (λ due h. inr (few, h)) c.counted.ensures.due;
+          (AfterCells Nothing (game_of game)) (AfterGame Nothing (game_of game)) c.counted-count.result (λ numbers due h. inr (few, h)) (λ due h. inr (few, h)) c.counted-count.ensures.due;
     }

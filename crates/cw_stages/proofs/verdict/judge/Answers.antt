@@ -16,4 +16,4 @@ returns-in-Ok-clause-due g c =
     let whole = policy_of game.states.policy in
     let few : HasFewCells (game_of game) = (c.in-Ok.solution.contexts, c.in-Ok.ensures.contexts, c.in-Ok.ensures.few) in
     wider whole source (λ numbers. AfterCells (IsCounted numbers whole source file) (game_of game)) (λ numbers. AfterGame (IsCounted numbers whole source file) (game_of game))
-    (AfterCells Nothing (game_of game)) (AfterGame Nothing (game_of game)) c.told.result (λ numbers due h. inr (few, h)) (λ due h. inr (few, h)) c.told.ensures.due
+    (AfterCells Nothing (game_of game)) (AfterGame Nothing (game_of game)) c.told-verdict.result (λ numbers due h. inr (few, h)) (λ due h. inr (few, h)) c.told-verdict.ensures.due
