@@ -20,3 +20,4 @@ pub mod CellNumbers
 pub mod Queueing
 pub mod Linking
 pub mod Spreading
+mod Lows

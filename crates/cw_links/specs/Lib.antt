@@ -13,3 +13,4 @@ pub mod Cells
 pub mod Keys
 pub mod Callers
 pub mod Stores
+pub mod Low

@@ -5,7 +5,7 @@ ghost use Rattle.cw_links.specs.Lists.{list_at};
 ghost use Rattle.cw_links.specs.Nearest.{Advances, AreNear, IsApart, IsFirst, IsSetAside, all_stacks};
 ghost use Rattle.cw_links.specs.Queues.{AreAlike, AreNone, HasLower, Puts, Takes};
 
-use crate::Queue;
+use crate::later::Later;
 use cw_core::NoMemory;
 use std::alloc::Global;
 use std::marker::Model;
@@ -36,13 +36,13 @@ pub(crate) enum Apart {
 /// Elements that wait under keys, of which none is 0. An element may wait more than once.
 ///
 /// Contracts see the list of the stacks, one for each key from 0 on, as of a `Queue`. Where what is put mostly waits under the key
-/// that comes next, as that of the next height, it stands in one of two vectors, four bytes each, and no list is touched; a `Queue`
+/// that comes next, as that of the next height, it stands in one of two vectors, four bytes each, and no list is touched; a `Later`
 /// has the rest. Under a key lower than that of what waits now something begins anew, as the small heights of a late context: then
 /// the queue takes over what stands in the vectors, and these serve the lower keys.
 #[derive(Drop)]
 pub struct NearQueue {
     near: Near,
-    later: Queue,
+    later: Later,
 }
 
 impl Model for NearQueue {
@@ -80,7 +80,7 @@ fn part_of(near: &Near, key: u32) -> Apart
 }
 
 /// Has elements wait later, under a key, in their order. The one error is want of memory, with the number of those that wait then.
-fn put_all(elements: &[u32], key: u32, later: &mut Queue) -> Result<(), usize>
+fn put_all(elements: &[u32], key: u32, later: &mut Later) -> Result<(), usize>
     requires { 0 < length elements.now → 0 < key }
     ensures all { OnOk result (list_at later.new key ≡ reverse elements.now ++ list_at later.old key) }
     ensures within { IfErr result (λ many. many ≤ length elements.now) }
@@ -98,7 +98,7 @@ fn put_all(elements: &[u32], key: u32, later: &mut Queue) -> Result<(), usize>
 
 /// Has what stands in a vector wait later, under a key, in its order. The one error is want of memory: what doesn't wait then is
 /// left in the vector.
-fn move_aside(elements: &mut Vec<u32>, key: u32, later: &mut Queue) -> Result<(), NoMemory>
+fn move_aside(elements: &mut Vec<u32>, key: u32, later: &mut Later) -> Result<(), NoMemory>
     requires { 0 < length elements.old.items → 0 < key }
     ensures here { reverse elements.new.items ++ list_at later.new key ≡ reverse elements.old.items ++ list_at later.old key }
     ensures others { (k : ℕ) → k ≢ key → list_at later.new k ≡ list_at later.old k }
@@ -121,7 +121,7 @@ fn move_aside(elements: &mut Vec<u32>, key: u32, later: &mut Queue) -> Result<()
 
 /// Has what waits now and soon wait later. The one error is want of memory; as before it the same waits under each key.
 #[inline(never)]
-fn set_aside(near: &mut Near, later: &mut Queue) -> Result<(), NoMemory>
+fn set_aside(near: &mut Near, later: &mut Later) -> Result<(), NoMemory>
     requires { AreNear near.old later.old }
     ensures kept { AreNear near.new later.new }
     ensures same { AreAlike (all_stacks near.old later.old) (all_stacks near.new later.new) }
@@ -152,7 +152,7 @@ fn advance(near: &mut Near)
 
 /// Whether what waits now has the least key. Then the floor is that key at least.
 #[inline(always)]
-fn is_first(near: &mut Near, later: &mut Queue) -> bool
+fn is_first(near: &mut Near, later: &mut Later) -> bool
     requires { AreNear near.old later.old }
     ensures first { IsFirst near.old near.new later.old result }
     ensures later { later.new ≡ later.old }
@@ -172,7 +172,7 @@ fn is_first(near: &mut Near, later: &mut Queue) -> bool
 
 /// Has an element wait under a key.
 #[inline(always)]
-fn put_in(near: &mut Near, later: &mut Queue, element: u32, key: u32) -> Result<(), NoMemory>
+fn put_in(near: &mut Near, later: &mut Later, element: u32, key: u32) -> Result<(), NoMemory>
     requires some { 0 < key }
     requires kept { AreNear near.old later.old }
     ensures put { OnOk result (Puts (all_stacks near.old later.old) (all_stacks near.new later.new) element key) }
@@ -210,7 +210,7 @@ fn put_in(near: &mut Near, later: &mut Queue, element: u32, key: u32) -> Result<
 /// Takes an element that waits now, with its key, the least one. Two numbers of 32 bits would be packed into one and taken apart again
 /// for each element that is taken, so the element is wider than it has to be.
 #[inline(always)]
-fn take_now(near: &mut Near, later: &Queue) -> Option<(usize, u32)>
+fn take_now(near: &mut Near, later: &Later) -> Option<(usize, u32)>
     requires kept { AreNear near.old later.now }
     requires some { 0 < length near.old.present.items }
     requires least { near.old.present_key ≤ near.old.floor }
@@ -227,7 +227,7 @@ fn take_now(near: &mut Near, later: &Queue) -> Option<(usize, u32)>
 }
 
 /// Takes an element that waits later, with its key, where what waits now has no lower one.
-fn take_later(near: &mut Near, later: &mut Queue) -> Option<(usize, u32)>
+fn take_later(near: &mut Near, later: &mut Later) -> Option<(usize, u32)>
     requires kept { AreNear near.old later.old }
     requires alone { length near.old.present.items ≡ 0 → length near.old.soon.items ≡ 0 }
     requires lower { (length near.old.present.items ≡ 0) ⊎ HasLower later.old near.old.present_key }
@@ -249,7 +249,7 @@ fn take_later(near: &mut Near, later: &mut Queue) -> Option<(usize, u32)>
 
 /// Takes an element from under the least key, with that key.
 #[inline(always)]
-fn take_in(near: &mut Near, later: &mut Queue) -> Option<(usize, u32)>
+fn take_in(near: &mut Near, later: &mut Later) -> Option<(usize, u32)>
     requires { AreNear near.old later.old }
     ensures kept { AreNear near.new later.new }
     ensures taken { IfSome result (λ taken. Takes (all_stacks near.old later.old) (all_stacks near.new later.new) taken.0 taken.1) }
@@ -280,7 +280,7 @@ impl NearQueue {
                 soon_key: 0,
                 floor: 0,
             },
-            later: Queue::make(alloc)?,
+            later: Later::make(alloc)?,
         })
     }
 
