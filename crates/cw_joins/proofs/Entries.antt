@@ -1,5 +1,5 @@
 -- What stands at an index of a list, and what a filter finds.
-use Rattle.std.proofs.Common.{◌≡◌, ℕ, zero, suc, ◌+◌, ◌<◌, List, [], ◌∷◌, ◌++◌, Option, Some, filter_map, take, get_or, length, sym, ap, ◌∙◌, arith}
+use Rattle.std.proofs.Common.{◌≡◌, ℕ, zero, suc, ◌+◌, ◌<◌, List, [], ◌∷◌, ◌++◌, Option, Some, filter_map, take, get_or, length, sym, ap, ◌∙◌, arith, append_assoc}
 use Rattle.std.specs.Prelude.{slice_get}
 use Rattle.std.specs.List.{Contains, cons_option}
 use Rattle.std.proofs.lemmas.List.{take_more}
@@ -22,11 +22,21 @@ named_more keys more (suc (suc index)) k e = get_front keys more index k e
 pub named_last : {K : Type 0} (keys : List K) (k : K) → named (keys ++ k ∷ []) (length keys + 2) ≡ Some k
 named_last keys k = let n : length keys + 2 ≡ suc (suc (length keys)) = omega arith in ap (named (keys ++ k ∷ [])) n ∙ get_last keys k
 
--- one item more of a filtered list
-pub filtered_more : {A B : Type 0} (f : A → Option B) (xs : List A) (i : ℕ) (d : A) (old new : List B) → i < length xs → old ≡ filter_map f (take i xs)
-    → new ≡ old ++ cons_option (f (get_or xs i d)) [] → new ≡ filter_map f (take (i + 1) xs)
-filtered_more f xs i d old new lt h e =
-    e ∙ ap (λ l. l ++ cons_option (f (get_or xs i d)) []) h ∙ sym (ap (filter_map f) (take_more xs i d lt) ∙ filter_map-append f (take i xs) (get_or xs i d ∷ []))
+module _ {A B : Type 0} (f : A → Option B) where
+  -- one item more of a filtered list
+  pub filtered_next : (front : List B) (xs : List A) (x : A) (old new : List B) → old ≡ front ++ filter_map f xs → new ≡ old ++ cons_option (f x) [] → new ≡ front ++ filter_map f (xs ++ x ∷ [])
+  filtered_next front xs x old new h e =
+      e ∙ ap (λ l. l ++ cons_option (f x) []) h ∙ append_assoc front (filter_map f xs) (cons_option (f x) []) ∙ sym (ap (λ l. front ++ l) (filter_map-append f xs (x ∷ [])))
+
+  pub filtered_more : (front : List B) (xs : List A) (i : ℕ) (d : A) (old new : List B) → i < length xs → old ≡ front ++ filter_map f (take i xs)
+      → new ≡ old ++ cons_option (f (get_or xs i d)) [] → new ≡ front ++ filter_map f (take (i + 1) xs)
+  filtered_more front xs i d old new lt h e = filtered_next front (take i xs) (get_or xs i d) old new h e ∙ sym (ap (λ l. front ++ filter_map f l) (take_more xs i d lt))
+
+  -- four items more
+  pub filtered_four : (front : List B) (a b c d : A) (k l m n : List B) → k ≡ front ++ cons_option (f a) [] → l ≡ k ++ cons_option (f b) [] → m ≡ l ++ cons_option (f c) []
+      → n ≡ m ++ cons_option (f d) [] → n ≡ front ++ filter_map f (a ∷ b ∷ c ∷ d ∷ [])
+  filtered_four front a b c d k l m n e g h i =
+      filtered_next front (a ∷ b ∷ c ∷ []) d m n (filtered_next front (a ∷ b ∷ []) c l m (filtered_next front (a ∷ []) b k l e g) h) i
 
 -- what a filter finds
 pub filtered_from : {A B : Type 0} (f : A → Option B) (xs : List A) (y : B) → Contains (filter_map f xs) y → (x : A) × (f x ≡ Some y)

@@ -189,14 +189,83 @@ fn put_some<K: Copy + Drop>(key: Option<K>, keys: &mut Vec<K>) -> Result<(), All
     Ok(())
 }
 
+/// Appends the key that a hint names.
+#[inline(always)]
+fn put_hint<K: Copy + Drop>(there: &[K], hint: usize, keys: &mut Vec<K>) -> Result<(), AllocError>
+    ensures { OnOk result (keys.new.items ≡ keys.old.items ++ cons_option (named there.now hint) []) }
+{
+    put_some(key_at(there, hint), keys)
+}
+
+/// Appends the key that a hint names, if it names one. The call that reads the key stands in a function of its own, so nothing is cleared for it
+/// where there is none.
+#[inline(always)]
+fn put_named<K: Copy + Drop>(there: &[K], hint: usize, keys: &mut Vec<K>) -> Result<(), AllocError>
+    ensures { OnOk result (keys.new.items ≡ keys.old.items ++ cons_option (named there.now hint) []) }
+{
+    if hint <= NONE {
+        Ok(())
+    } else {
+        put_hint(there, hint, keys)
+    }
+}
+
+/// Appends the keys that four hints name.
+#[inline(always)]
+fn put_four<K: Copy + Drop>(
+    there: &[K],
+    first: usize,
+    second: usize,
+    third: usize,
+    fourth: usize,
+    keys: &mut Vec<K>,
+) -> Result<(), AllocError>
+    ensures put { OnOk result (keys.new.items ≡ keys.old.items ++ filter_map (named there.now) (first ∷ second ∷ third ∷ fourth ∷ [])) }
+{
+    put_named(there, first, keys)?;
+    put_named(there, second, keys)?;
+    put_named(there, third, keys)?;
+    put_named(there, fourth, keys)?;
+    Ok(())
+}
+
+/// Appends the keys that hints name, one after the other.
+fn put_each<K: Copy + Drop>(
+    there: &[K],
+    hints: &[usize],
+    keys: &mut Vec<K>,
+) -> Result<(), AllocError>
+    ensures put { OnOk result (keys.new.items ≡ keys.old.items ++ filter_map (named there.now) hints.now) }
+{
+    for hint in hints {
+        put_named(there, *hint, keys)?;
+    }
+    Ok(())
+}
+
+/// Appends the keys that hints name. Most hints name none, so four are read at a time.
+fn put_all<K: Copy + Drop>(
+    there: &[K],
+    hints: &[usize],
+    keys: &mut Vec<K>,
+) -> Result<(), AllocError>
+    ensures put { OnOk result (keys.new.items ≡ keys.old.items ++ filter_map (named there.now) hints.now) }
+{
+    let mut rest = hints;
+    'fours: while let [first, second, third, fourth, behind @ ..] = rest {
+        put_four(there, *first, *second, *third, *fourth, keys)?;
+        rest = behind;
+    }
+    put_each(there, rest, keys)?;
+    Ok(())
+}
+
 /// The keys that hints name, by index.
 fn hinted<K: Ord + Copy + Drop>(alloc: Global, seen: &Seen<K>) -> Result<Vec<K>, AllocError>
     ensures { IfOk result (λ v. v.items ≡ filter_map (named seen.now.keys.items) seen.now.hints.items) }
 {
     let mut keys = Vec::with_capacity(alloc, seen.keys.len())?;
-    for hint in &seen.hints {
-        put_some(key_at(&seen.keys, *hint), &mut keys)?;
-    }
+    put_all(&seen.keys, &seen.hints, &mut keys)?;
     Ok(keys)
 }
 
