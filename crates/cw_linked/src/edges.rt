@@ -23,7 +23,7 @@ use cw_certs::Move;
 use cw_core::limits::POSITIONS_TIMES_STATES;
 use cw_core::{NoMemory, PosId, StateId};
 use cw_game::Spot;
-use cw_links::{Chains, RankedFlags, Rows};
+use cw_links::{Chains, RankedFlags, Rows, Trails};
 use cw_product::{Game, Turn};
 use cw_rights::Primitive;
 use cw_rights::policy::is_refusable;
@@ -150,7 +150,7 @@ fn second_kept(pos: PosId, spot: Spot) -> Option<u32>
 #[inline(always)]
 fn add_source(
     game: &Game,
-    sources: &mut Chains<Source>,
+    sources: &mut Trails<Source>,
     source: Source,
     to: Option<u32>,
 ) -> Result<(), NoMemory>
@@ -168,7 +168,7 @@ fn add_source(
 }
 
 /// Puts a position that keeps the state into the lists of those to which its moves lead.
-fn add_sources(game: &Game, sources: &mut Chains<Source>, pos: PosId) -> Result<(), NoMemory>
+fn add_sources(game: &Game, sources: &mut Trails<Source>, pos: PosId) -> Result<(), NoMemory>
     requires routed { AreRouted (game_of game.now) (length game.now.graph.parts.items) }
     requires position { IsPosition (game_of game.now) pos.0 }
     requires before { AreSourcesTo (game_of game.now) sources.old pos.0 }
@@ -188,7 +188,7 @@ fn make_sources(alloc: Global, game: &Game) -> Result<Rows<Source>, NoMemory>
     requires routed { AreRouted (game_of game.now) (length game.now.graph.parts.items) }
     ensures { IfOk result (AreSources (game_of game.now)) }
 {
-    let mut sources = Chains::make(alloc, game.positions())?;
+    let mut sources = Trails::make(alloc, game.positions())?;
     sources.reserve(game.positions())?;
     for p in 0..game.positions() {
         add_sources(game, &mut sources, PosId(p))?;
@@ -565,7 +565,7 @@ fn make_changes(alloc: Global, game: &Game) -> Result<Changes, NoMemory>
 }
 
 /// Puts a position into the list of the one to which it returns, if a call stands there.
-fn add_return(game: &Game, returns: &mut Chains<PosId>, pos: PosId) -> Result<(), NoMemory>
+fn add_return(game: &Game, returns: &mut Trails<PosId>, pos: PosId) -> Result<(), NoMemory>
     requires position { IsPosition (game_of game.now) pos.0 }
     requires few { length (game_of game.now).spots ≤ POSITIONS_TIMES_STATES }
     requires before { AreReturnsTo (game_of game.now) returns.old pos.0 }
@@ -587,7 +587,7 @@ fn make_returns(alloc: Global, game: &Game) -> Result<Rows<PosId>, NoMemory>
     requires few { length (game_of game.now).spots ≤ POSITIONS_TIMES_STATES }
     ensures { IfOk result (AreReturns (game_of game.now)) }
 {
-    let mut returns = Chains::make(alloc, game.positions())?;
+    let mut returns = Trails::make(alloc, game.positions())?;
     for p in 0..game.positions() {
         add_return(game, &mut returns, PosId(p))?;
     }

@@ -21,3 +21,4 @@ pub mod Queueing
 pub mod Linking
 pub mod Spreading
 mod Lows
+pub mod Trailing

@@ -14,3 +14,4 @@ pub mod Keys
 pub mod Callers
 pub mod Stores
 pub mod Low
+pub mod Trails

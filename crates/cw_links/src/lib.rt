@@ -18,6 +18,7 @@ mod queue;
 mod ranked_flags;
 mod rows;
 mod store;
+mod trails;
 
 pub use buckets::Buckets;
 pub use chains::Chains;
@@ -28,3 +29,4 @@ pub use queue::Queue;
 pub use ranked_flags::RankedFlags;
 pub use rows::Rows;
 pub use store::{Link, Store};
+pub use trails::Trails;

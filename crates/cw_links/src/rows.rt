@@ -2,7 +2,7 @@
 ghost use Rattle.std.specs.Prelude.{◌≡◌, ◌+◌, ◌<◌, length, IfOk, OnOk};
 ghost use Rattle.cw_links.specs.Flat.{row_of, row_at, AreFlat, AreRowsOf, AreRowsTo, PushesList};
 
-use crate::Chains;
+use crate::Trails;
 use cw_core::NoMemory;
 use std::alloc::Global;
 use std::marker::Model;
@@ -33,16 +33,16 @@ impl<T: Copy> Model for Rows<T> {
 }
 
 impl<T: Copy> Rows<T> {
-    /// The lists of chains as rows, in their order, each with the values of its cells in theirs. The one error is want of memory, which
+    /// The lists of trails as rows, in their order, each with the values of its cells in theirs. The one error is want of memory, which
     /// comes too where there are more values than a number of 32 bits counts.
-    pub fn of(alloc: Global, chains: &Chains<T>) -> Result<Rows<T>, NoMemory>
-        ensures { IfOk result (AreRowsOf chains.now) }
+    pub fn of(alloc: Global, trails: &Trails<T>) -> Result<Rows<T>, NoMemory>
+        ensures { IfOk result (AreRowsOf trails.now) }
     {
-        let mut values = Vec::with_capacity(alloc, chains.cells())?;
-        let mut firsts = Vec::with_capacity(alloc, chains.lists() + 1)?;
+        let mut values = Vec::with_capacity(alloc, trails.cells())?;
+        let mut firsts = Vec::with_capacity(alloc, trails.lists() + 1)?;
         firsts.push(0)?;
-        for list in 0..chains.lists() {
-            push_row(chains, list as u32, &mut values, &mut firsts)?;
+        for list in 0..trails.lists() {
+            push_row(trails, list as u32, &mut values, &mut firsts)?;
         }
         Ok(Rows { values, firsts })
     }
@@ -70,30 +70,30 @@ fn row_in<'a, T: Copy>(values: &'a [T], firsts: &[u32], number: u32) -> &'a [T]
 }
 
 /// Puts the values of a list's cells behind the others.
-fn push_list<T: Copy>(chains: &Chains<T>, list: u32, values: &mut Vec<T>) -> Result<(), NoMemory>
-    requires { list < length chains.now.lists }
-    ensures { OnOk result (PushesList chains.now list values.old.items values.new.items) }
+fn push_list<T: Copy>(trails: &Trails<T>, list: u32, values: &mut Vec<T>) -> Result<(), NoMemory>
+    requires { list < length trails.now.lists }
+    ensures { OnOk result (PushesList trails.now list values.old.items values.new.items) }
 {
-    let mut next = chains.first(list);
+    let mut next = trails.first(list);
     'walk: while let Some(cell) = next {
-        values.push(*chains.get(cell))?;
-        next = chains.next(cell);
+        values.push(*trails.get(cell))?;
+        next = trails.next(cell);
     }
     Ok(())
 }
 
 /// Puts a list behind those before it, as a row.
 fn push_row<T: Copy>(
-    chains: &Chains<T>,
+    trails: &Trails<T>,
     list: u32,
     values: &mut Vec<T>,
     firsts: &mut Vec<u32>,
 ) -> Result<(), NoMemory>
-    requires list { list < length chains.now.lists }
-    requires before { AreRowsTo chains.now values.old.items firsts.old.items list }
-    ensures { OnOk result (AreRowsTo chains.now values.new.items firsts.new.items (list + 1)) }
+    requires list { list < length trails.now.lists }
+    requires before { AreRowsTo trails.now values.old.items firsts.old.items list }
+    ensures { OnOk result (AreRowsTo trails.now values.new.items firsts.new.items (list + 1)) }
 {
-    push_list(chains, list, values)?;
+    push_list(trails, list, values)?;
     let end = values.len();
     if end > u32::MAX as usize {
         return Err(NoMemory);

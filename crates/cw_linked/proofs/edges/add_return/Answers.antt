@@ -21,6 +21,5 @@ returns-in_ok-push_front-in-Call c =
     let back = back_within g (length c.args.game.now.graph.parts.items) c.args.pos.0 t.0 c.fact_is_closed.ensures.leads t.1 in
     let old = c.args.returns.now in
     a_return_more g old c.push_front.new.self c.args.pos.0 t.0 c.requires.before t.1 c.requires.position back
-    (c.in_ok-push_front-in-Call.ensures.lists ∙ ap (λ (y : ℕ). with_front old.lists c.in-Call.back.0 y) c.in_ok-push_front-in-Call.ensures.number
-    ∙ ap (λ (y : ℕ). with_front old.lists y (length old.values)) (sym t.4))
+    (c.in_ok-push_front-in-Call.ensures.lists ∙ ap (λ (y : ℕ). with_front old.lists y (length old.values)) (sym t.4))
     c.in_ok-push_front-in-Call.ensures.values

@@ -1,6 +1,5 @@
-use Rattle.std.proofs.Common.{◌<◌, ℕ, Option, length, ap, ◌∙◌, subst}
+use Rattle.std.proofs.Common.{◌<◌, ℕ, Option, length, subst}
 use Rattle.std.specs.Prelude.{IfSome}
-use Rattle.cw_links.specs.Lists.{with_front}
 use Rattle.cw_product.specs.Product.{game_of}
 use Rattle.cw_linked.proofs.Sourcing.{a_source_more, no_source_more}
 use Rattle.cw_linked.proofs.edges.add_source.Goals as goal
@@ -14,7 +13,7 @@ returns-in_ok-push_front c =
     let to = c.in-Some.to in
     a_source_more (game_of c.args.game.now) old c.push_front.new.self c.args.source c.args.to to c.in-Some.is
     (subst (λ (o : Option ℕ). IfSome o (λ r. r < length old.lists)) c.in-Some.is c.requires.within)
-    (c.in_ok-push_front.ensures.lists ∙ ap (λ (y : ℕ). with_front old.lists to y) c.in_ok-push_front.ensures.number)
+    c.in_ok-push_front.ensures.lists
     c.in_ok-push_front.ensures.values (c.requires.step to c.in-Some.is) c.requires.visit
 
 pub returns-in_default : goal.returns-in_default
